@@ -1,0 +1,14 @@
+-- A set of numbers as a machine word of any width: bit n is set exactly when n is a member. Assumes nothing.
+use mathlib.Core.Bool.{cond}
+use Prim.Native.Nat.{ℕ, zero, suc, _+_, _/_, _%_, _^_}
+use lib.Dec.{eqb}
+use Rattle.sets.specs.Numbers.{Numbers}
+
+-- The set of a word's bits.
+unfoldable pub bits : ℕ → Numbers
+bits w n = eqb (w / 2 ^ n % 2) 1
+
+-- The word that has, below the width, the bits of a set.
+unfoldable pub word : ℕ → Numbers → ℕ
+word zero a = 0
+word (suc n) a = cond (a n) (2 ^ n) 0 + word n a
