@@ -9,12 +9,12 @@ use native.Mathlib.Numerals.{one-add}
 use native.Mathlib.Omega.{arith}
 use lib.Dec.{T, eqb, ltb, lt→ltb, leb·zero, leb·suc-zero, leb·suc-suc, eqb·zero-suc, eqb·suc-zero, eqb·suc-suc, eqb→eq}
 use lib.Arith.{lt-one}
-use lib.Pow.{pow-mono, pow-lt, shr-shr, shl-exact}
+use lib.Pow.{pow-mono, pow-lt, pow-pos, shr-shr, shl-exact}
 use lib.Bits.{bitAnd, bitOr, bitXor, and-shr, or-shr, xor-shr, and-mod, or-mod, xor-mod, and-mask, or-shifted, shifted-half, shifted-even}
 use lib.Count.{ones, ones-step, trailingZeros, under}
 use Rattle.sets.specs.Numbers.{Numbers, empty, single, union, without, only-if, count, lowest}
 use Rattle.sets.specs.Words.{bits, word}
-use Rattle.sets.proofs.Members.{and-in, and-right, same, is-true, is-false, of-true, ext}
+use Rattle.sets.proofs.Members.{and-in, and-right, eqb-not, same, is-true, is-false, of-true, ext}
 use Rattle.sets.proofs.Counts.{below-suc, count-first, count-cong, lowest-some, lowest-none}
 
 -- The lowest bit, and the others shifted.
@@ -263,8 +263,9 @@ at-eq a n k = go (eqb n k) refl
     go true e = ap (λ (x : ℕ). a x && true) (eqb→eq n k (of-true e))
     go false e = and-false (a n) ∙ sym (and-false (a k))
 
-pub bits-test : (x k : ℕ) → bitAnd (x / 2 ^ k) 1 ≡ cond (bits x k) 1 0
-bits-test x k = and-mask (x / 2 ^ k) 1 ∙ bits-digit x k
+pub bits-test : (x k : ℕ) → eqb (bitAnd (x / 2 ^ k) 1) 1 ≡ bits x k
+unfolding bits
+bits-test x k = ap (λ (z : ℕ). eqb z 1) (and-mask (x / 2 ^ k) 1)
 
 pub bits-mask : (x k : ℕ) → bitAnd x (2 ^ k) ≡ cond (bits x k) (2 ^ k) 0
 bits-mask x k = bits-ext go
@@ -273,6 +274,13 @@ bits-mask x k = bits-ext go
     go n =
         bits-and x (2 ^ k) n ∙ ap (λ (b : Bool). bits x n && b) (bits-power k n) ∙ at-eq (bits x) n k
         ∙ sym (bits-cond (bits x k) (2 ^ k) n ∙ ap (λ (b : Bool). bits x k && b) (bits-power k n))
+
+pub bits-mask-test : (x k : ℕ) → eqb (bitAnd x (2 ^ k)) 0 ≡ not (bits x k)
+bits-mask-test x k = ap (λ (z : ℕ). eqb z 0) (bits-mask x k) ∙ go (bits x k)
+  where
+    go : (b : Bool) → eqb (cond b (2 ^ k) 0) 0 ≡ not b
+    go true = eqb-not (2 ^ k) 0 (λ e. omega (arith, pow-pos k))
+    go false = refl
 
 -- A word is a set's: its bits are the members.
 pub record Is (w : ℕ) (a : Numbers) : Type 0 where
@@ -305,8 +313,8 @@ is-without k i = is-less i (is-single k)
 pub is-only-if : {x : ℕ} {a : Numbers} (b : Bool) → Is x a → Is (cond b x 0) (only-if b a)
 is-only-if {x} b i = record { bit = λ n. bits-cond b x n ∙ ap (λ (p : Bool). b && p) (i .bit n) }
 
-pub is-shift : {s w : ℕ} → s < w → Is ((1 * 2 ^ s) % 2 ^ w) (single s)
-is-shift {s} {w} h = subst⁻¹ (λ (x : ℕ). Is x (single s)) (shift-one s w h) (is-single s)
+pub is-shift : (w : ℕ) {s : ℕ} → s < w → Is ((1 * 2 ^ s) % 2 ^ w) (single s)
+is-shift w {s} h = subst⁻¹ (λ (x : ℕ). Is x (single s)) (shift-one s w h) (is-single s)
 
 pub is-not : (w : ℕ) {x : ℕ} {a : Numbers} → Is x a → x < 2 ^ w → Is (2 ^ w - 1 - x) (λ n. ltb n w && not (a n))
 is-not w {x} i h = record { bit = λ n. bits-not w x n h ∙ ap (λ (p : Bool). ltb n w && not p) (i .bit n) }
