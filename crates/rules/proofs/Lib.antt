@@ -1,3 +1,4 @@
 pub mod Cases
 pub mod CoherentCases
 pub mod Sentences
+pub mod LoopCodes

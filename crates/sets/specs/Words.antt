@@ -1,7 +1,7 @@
 -- A set of numbers as a machine word of any width: bit n is set exactly when n is a member. Assumes nothing.
 use mathlib.Core.Bool.{cond}
-use Prim.Native.Nat.{ℕ, zero, suc, _+_, _/_, _%_, _^_}
-use lib.Dec.{eqb}
+use Prim.Native.Nat.{ℕ, zero, suc, _+_, _-_, _/_, _%_, _^_}
+use lib.Dec.{eqb, ltb}
 use Rattle.sets.specs.Numbers.{Numbers}
 
 -- The set of a word's bits.
@@ -12,3 +12,7 @@ bits w n = eqb (w / 2 ^ n % 2) 1
 unfoldable pub word : ℕ → Numbers → ℕ
 word zero a = 0
 word (suc n) a = cond (a n) (2 ^ n) 0 + word n a
+
+-- A set as two words of a width each: the first has the members below the width, the second those from it on.
+unfoldable pub two-words : ℕ → ℕ → ℕ → Numbers
+two-words w low high n = cond (ltb n w) (bits low n) (bits high (n - w))

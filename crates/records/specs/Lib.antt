@@ -1,0 +1,3 @@
+pub mod Numerals
+pub mod StateRecord
+pub mod LogRecord

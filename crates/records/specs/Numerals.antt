@@ -1,0 +1,19 @@
+-- Little-endian numbers in bytes. Assumes nothing.
+use mathlib.Core.List.{List, [], _∷_}
+use Prim.Native.Nat.{ℕ, zero, suc, _+_, _*_, _/_, _%_}
+use lib.ListN.{take, drop}
+
+-- A number as so many bytes, the lowest first.
+unfoldable pub in-bytes : ℕ → ℕ → List ℕ
+in-bytes zero x = []
+in-bytes (suc n) x = x % 256 ∷ in-bytes n (x / 256)
+
+-- The number of some bytes.
+unfoldable pub number : List ℕ → ℕ
+number [] = 0
+number (b ∷ bs) = b + 256 * number bs
+
+-- The number in n bytes from a place on.
+unfoldable pub field : List ℕ → ℕ → ℕ → ℕ
+unfolding number
+field bs at n = number (take n (drop at bs))

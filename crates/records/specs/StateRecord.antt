@@ -1,0 +1,87 @@
+-- The state record: its 22 bytes, the refusals 9 and 10, and the input set's 11. Assumes nothing.
+use mathlib.Core.Bool.{Bool, true, false, not, cond, _&&_, _||_}
+use mathlib.Core.List.{List, [], _∷_, _++_}
+use mathlib.Core.Option.{Option, none, some}
+use Prim.Native.Nat.{ℕ, _+_, _/_, _^_}
+use lib.Dec.{eqb, ltb, leb}
+use lib.ListN.{length}
+use Rattle.sets.specs.Numbers.{Numbers, empty, some-to, lowest}
+use Rattle.sets.specs.Words.{bits, word, two-words}
+use Rattle.rules.specs.Statements.{Stmt}
+use Rattle.rules.specs.States.{State, fresh, running, finished, compatible}
+use Rattle.records.specs.Numerals.{in-bytes, field}
+
+-- Phase 0 fresh, 1 running, 2 finished.
+unfoldable pub phase-of : State → ℕ
+phase-of fresh = 0
+phase-of (running A) = 1
+phase-of finished = 2
+
+unfoldable pub active-of : State → Numbers
+active-of fresh = empty
+active-of (running A) = A
+active-of finished = empty
+
+-- The members from 64 on, as the second word holds them.
+abbrev pub upper : Numbers → Numbers
+upper A n = A (64 + n)
+
+-- Length 22, kind 2, the phase, then two 64-bit words: bit n of the 128 for pause n.
+unfoldable pub state-record : State → List ℕ
+unfolding in-bytes word phase-of active-of
+state-record st =
+    in-bytes 2 22 ++ (in-bytes 2 2 ++ (in-bytes 2 (phase-of st) ++ (in-bytes 8 (word 64 (active-of st)) ++ in-bytes 8 (word 64 (upper (active-of st))))))
+
+-- A record that holds a state, or none: STATE.
+pub data Found : Type 0 where
+  not-a-state : Found
+  state : State → Found
+
+-- The active set in a record.
+abbrev pub active-in : List ℕ → Numbers
+active-in bs = two-words 64 (field bs 6 8) (field bs 14 8)
+
+abbrev pub none-active : List ℕ → Bool
+none-active bs = eqb (field bs 6 8) 0 && eqb (field bs 14 8) 0
+
+-- A bit at or above the pause count.
+unfoldable pub beyond : ℕ → Numbers → Bool
+beyond pauses A = some-to (λ n. A n && leb pauses n) 127
+
+-- What the phase asks of the bits: none while fresh or finished; while running at least one, and each a pause of the block.
+unfoldable pub in-phase : ℕ → ℕ → List ℕ → Found
+in-phase phase pauses bs =
+    cond (eqb phase 0 && none-active bs) (state fresh)
+    (cond (eqb phase 1 && not (none-active bs) && not (beyond pauses (active-in bs))) (state (running (active-in bs)))
+    (cond (eqb phase 2 && none-active bs) (state finished)
+    not-a-state))
+
+-- The state that a record holds for a block of so many pauses: 22 bytes, length 22, kind 2, a phase with bits that fit it.
+unfoldable pub read-state : ℕ → List ℕ → Found
+read-state pauses bs =
+    cond (eqb (length bs) 22 && eqb (field bs 0 2) 22 && eqb (field bs 2 2) 2) (in-phase (field bs 4 2) pauses bs) not-a-state
+
+-- Two active pauses are not compatible; the first is the lower.
+unfoldable pub clashes : Stmt → Numbers → ℕ → ℕ → Bool
+clashes p A m n = A m && A n && ltb m n && not (compatible p m n)
+
+-- The first bad pair: the lowest first pause, then the lowest second.
+pub record Pair : Type 0 where
+  pub first : ℕ
+  pub second : ℕ
+
+abbrev pub paired : ℕ → Option ℕ → Option Pair
+paired m none = none
+paired m (some n) = some (record { first = m; second = n })
+
+abbrev pub with-second : Stmt → Numbers → Option ℕ → Option Pair
+with-second p A none = none
+with-second p A (some m) = paired m (lowest 128 (clashes p A m))
+
+unfoldable pub first-clash : Stmt → Numbers → Option Pair
+unfolding clashes
+first-clash p A = with-second p A (lowest 128 (λ m. some-to (clashes p A m) 127))
+
+-- INPUT: a bit set at or above the number of inputs.
+unfoldable pub undeclared-input : ℕ → ℕ → Bool
+undeclared-input inputs given = not (eqb (given / 2 ^ inputs) 0)
