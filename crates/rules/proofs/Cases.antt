@@ -57,22 +57,22 @@ pub record Row : Type 0 where
   pub given : List ℕ
   pub told : Told
 
-abbrev row : ℕ → ℕ → Stmt → State → List ℕ → Told → Row
+abbrev pub row : ℕ → ℕ → Stmt → State → List ℕ → Told → Row
 row i o p st given t = record { inputs = i; outputs = o; body = p; begins = st; given = given; told = t }
 
-abbrev active-on : List ℕ → State
+abbrev pub active-on : List ℕ → State
 active-on ns = running (listed ns)
 
 -- Answered with code 0, which finishes the block.
-abbrev ends : List Status → ℕ → Told
+abbrev pub ends : List Status → ℕ → Told
 ends vs n = record { refusal = 0; statuses = vs; undecided = 0; code = 0; rounds = n; phase = 2; keeps = [] }
 
 -- Answered with code 1, which leaves it running on these pauses.
-abbrev waits : List Status → ℕ → List ℕ → Told
+abbrev pub waits : List Status → ℕ → List ℕ → Told
 waits vs n ks = record { refusal = 0; statuses = vs; undecided = 0; code = 1; rounds = n; phase = 1; keeps = ks }
 
 -- NOT CONSTRUCTIVE.
-abbrev stuck : List Status → ℕ → ℕ → Told
+abbrev pub stuck : List Status → ℕ → ℕ → Told
 stuck vs u n = record { refusal = 13; statuses = vs; undecided = u; code = 0; rounds = n; phase = 0; keeps = [] }
 
 -- The cases that document 01 marks, with their letters.
