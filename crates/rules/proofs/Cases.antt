@@ -63,6 +63,23 @@ row i o p st given t = record { inputs = i; outputs = o; body = p; begins = st; 
 abbrev pub active-on : List ℕ → State
 active-on ns = running (listed ns)
 
+-- The answer that the rules give to a row's instant, and the state that it leaves.
+abbrev reaction : Row → Answer
+unfolding react listed
+reaction r = react (record { inputs = r .inputs; outputs = r .outputs; body = r .body }) (r .begins) (listed (r .given))
+
+abbrev pub answers : Row → Told
+unfolding react listed members pauses
+answers r = tell (r .body) (reaction r)
+
+abbrev left-by : Answer → State
+left-by (answered vs c st n) = st
+left-by (not-constructive vs n) = fresh
+
+abbrev after : Row → State
+unfolding react listed
+after r = left-by (reaction r)
+
 -- Answered with code 0, which finishes the block.
 abbrev pub ends : List Status → ℕ → Told
 ends vs n = record { refusal = 0; statuses = vs; undecided = 0; code = 0; rounds = n; phase = 2; keeps = [] }
@@ -105,9 +122,10 @@ H-first : Row
 unfolding H-body
 H-first = row 0 2 H-body fresh [] (waits (absent ∷ present ∷ []) 2 (0 ∷ []))
 
+-- from the state that the first instant leaves
 H-second : Row
-unfolding H-body
-H-second = row 0 2 H-body (active-on (0 ∷ [])) [] (waits (absent ∷ present ∷ []) 2 (0 ∷ []))
+unfolding H-first H-body
+H-second = row 0 2 H-body (after H-first) [] (waits (absent ∷ present ∷ []) 2 (0 ∷ []))
 
 -- O is 0
 J : Row
@@ -190,21 +208,42 @@ outer-trap = row 0 2 (trap (trap (exit (depth 1)) ⨾ emit 0) ⨾ emit 1) fresh 
 no-output : Row
 no-output = row 0 0 (local 0 (present? 0 then emit 0 else nothing)) fresh [] (stuck [] 0 1)
 
+-- an input that is not given is absent; I is 0, O is 1
+input-absent : Row
+input-absent = row 1 1 (present? 0 then nothing else emit 1) fresh [] (ends (present ∷ []) 2)
+
+-- the active pause is not the first of its part; O is 0
+later-pause : Row
+later-pause = row 0 1 ((pause 0 ⨾ pause 1) ⨾ emit 0) (active-on (1 ∷ [])) [] (ends (present ∷ []) 2)
+
+-- an active pause in an else branch; I is 0, O is 1
+else-resumes : Row
+else-resumes = row 1 1 ((present? 0 then nothing else pause 0) ⨾ emit 1) (active-on (0 ∷ [])) [] (ends (present ∷ []) 2)
+
+-- a local is executed with the status that must settles; S is 0
+local-present-keeps : Row
+local-present-keeps = row 0 0 (local 0 (emit 0 ⨾ (present? 0 then pause 0 else pause 1))) fresh [] (waits [] 1 (0 ∷ []))
+
+local-absent-keeps : Row
+local-absent-keeps = row 0 0 (local 0 (present? 0 then pause 0 else pause 1)) fresh [] (waits [] 1 (1 ∷ []))
+
+-- one output is settled in each round; there are three of them
+outputs-plus-1 : Row
+outputs-plus-1 =
+    row 0 3 ((present? 0 then emit 1 else nothing) ⨾ (present? 1 then emit 2 else nothing)) fresh []
+    (ends (absent ∷ absent ∷ absent ∷ []) 4)
+
 -- finished runs as nothing
 over : Row
 over = row 0 1 (emit 0) finished [] (ends (absent ∷ []) 2)
 
 pub table : List Row
-unfolding B C E F G H-first H-second J M N second-part-open present-opens suspend-opens restart-opens must-asks-plus suspend-may-stay suspend-starts present-resumes suspend-holds both-arms one-arm outer-trap no-output over
+unfolding B C E F G H-first H-second J M N second-part-open present-opens suspend-opens restart-opens must-asks-plus suspend-may-stay suspend-starts present-resumes suspend-holds both-arms one-arm outer-trap no-output input-absent later-pause else-resumes local-present-keeps local-absent-keeps outputs-plus-1 over
 table =
     B ∷ C ∷ E ∷ F ∷ G ∷ H-first ∷ H-second ∷ J ∷ M ∷ N
     ∷ second-part-open ∷ present-opens ∷ suspend-opens ∷ restart-opens ∷ must-asks-plus ∷ suspend-may-stay
-    ∷ suspend-starts ∷ present-resumes ∷ suspend-holds ∷ both-arms ∷ one-arm ∷ outer-trap ∷ no-output ∷ over ∷ []
-
--- The answer that the rules give to a row's instant.
-abbrev pub answers : Row → Told
-unfolding react listed members pauses
-answers r = tell (r .body) (react (record { inputs = r .inputs; outputs = r .outputs; body = r .body }) (r .begins) (listed (r .given)))
+    ∷ suspend-starts ∷ present-resumes ∷ suspend-holds ∷ both-arms ∷ one-arm ∷ outer-trap ∷ no-output
+    ∷ input-absent ∷ later-pause ∷ else-resumes ∷ local-present-keeps ∷ local-absent-keeps ∷ outputs-plus-1 ∷ over ∷ []
 
 pub worked : map answers table ≡ map (λ r. r .told) table
 unfolding table react listed members pauses gives kept started resumed any active held code marks round begin all-same settle final-of answer some-to maxima down downs lowest step next event

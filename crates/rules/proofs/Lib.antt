@@ -1,4 +1,5 @@
 pub mod Cases
+pub mod CheckCases
 pub mod CoherentCases
 pub mod Sentences
 pub mod LoopCodes
