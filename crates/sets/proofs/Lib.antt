@@ -1,0 +1,3 @@
+pub mod Members
+pub mod Maxima
+pub mod Counts
