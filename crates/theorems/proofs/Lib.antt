@@ -1,0 +1,4 @@
+pub mod Forms
+pub mod MustInCan
+pub mod Compare
+pub mod Exact
