@@ -30,3 +30,8 @@ pub record Inside (a b : Given) : Type 0 where
 -- An execution as something given: the signals emitted and the one code.
 abbrev pub outcome : Execution → Given
 outcome r = record { signals = r .emitted; codes = single (r .completes) }
+
+-- An execution lies between what must be and what can be.
+pub record Between (least most : Given) (r : Execution) : Type 0 where
+  pub lower : Inside least (outcome r)
+  pub upper : Inside (outcome r) most
