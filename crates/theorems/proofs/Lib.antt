@@ -3,3 +3,5 @@ pub mod MustInCan
 pub mod Compare
 pub mod Exact
 pub mod Sound
+pub mod Kept
+pub mod Runs

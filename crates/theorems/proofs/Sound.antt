@@ -131,7 +131,7 @@ onward-most : (b : Bool) (q : Step) (E : Event) (r : Given) → Inside r (gives 
 onward-most true q E r f = f
 onward-most false q E r f = inside-trans f (plus-in-opened q E)
 
-if-so : (z : Bool) {A : Type 0} → cond z A (Unit {0}) → T z → A
+pub if-so : (z : Bool) {A : Type 0} → cond z A (Unit {0}) → T z → A
 if-so true a t = a
 if-so false a t = absurd t
 
@@ -157,7 +157,7 @@ pub executed-below : (s : ℕ) (p : Step) (E : Event) (v : Bool) (r : Execution)
     → Between (gives must p (giving E s unknown)) (gives (can plus) p (giving E s unknown)) r → Below (executed-as s p E) (known v)
 executed-below s p E v r e f =
     marked-known (gives must p (giving E s unknown) .signals s) (gives (can plus) p (giving E s unknown) .signals s) v
-      (λ t. subst⁻¹ T e (f .lower .of-signals .at s t)) (λ t. f .upper .of-signals .at s (subst T e t))
+    (λ t. subst⁻¹ T e (f .lower .of-signals .at s t)) (λ t. f .upper .of-signals .at s (subst T e t))
 
 pub sound : (p : Step) (l : Locals p) (W : Numbers) → LocalsAgree p l W → (E : Event) → E ⊑ whole W
     → Between (gives must p E) (gives (can plus) p E) (execute p l W)
@@ -168,7 +168,7 @@ sound (say s) l W a E h = record { lower = inside-refl; upper = inside-refl }
 sound (leave d) l W a E h = record { lower = inside-refl; upper = inside-refl }
 sound (test s p q) l W a E h =
     test-between (W s) (E s) (gives (can opened) p E) (gives (can opened) q E) (h .at s)
-      (λ b. sound p (l .0) W b E h) (λ b. sound q (l .1) W b E h) (plus-in-opened p E) (plus-in-opened q E) a
+    (λ b. sound p (l .0) W b E h) (λ b. sound q (l .1) W b E h) (plus-in-opened p E) (plus-in-opened q E) a
 sound (catch p) l W a E h =
     catch-between (execute p l W) (execute (catch p) l W .keeps) (sound p l W a E h)
 sound (scope s p) l W a E h =
@@ -179,7 +179,7 @@ sound (scope s p) l W a E h =
     record { lower = hidden-inside s (g .lower); upper = hidden-inside s (g .upper) }
 sound (chain p q) l W a E h =
     chain-between q E (gives must p E .codes 0) (execute p (l .0) W) (execute q (l .1) W) (sound p (l .0) W (a .0) E h)
-      (λ t. sound q (l .1) W (if-so (eqb (execute p (l .0) W .completes) 0) (a .1) t) E h)
+    (λ t. sound q (l .1) W (if-so (eqb (execute p (l .0) W .completes) 0) (a .1) t) E h)
 sound (beside p q) l W a E h =
     beside-between (execute p (l .0) W) (execute q (l .1) W) (execute (beside p q) l W .keeps)
-      (sound p (l .0) W (a .0) E h) (sound q (l .1) W (a .1) E h)
+    (sound p (l .0) W (a .0) E h) (sound q (l .1) W (a .1) E h)
