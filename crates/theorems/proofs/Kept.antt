@@ -17,7 +17,7 @@ use Rattle.rules.specs.Coherence.{Locals, Execution, assigning, run-on, execute
 use Rattle.rules.proofs.OneCode.{OneCode, one-code}
 use Rattle.theorems.specs.Order.{Below, _⊑_, whole, Between}
 use Rattle.theorems.proofs.Exact.{FirstOrBoth, only-first, then-second, first-or-both}
-use Rattle.theorems.proofs.Sound.{not-both, giving-whole, executed-below, if-so, sound}
+use Rattle.theorems.proofs.Sound.{not-both, giving-whole, executed-below, if-so, sound, code-of-run}
 
 -- A statement with code other than 1 keeps no pause, executed or computed.
 pub record KeepsAtOne (r : Execution) : Type 0 where
@@ -164,10 +164,6 @@ beside-one {m} {n} c d o r s t = same (eqb (max c d) 1) (maxima (m .codes) (n .c
     back e =
         let x = maxima-out (m .codes) (n .codes) 1 e in
         eqb-in (ap₂ max (o .equal c (x .0) s (x .2)) (r .equal d (x .1) t (x .3)) ∙ x .4)
-
--- The code of must is the execution's.
-pub code-of-run : (p : Step) (l : Locals p) (W : Numbers) → LocalsAgree p l W → (E : Event) → E ⊑ whole W → (c : ℕ) → T (gives must p E .codes c) → c ≡ execute p l W .completes
-code-of-run p l W a E h c t = single-out (execute p l W .completes) c (sound p l W a E h .lower .of-codes .at c t)
 
 pub kept-of-run : (p : Step) (l : Locals p) (W : Numbers) → LocalsAgree p l W → (E : Event) → E ⊑ whole W → (c : ℕ) → T (gives must p E .codes c) → execute p l W .keeps ≡ kept p E
 unfolding gives kept execute LocalsAgree of-parts

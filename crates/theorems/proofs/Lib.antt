@@ -5,3 +5,5 @@ pub mod Exact
 pub mod Sound
 pub mod Kept
 pub mod Runs
+pub mod Reach
+pub mod RoundsEnd

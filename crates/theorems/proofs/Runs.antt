@@ -14,8 +14,7 @@ use Rattle.rules.specs.Coherence.{Locals, Execution, assigning, execute, Locals
 use Rattle.theorems.specs.Order.{Below, _⊑_, whole}
 use Rattle.theorems.proofs.Compare.{⊑-refl, giving-below, must-grows, can-shrinks}
 use Rattle.theorems.proofs.Exact.{FirstOrBoth, only-first, then-second, first-or-both, can-in-must}
-use Rattle.theorems.proofs.Sound.{not-both, giving-whole, sound}
-use Rattle.theorems.proofs.Kept.{code-of-run}
+use Rattle.theorems.proofs.Sound.{not-both, giving-whole, sound, code-of-run}
 
 -- Statuses for the locals that are not executed.
 some-locals : (p : Step) → Locals p

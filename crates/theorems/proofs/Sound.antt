@@ -6,7 +6,7 @@ use mathlib.Core.Bool.{Bool, true, false, cond}
 use Prim.Native.Nat.{ℕ, max}
 use lib.Dec.{T, eqb, eqb→eq, eqb-refl}
 use Rattle.sets.specs.Numbers.{Numbers, single, union, without, only-if, down}
-use Rattle.sets.proofs.Members.{of-true, of-false, eqb-in, single-out, without-in, without-member, without-other, only-if-in, only-if-test, Within, within-refl, within-trans, within-eq, within-left, within-right, within-without, within-only-if, union-least, union-mono}
+use Rattle.sets.proofs.Members.{of-true, of-false, eqb-in, single-out, without-in, without-member, without-other, only-if-in, only-if-test, Within, within-refl, within-trans, within-antisym, within-eq, within-left, within-right, within-without, within-only-if, union-least, union-mono}
 use Rattle.sets.proofs.Maxima.{maxima-single, downs-single}
 use Rattle.rules.specs.Events.{Status, present, absent, unknown, Event, giving, known}
 use Rattle.rules.specs.Instant.{Step, done, stay, say, leave, test, catch, scope, chain, beside}
@@ -16,6 +16,7 @@ use Rattle.rules.specs.Coherence.{Locals, Execution, assigning, run-on, execute
 use Rattle.theorems.specs.Order.{Below, _⊑_, whole, Inside, outcome, Between}
 use Rattle.theorems.proofs.Forms.{inside-refl, inside-trans, inside-nothing, either-left, either-right, caught-inside, hidden-inside, both-inside, followed-inside}
 use Rattle.theorems.proofs.Compare.{plus-in-opened}
+use Rattle.theorems.proofs.Exact.{can-in-must}
 
 -- Present and absent are two.
 abbrev IsPresent : Status → Type 0
@@ -25,13 +26,6 @@ IsPresent unknown = ⊥
 
 pub not-both : present ≡ absent → ⊥
 not-both e = subst IsPresent e tt
-
--- A status below a known one is that one or unknown.
-pub below-known : (v : Status) (b : Bool) → Below v (known b) → v ≡ present → T b
-below-known present true h e = tt
-below-known present false h e = not-both (sym h)
-below-known absent b h e = absurd (not-both (sym e))
-below-known unknown b h e = absurd (subst⁻¹ IsPresent e tt)
 
 -- The assigned status of a signal, put into both.
 pub giving-whole : {E : Event} (W : Numbers) (s : ℕ) (w : Status) (v : Bool) → E ⊑ whole W → Below w (known v) → giving E s w ⊑ whole (assigning W s v)
@@ -145,19 +139,19 @@ chain-between q E z a b f g = record {
 }
 
 -- The status marked for a signal is the assigned one or unknown.
-pub marked-known : (m c v : Bool) → (T m → T v) → (T v → T c) → Below (marked m c unknown) (known v)
-marked-known true c true f g = refl
-marked-known true c false f g = absurd (f tt)
-marked-known false true v f g = tt
-marked-known false false true f g = absurd (g tt)
-marked-known false false false f g = refl
+pub marked-known : (m c v : Bool) (w : Status) → (T m → T v) → (T v → T c) → Below w (known v) → Below (marked m c w) (known v)
+marked-known true c true w f g h = refl
+marked-known true c false w f g h = absurd (f tt)
+marked-known false true v w f g h = h
+marked-known false false true w f g h = absurd (g tt)
+marked-known false false false w f g h = refl
 
 -- The status that a local gets is the one assigned to it or unknown, from its body's execution.
 pub executed-below : (s : ℕ) (p : Step) (E : Event) (v : Bool) (r : Execution) → v ≡ r .emitted s
     → Between (gives must p (giving E s unknown)) (gives (can plus) p (giving E s unknown)) r → Below (executed-as s p E) (known v)
 executed-below s p E v r e f =
-    marked-known (gives must p (giving E s unknown) .signals s) (gives (can plus) p (giving E s unknown) .signals s) v
-    (λ t. subst⁻¹ T e (f .lower .of-signals .at s t)) (λ t. f .upper .of-signals .at s (subst T e t))
+    marked-known (gives must p (giving E s unknown) .signals s) (gives (can plus) p (giving E s unknown) .signals s) v unknown
+    (λ t. subst⁻¹ T e (f .lower .of-signals .at s t)) (λ t. f .upper .of-signals .at s (subst T e t)) tt
 
 pub sound : (p : Step) (l : Locals p) (W : Numbers) → LocalsAgree p l W → (E : Event) → E ⊑ whole W
     → Between (gives must p E) (gives (can plus) p E) (execute p l W)
@@ -183,3 +177,11 @@ sound (chain p q) l W a E h =
 sound (beside p q) l W a E h =
     beside-between (execute p (l .0) W) (execute q (l .1) W) (execute (beside p q) l W .keeps)
     (sound p (l .0) W (a .0) E h) (sound q (l .1) W (a .1) E h)
+
+-- Where must has a code, it is the code of every such execution, and what must gives is what is emitted.
+pub code-of-run : (p : Step) (l : Locals p) (W : Numbers) → LocalsAgree p l W → (E : Event) → E ⊑ whole W → (c : ℕ) → T (gives must p E .codes c) → c ≡ execute p l W .completes
+code-of-run p l W a E h c t = single-out (execute p l W .completes) c (sound p l W a E h .lower .of-codes .at c t)
+
+pub emitted-of-run : (p : Step) (l : Locals p) (W : Numbers) → LocalsAgree p l W → (E : Event) → E ⊑ whole W → (c : ℕ) → T (gives must p E .codes c) → execute p l W .emitted ≡ gives must p E .signals
+emitted-of-run p l W a E h c t =
+    within-antisym (within-trans (sound p l W a E h .upper .of-signals) (can-in-must p E c t .of-signals)) (sound p l W a E h .lower .of-signals)
