@@ -7,3 +7,4 @@ pub mod Kept
 pub mod Runs
 pub mod Reach
 pub mod RoundsEnd
+pub mod Reaction

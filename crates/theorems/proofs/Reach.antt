@@ -39,7 +39,7 @@ marks-at m c s (v ∷ vs) (suc i) h =
     marks-at m c (suc s) vs i (le-of-suc-le-suc h)
     ∙ ap (λ (n : ℕ). marked (m .signals n) (c .signals n) (getD vs i unknown)) (suc-add s i ∙ sym (add-suc s i))
 
-begin-at : (n i : ℕ) → getD (replicate n unknown) i unknown ≡ unknown
+pub begin-at : (n i : ℕ) → getD (replicate n unknown) i unknown ≡ unknown
 begin-at zero i = refl
 begin-at (suc n) zero = refl
 begin-at (suc n) (suc i) = begin-at n i
@@ -88,25 +88,7 @@ below-antisym unknown present d e = e
 below-antisym unknown absent d e = e
 below-antisym unknown unknown d e = refl
 
-module _ (b : Block) (p : Step) (given : Numbers) where
-  -- Whether output i is in must, and whether it is in can, at the event of these statuses.
-  abbrev pub in-must : List Status → ℕ → Bool
-  in-must vs i = gives must p (event b given vs) .signals (b .inputs + i)
-
-  abbrev pub in-can : List Status → ℕ → Bool
-  in-can vs i = gives (can plus) p (event b given vs) .signals (b .inputs + i)
-
-  pub must-can : (vs : List Status) (i : ℕ) → T (in-must vs i) → T (in-can vs i)
-  must-can vs i = must-in-can p (event b given vs) .of-signals .at (b .inputs + i)
-
-  pub round-length : (vs : List Status) → length (round b p given vs) ≡ length vs
-  unfolding round
-  round-length vs = marks-length (gives must p (event b given vs)) (gives (can plus) p (event b given vs)) (b .inputs) vs
-
-  pub round-at : (vs : List Status) (i : ℕ) → i < length vs → getD (round b p given vs) i unknown ≡ marked (in-must vs i) (in-can vs i) (getD vs i unknown)
-  unfolding round
-  round-at vs i h = marks-at (gives must p (event b given vs)) (gives (can plus) p (event b given vs)) (b .inputs) vs i h
-
+module _ (b : Block) (given : Numbers) where
   -- Events by their outputs.
   pub event-below : (vs : List Status) (F : Event) → ((n : ℕ) → T (ltb n (b .inputs)) → Below (known (given n)) (F n))
       → ((i : ℕ) → i < length vs → (n : ℕ) → ltb n (b .inputs) ≡ false → n - b .inputs ≡ i → Below (getD vs i unknown) (F n))
@@ -135,6 +117,25 @@ module _ (b : Block) (p : Step) (given : Numbers) where
       event-below vs (event b given ws) (λ n t. subst⁻¹ (λ (v : Status). Below (known (given n)) v) (event-input ws n t) (below-refl (known (given n))))
       (λ i h n e q. subst⁻¹ (λ (v : Status). Below (getD vs i unknown) v) (event-output ws i n e q) (f i h))
 
+module _ (b : Block) (p : Step) (given : Numbers) where
+  -- Whether output i is in must, and whether it is in can, at the event of these statuses.
+  abbrev pub in-must : List Status → ℕ → Bool
+  in-must vs i = gives must p (event b given vs) .signals (b .inputs + i)
+
+  abbrev pub in-can : List Status → ℕ → Bool
+  in-can vs i = gives (can plus) p (event b given vs) .signals (b .inputs + i)
+
+  pub must-can : (vs : List Status) (i : ℕ) → T (in-must vs i) → T (in-can vs i)
+  must-can vs i = must-in-can p (event b given vs) .of-signals .at (b .inputs + i)
+
+  pub round-length : (vs : List Status) → length (round b p given vs) ≡ length vs
+  unfolding round
+  round-length vs = marks-length (gives must p (event b given vs)) (gives (can plus) p (event b given vs)) (b .inputs) vs
+
+  pub round-at : (vs : List Status) (i : ℕ) → i < length vs → getD (round b p given vs) i unknown ≡ marked (in-must vs i) (in-can vs i) (getD vs i unknown)
+  unfolding round
+  round-at vs i h = marks-at (gives must p (event b given vs)) (gives (can plus) p (event b given vs)) (b .inputs) vs i h
+
   pub record Justified (vs : List Status) : Type 0 where
     pub backed : (i : ℕ) → i < length vs → Backed (getD vs i unknown) (in-must vs i) (in-can vs i)
 
@@ -149,7 +150,7 @@ module _ (b : Block) (p : Step) (given : Numbers) where
           (backed-below (getD vs i unknown) (in-must vs i) (in-can vs i) (must-can vs i) (j .backed i h))
 
   pub settling-above : {vs ws : List Status} → Justified vs → Settling b p given vs ws → event b given vs ⊑ event b given ws
-  settling-above {vs} {ws} j s = outputs-below vs ws (settling-keeps j s)
+  settling-above {vs} {ws} j s = outputs-below b given vs ws (settling-keeps j s)
 
   settling-justified : {vs ws : List Status} → Justified vs → Settling b p given vs ws → Justified ws
   settling-justified {vs} {ws} j s = record { backed = λ i h. later i (subst (λ (n : ℕ). i < n) (s .same-length) h) }
@@ -209,7 +210,7 @@ module _ (b : Block) (p : Step) (given : Numbers) where
           → (getD vs i unknown ≡ getD us i unknown) ⊎ (getD vs i unknown ≡ getD (round b p given us) i unknown) → Below (getD vs i unknown) (getD ws i unknown)
       go f (inl a) = subst⁻¹ (λ (v : Status). Below v (getD ws i unknown)) a (f i h)
       go f (inr a) =
-          let up : event b given us ⊑ event b given ws = outputs-below us ws (λ j l. f j (subst (λ (n : ℕ). j < n) (reached-length q) l)) in
+          let up : event b given us ⊑ event b given ws = outputs-below b given us ws (λ j l. f j (subst (λ (n : ℕ). j < n) (reached-length q) l)) in
           subst⁻¹ (λ (v : Status). Below v (getD ws i unknown)) (a ∙ round-at us i (subst⁻¹ (λ (n : ℕ). i < n) (reached-length q) h))
           (marked-under (getD us i unknown) (getD ws i unknown) (in-must us i) (in-can us i) (in-must ws i) (in-can ws i)
           (must-grows p up .of-signals .at (b .inputs + i)) (can-shrinks p plus up .of-signals .at (b .inputs + i)) (must-can ws i)
