@@ -8,3 +8,7 @@ pub mod Runs
 pub mod Reach
 pub mod RoundsEnd
 pub mod Reaction
+pub mod Ends
+pub mod LoopCodes
+pub mod Traps
+pub mod KeepsSome

@@ -1,0 +1,24 @@
+-- A block that passes the check, and the parts of a statement. Assumes nothing.
+use lib.Dec.{T}
+use Prim.Native.Nat.{ℕ}
+use Rattle.rules.specs.Statements.{Block, Stmt, present?_then_else_, suspend_on_, _⨾_, loop, _parallel_, trap, local, Numbered, Trapped}
+use Rattle.rules.specs.Loops.{loops-pass}
+
+pub record Checked (b : Block) : Type 0 where
+  pub loops-are-good : T (loops-pass (b .body))
+  pub exits-are-trapped : Trapped 0 (b .body)
+  pub pauses-are-numbered : Numbered 0 (b .body)
+
+-- Part q p: the statement q stands in p, or is p.
+pub data Part (q : Stmt) : Stmt → Type 0 where
+  itself : Part q q
+  in-then : {s : ℕ} {p r : Stmt} → Part q p → Part q (present? s then p else r)
+  in-else : {s : ℕ} {p r : Stmt} → Part q r → Part q (present? s then p else r)
+  in-suspend : {s : ℕ} {p : Stmt} → Part q p → Part q (suspend p on s)
+  in-first : {p r : Stmt} → Part q p → Part q (p ⨾ r)
+  in-second : {p r : Stmt} → Part q r → Part q (p ⨾ r)
+  in-loop : {p : Stmt} → Part q p → Part q (loop p)
+  in-left : {p r : Stmt} → Part q p → Part q (p parallel r)
+  in-right : {p r : Stmt} → Part q r → Part q (p parallel r)
+  in-trap : {p : Stmt} → Part q p → Part q (trap p)
+  in-local : {s : ℕ} {p : Stmt} → Part q p → Part q (local s p)
