@@ -12,3 +12,5 @@ pub mod Ends
 pub mod LoopCodes
 pub mod Traps
 pub mod KeepsSome
+pub mod Numbering
+pub mod Compatible
