@@ -118,7 +118,7 @@ fits-none = record { held-in = λ n t. absurd t; agreeing = λ m n s t e. absurd
 pub record KeepsIn (p : Stmt) (S : Step) : Type 0 where
   pub fits : (l : Locals S) (W : Numbers) → Fits p (execute S l W .keeps)
 
-keeps-done : (p : Stmt) → KeepsIn p done
+pub keeps-done : (p : Stmt) → KeepsIn p done
 unfolding execute
 keeps-done p = record { fits = λ l W. fits-none }
 

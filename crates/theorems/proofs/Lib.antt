@@ -14,3 +14,5 @@ pub mod Traps
 pub mod KeepsSome
 pub mod Numbering
 pub mod Compatible
+pub mod NextLegal
+pub mod Instants

@@ -36,7 +36,7 @@ is-present-known : (v : Bool) → is-present (known v) ≡ v
 is-present-known true = refl
 is-present-known false = refl
 
-below-is-present : (v : Status) → Below v (known (is-present v))
+pub below-is-present : (v : Status) → Below v (known (is-present v))
 below-is-present present = refl
 below-is-present absent = refl
 below-is-present unknown = tt
