@@ -19,10 +19,11 @@ use Rattle.rules.specs.Coherence.{Coherent}
 use Rattle.rules.proofs.OneCode.{one-code}
 use Rattle.theorems.specs.Checked.{Checked}
 use Rattle.theorems.specs.Reach.{at-first}
+use Rattle.theorems.specs.Reactions.{OnlyIfAnswered}
 use Rattle.theorems.specs.Traces.{Instant, answers, refuses, after}
 use Rattle.theorems.proofs.RoundsEnd.{rounds-unique, last-unchanged, last-reached, final}
-use Rattle.theorems.proofs.Reaction.{is-present, SameReaction, coherent-unique, computed-coherent}
-use Rattle.theorems.proofs.Traps.{root-given}
+use Rattle.theorems.proofs.Reaction.{coherent-unique, computed-coherent}
+use Rattle.theorems.proofs.Traps.{root-codes}
 use Rattle.theorems.proofs.NextLegal.{computed-next-legal}
 
 module _ (b : Block) (st : State) (given : Numbers) where
@@ -55,7 +56,7 @@ module _ (b : Block) (st : State) (given : Numbers) where
         E = event b given (final-of b st given .statuses)
 
         go : (o : Option ℕ) → lowest code-width (gives must (step (b .body) st) E .codes) ≡ o → Instant b st given (answer (final-of b st given) o (kept (step (b .body) st) E))
-        go none e = refuses (final b st given .ends) (λ c t. lowest-none code-width (gives must (step (b .body) st) E .codes) e c (narrow c (root-given (b .body) st (checked .exits-are-trapped) must E c t)) t)
+        go none e = refuses (final b st given .ends) (λ c t. lowest-none code-width (gives must (step (b .body) st) E .codes) e c (narrow c (root-codes (b .body) st (checked .exits-are-trapped) .if-given must E c t)) t)
           where
             narrow : (c : ℕ) → (c ≡ 0) ⊎ (c ≡ 1) → c < code-width
             narrow c (inl q) = omega arith
@@ -68,15 +69,7 @@ module _ (b : Block) (st : State) (given : Numbers) where
     after-legal h (refuses r f) = h
 
   -- An answer is coherent, and the only reaction that is.
-  pub record Only (vs : List Status) (c : ℕ) (st′ : State) : Type 0 where
-    pub coherent : Coherent b st given (map is-present vs) c st′
-    pub the-only-one : (outs : List Bool) (d : ℕ) (st″ : State) → Coherent b st given outs d st″ → SameReaction vs c st′ outs d st″
-
-  abbrev pub OnlyIfAnswered : Answer → Type 0
-  OnlyIfAnswered (answered vs c st′ n) = Only vs c st′
-  OnlyIfAnswered (not-constructive vs n) = Unit {0}
-
-  pub answer-only : {a : Answer} → Instant b st given a → OnlyIfAnswered a
+  pub answer-only : {a : Answer} → Instant b st given a → OnlyIfAnswered b st given a
   answer-only (answers {vs = vs} {c = c} r t) =
       let q = last-reached b (step (b .body) st) given at-first r in
       let e = last-unchanged b (step (b .body) st) given r in

@@ -14,10 +14,7 @@ use Rattle.sets.proofs.Members.{of-true, cases, or-left, or-right, or-out, and-
 use Rattle.rules.specs.Statements.{Depth, depth, code, Stmt, nothing, pause, emit, present?_then_else_, suspend_on_, _⨾_, loop, _parallel_, trap, exit, local, pauses}
 use Rattle.rules.specs.Instant.{Step, done, stay, say, leave, test, catch, scope, chain, beside, any, active, held, started, resumed}
 use Rattle.rules.specs.Coherence.{Locals, Execution, assigning, execute}
-
--- Some number is a member.
-abbrev pub Some : Numbers → Type 0
-Some A = (n : ℕ) × T (A n)
+use Rattle.theorems.specs.Reactions.{Some}
 
 -- Every `stay` of a step keeps some pause.
 abbrev pub Stays : Step → Type 0

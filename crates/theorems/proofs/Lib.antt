@@ -16,3 +16,6 @@ pub mod Numbering
 pub mod Compatible
 pub mod NextLegal
 pub mod Instants
+pub mod Traces
+pub mod Example
+pub mod Demand3

@@ -12,7 +12,7 @@ use Rattle.rules.specs.Instant.{started}
 use Rattle.rules.specs.MustCan.{Question, gives}
 use Rattle.rules.specs.Loops.{codes-of, loops-pass}
 use Rattle.rules.specs.Coherence.{Locals, execute}
-use Rattle.theorems.specs.Checked.{Part, itself, in-then, in-else, in-suspend, in-first, in-second, in-loop, in-left, in-right, in-trap, in-local}
+use Rattle.theorems.specs.Checked.{NeverZero, Part, itself, in-then, in-else, in-suspend, in-first, in-second, in-loop, in-left, in-right, in-trap, in-local}
 use Rattle.theorems.proofs.Ends.{ends, codes-after-mono, given-ends, run-ends}
 
 zero-free : (a : Numbers) → T (not (a 0)) → Within a (without 0 a)
@@ -59,18 +59,20 @@ part-passes (in-right {p = p} {r = r} m) h = part-passes m (and-right (loops-pas
 part-passes (in-trap m) h = part-passes m h
 part-passes (in-local m) h = part-passes m h
 
--- A loop's body, started, never has code 0: not for must, not for can at any event, not in any run.
+-- A loop's body, started, never has code 0.
 module _ (q p : Stmt) (part : Part (loop q) p) (h : T (loops-pass p)) where
-  body-passes : T (not (codes-of q 0) && loops-pass q)
+  body-checked : T (not (codes-of q 0) && loops-pass q)
   unfolding loops-pass
-  body-passes = part-passes part h
+  body-checked = part-passes part h
 
-  pub loop-given : (k : Question) (E : Event) → T (gives k (started q) E .codes 0) → ⊥
-  loop-given k E t =
-      T-not (codes-of q 0) (and-left (not (codes-of q 0)) (loops-pass q) body-passes)
-      (given-codes q (and-right (not (codes-of q 0)) (loops-pass q) body-passes) k E .at 0 t)
+  no-zero : T (codes-of q 0) → ⊥
+  no-zero t = T-not (codes-of q 0) (and-left (not (codes-of q 0)) (loops-pass q) body-checked) t
 
-  pub loop-run : (l : Locals (started q)) (W : Numbers) → execute (started q) l W .completes ≡ 0 → ⊥
-  loop-run l W e =
-      T-not (codes-of q 0) (and-left (not (codes-of q 0)) (loops-pass q) body-passes)
-      (subst (λ (n : ℕ). T (codes-of q n)) e (run-codes q (and-right (not (codes-of q 0)) (loops-pass q) body-passes) l W))
+  body-passes : T (loops-pass q)
+  body-passes = and-right (not (codes-of q 0)) (loops-pass q) body-checked
+
+  pub loop-body-never-zero : NeverZero (started q)
+  loop-body-never-zero = record {
+    not-given = λ k E t. no-zero (given-codes q body-passes k E .at 0 t);
+    not-executed = λ l W e. no-zero (subst (λ (n : ℕ). T (codes-of q n)) e (run-codes q body-passes l W));
+  }

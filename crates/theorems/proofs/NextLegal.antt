@@ -17,11 +17,12 @@ use Rattle.rules.specs.MustCan.{must, gives}
 use Rattle.rules.specs.States.{State, fresh, running, finished, step, Running, Legal, kept, next}
 use Rattle.rules.specs.Coherence.{Locals, Execution, execute, LocalsAgree}
 use Rattle.theorems.specs.Order.{_⊑_, whole}
+use Rattle.theorems.specs.Reactions.{Some, is-present}
 use Rattle.theorems.proofs.Sound.{code-of-run}
 use Rattle.theorems.proofs.Kept.{executed-at-one, kept-of-run}
 use Rattle.theorems.proofs.Runs.{runs}
-use Rattle.theorems.proofs.Reaction.{is-present, below-is-present}
-use Rattle.theorems.proofs.KeepsSome.{Some, Stays, any-in, stays-started, stays-resumed, run-keeps-some}
+use Rattle.theorems.proofs.Reaction.{below-is-present}
+use Rattle.theorems.proofs.KeepsSome.{Stays, any-in, stays-started, stays-resumed, run-keeps-some}
 use Rattle.theorems.proofs.Numbering.{from-out, from-in}
 use Rattle.theorems.proofs.Compatible.{Fits, KeepsIn, keeps-done, keeps-started, keeps-resumed}
 

@@ -20,17 +20,12 @@ use Rattle.rules.specs.Rounds.{round, begin}
 use Rattle.rules.specs.Coherence.{Execution, execute, LocalsAgree, world, Coherent}
 use Rattle.theorems.specs.Order.{Below, _⊑_, whole, Between}
 use Rattle.theorems.specs.Reach.{Reached, at-first, settling}
+use Rattle.theorems.specs.Reactions.{is-present, SameReaction}
 use Rattle.theorems.proofs.Compare.{below-refl}
 use Rattle.theorems.proofs.Sound.{marked-known, sound, code-of-run, emitted-of-run}
 use Rattle.theorems.proofs.Kept.{kept-of-run}
 use Rattle.theorems.proofs.Runs.{runs}
 use Rattle.theorems.proofs.Reach.{begin-at, round-at, event-below, reached-length, decided, in-must, in-can}
-
--- A decided status as the coherence law has it.
-abbrev pub is-present : Status → Bool
-is-present present = true
-is-present absent = false
-is-present unknown = false
 
 is-present-known : (v : Bool) → is-present (known v) ≡ v
 is-present-known true = refl
@@ -93,12 +88,6 @@ known-at : (outs : List Bool) (i : ℕ) → i < length outs → getD (map known 
 known-at [] i h = absurd (not-suc-le-zero h)
 known-at (o ∷ outs) zero h = refl
 known-at (o ∷ outs) (suc i) h = known-at outs i (le-of-suc-le-suc h)
-
--- The same outputs, the same code and the same next state.
-pub record SameReaction (vs : List Status) (c : ℕ) (st′ : State) (outs : List Bool) (d : ℕ) (st″ : State) : Type 0 where
-  pub same-outputs : map known outs ≡ vs
-  pub same-code : d ≡ c
-  pub same-next : st″ ≡ st′
 
 -- At statuses that were reached, that a round leaves as they are and that make the code known:
 module _ (b : Block) (st : State) (given : Numbers) (vs : List Status) (q : Reached b (step (b .body) st) given vs)

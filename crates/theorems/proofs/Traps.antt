@@ -15,6 +15,7 @@ use Rattle.rules.specs.Instant.{Step, done, chain, active, held, started, resum
 use Rattle.rules.specs.MustCan.{Question, gives}
 use Rattle.rules.specs.States.{State, fresh, running, finished, step}
 use Rattle.rules.specs.Coherence.{Locals, execute}
+use Rattle.theorems.specs.Checked.{ZeroOrOne}
 use Rattle.theorems.proofs.Ends.{codes-after, ends, given-ends, run-ends}
 
 -- All members are below k + 2.
@@ -111,11 +112,9 @@ zero-or-one zero h = inl (omega arith)
 zero-or-one (suc zero) h = inr (omega arith)
 zero-or-one (suc (suc c)) h = absurd (omega arith)
 
--- From any state, a block's codes are 0 and 1: for must, for can at every event under either mark, and for every run.
-pub root-given : (p : Stmt) (st : State) → Trapped 0 p → (k : Question) (E : Event) (c : ℕ) → T (gives k (step p st) E .codes c) → (c ≡ 0) ⊎ (c ≡ 1)
-root-given p st h k E c t = zero-or-one c (step-under p st h .below c (given-ends k (step p st) E .at c t))
-
-pub root-run : (p : Stmt) (st : State) → Trapped 0 p → (l : Locals (step p st)) (W : Numbers)
-    → (execute (step p st) l W .completes ≡ 0) ⊎ (execute (step p st) l W .completes ≡ 1)
-root-run p st h l W =
-    zero-or-one (execute (step p st) l W .completes) (step-under p st h .below (execute (step p st) l W .completes) (run-ends (step p st) l W))
+-- From any state, a block's codes are 0 and 1.
+pub root-codes : (p : Stmt) (st : State) → Trapped 0 p → ZeroOrOne (step p st)
+root-codes p st h = record {
+  if-given = λ k E c t. zero-or-one c (step-under p st h .below c (given-ends k (step p st) E .at c t));
+  if-executed = λ l W. zero-or-one (execute (step p st) l W .completes) (step-under p st h .below (execute (step p st) l W .completes) (run-ends (step p st) l W));
+}

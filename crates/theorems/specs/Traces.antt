@@ -7,7 +7,7 @@ use Rattle.rules.specs.Statements.{Block}
 use Rattle.rules.specs.Events.{Status, event}
 use Rattle.rules.specs.MustCan.{must, gives}
 use Rattle.rules.specs.States.{State, step, kept, next}
-use Rattle.rules.specs.Rounds.{begin, Rounds, Answer, answered, not-constructive}
+use Rattle.rules.specs.Rounds.{begin, Rounds, Answer, answered, not-constructive, react}
 
 -- An input set: only inputs that the block declares are present.
 pub record InputSet (b : Block) : Type 0 where
@@ -39,3 +39,14 @@ abbrev pub Throughout : (b : Block) (P : State → InputSet b → Answer → Typ
     → Trace b st givens told st′ → Type 0
 Throughout b P ends = Unit {0}
 Throughout b P (goes-on {st = st} {given = given} {a = a} i t) = P st given a × Throughout b P t
+
+-- The run that `react` computes: its answers, and the state at its end.
+unfoldable pub run : (b : Block) → State → List (InputSet b) → List Answer
+unfolding react
+run b st [] = []
+run b st (given ∷ givens) = react b st (given .members) ∷ run b (after st (react b st (given .members))) givens
+
+unfoldable pub arrives : (b : Block) → State → List (InputSet b) → State
+unfolding react
+arrives b st [] = st
+arrives b st (given ∷ givens) = arrives b (after st (react b st (given .members))) givens

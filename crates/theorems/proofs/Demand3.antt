@@ -1,0 +1,2 @@
+-- Demand 3.
+use mathlib.Core.Path.{_≡_, refl}
