@@ -12,13 +12,14 @@ use lib.ListN.{length, getD, replicate}
 use Rattle.sets.specs.Numbers.{Numbers}
 use Rattle.sets.proofs.Members.{of-true, of-false, and-in, and-left, and-right}
 use Rattle.rules.specs.Statements.{Block}
-use Rattle.rules.specs.Events.{Status, present, absent, unknown}
+use Rattle.rules.specs.Events.{Status, present, absent, unknown, known, event}
 use Rattle.rules.specs.Instant.{Step}
+use Rattle.rules.specs.MustCan.{must, gives}
 use Rattle.rules.specs.States.{State, step}
 use Rattle.rules.specs.Rounds.{round, begin, Rounds, last, more, same, all-same, Settled, one-more, settle, final-of}
 use Rattle.theorems.specs.Order.{Below}
-use Rattle.theorems.specs.Reach.{Reached, at-first, settling, undecided}
-use Rattle.theorems.proofs.Reach.{round-length, round-keeps, round-settles}
+use Rattle.theorems.specs.Reach.{Reached, at-first, settling, undecided, Final}
+use Rattle.theorems.proofs.Reach.{in-must, round-length, round-keeps, round-settles, decided}
 
 -- Statuses that are the same.
 same-is : (v w : Status) → T (same v w) → v ≡ w
@@ -131,12 +132,24 @@ module _ (b : Block) (p : Step) (given : Numbers) where
   last-reached q (last e) = q
   last-reached q (more {outs = vs} e r) = last-reached (settling q (round-settles b p given vs)) r
 
--- From all outputs unknown: at least 1 round, at most outputs plus 1, and `final-of` computes them.
-pub record Final (b : Block) (st : State) (given : Numbers) : Type 0 where
-  pub ends : Rounds b (step (b .body) st) given (begin b) (final-of b st given .rounds) (final-of b st given .statuses)
-  pub at-least : 1 ≤ final-of b st given .rounds
-  pub at-most : final-of b st given .rounds ≤ suc (b .outputs)
+-- Where a round changes nothing and the code is known, no output is undecided.
+known-weight : (b : Bool) → weight (known b) ≡ 0
+known-weight true = refl
+known-weight false = refl
 
+all-known : (vs : List Status) (f : ℕ → Bool) → ((i : ℕ) → i < length vs → getD vs i unknown ≡ known (f i)) → undecided vs ≡ 0
+unfolding undecided
+all-known [] f h = refl
+all-known (v ∷ vs) f h =
+    let t = all-known vs (λ i. f (suc i)) (λ i l. h (suc i) (suc-le-suc l)) in
+    let z : weight v ≡ 0 = ap weight (h zero (zero-lt-suc (length vs))) ∙ known-weight (f zero) in
+    omega (arith, weighed v vs)
+
+pub none-undecided : (b : Block) (p : Step) (given : Numbers) (vs : List Status) → round b p given vs ≡ vs → (c : ℕ) → T (gives must p (event b given vs) .codes c)
+    → undecided vs ≡ 0
+none-undecided b p given vs e c t = all-known vs (in-must b p given vs) (decided b p given vs e c t)
+
+-- From all outputs unknown.
 pub final : (b : Block) (st : State) (given : Numbers) → Final b st given
 unfolding final-of begin
 final b st given =
