@@ -9,7 +9,7 @@ use Rattle.sets.proofs.Maxima.{maxima-out, downs-out}
 use Rattle.rules.specs.Statements.{code}
 use Rattle.rules.specs.Events.{Status, present, absent, unknown, Event, giving}
 use Rattle.rules.specs.Instant.{Step, done, stay, say, leave, test, catch, scope, chain, beside}
-use Rattle.rules.specs.MustCan.{must, Given, nothing-known, choose, caught, both, followed, absence-asked, settled, hidden, gives}
+use Rattle.rules.specs.MustCan.{must, Given, choose, caught, both, followed, absence-asked, settled, hidden, gives}
 
 pub record OneCode (g : Given) : Type 0 where
   pub equal : (c d : ℕ) → T (g .codes c) → T (g .codes d) → c ≡ d

@@ -1,13 +1,12 @@
 -- Must grows and can shrinks with the event, and can under plus is inside can under open: one induction over the step for event
 -- and mark together. A local's status is known to the second wherever it is known to the first. Assumes nothing.
-use mathlib.Core.Path.{_≡_, refl, subst, subst⁻¹}
+use mathlib.Core.Path.{refl, subst⁻¹}
 use mathlib.Core.Bool.{Bool, true, false, cond, _&&_}
 use Prim.Native.Nat.{ℕ}
 use lib.Dec.{T, eqb}
-use Rattle.sets.proofs.Members.{is-true, is-false, of-false}
 use Rattle.rules.specs.Events.{Status, present, absent, unknown, Event, giving}
 use Rattle.rules.specs.Instant.{Step, done, stay, say, leave, test, catch, scope, chain, beside}
-use Rattle.rules.specs.MustCan.{Mark, plus, opened, Question, must, can, Given, nothing-known, either, in-doubt, choose, onward, asks-must, absence-asked, marked, settled, gives}
+use Rattle.rules.specs.MustCan.{Mark, plus, opened, Question, must, can, Given, in-doubt, choose, onward, asks-must, absence-asked, marked, settled, gives}
 use Rattle.theorems.specs.Order.{Below, _⊑_, Inside}
 use Rattle.theorems.proofs.Forms.{inside-refl, inside-trans, inside-nothing, either-left, either-right, either-inside, caught-inside, hidden-inside, both-inside, followed-inside}
 use Rattle.theorems.proofs.MustInCan.{must-in-can}
@@ -19,14 +18,6 @@ below-refl unknown = tt
 
 pub ⊑-refl : {E : Event} → E ⊑ E
 ⊑-refl {E} = record { at = λ n. below-refl (E n) }
-
-pub below-trans : (u v w : Status) → Below u v → Below v w → Below u w
-below-trans present v w e f = subst (λ (x : Status). Below x w) e f
-below-trans absent v w e f = subst (λ (x : Status). Below x w) e f
-below-trans unknown v w e f = tt
-
-pub ⊑-trans : {E F G : Event} → E ⊑ F → F ⊑ G → E ⊑ G
-⊑-trans {E} {F} {G} h l = record { at = λ n. below-trans (E n) (F n) (G n) (h .at n) (l .at n) }
 
 -- The same signal given statuses that compare.
 pub giving-below : {E F : Event} (s : ℕ) (v w : Status) → E ⊑ F → Below v w → giving E s v ⊑ giving F s w
@@ -107,6 +98,10 @@ marked-below false false true c′ f g h = absurd (g (h tt))
 marked-below false false false true f g h = absurd (g tt)
 marked-below false false false false f g h = refl
 
+-- What is asked for absence compares as the questions do. (Both ask under plus.)
+absence-no-more : {E F : Event} (m n : Mark) → F ⊑ E → Stricter m n → NoMore (absence-asked (can m)) E (absence-asked (can n)) F
+absence-no-more m n h r = for-can plus plus h tt
+
 asks-stricter : (m n : Mark) (b c : Bool) → Stricter m n → (T c → T b) → T (asks-must (can n) && c) → T (asks-must (can m) && b)
 asks-stricter plus plus b c r f t = f t
 asks-stricter plus opened b c r f t = absurd t
@@ -139,7 +134,7 @@ scope-no-more {E = E} {F = F} s p f (for-can m n h r) =
     for-can m n (giving-below s (status-of (can n) s p F) (status-of (can m) s p E) h
     (marked-below (asks-must (can n) && mf) cf (asks-must (can m) && me) ce
     (asks-stricter m n me mf r (f must must (giving F s unknown) (giving E s unknown) (for-must d) .of-signals .at s))
-    (f (can plus) (can plus) (giving E s unknown) (giving F s unknown) (for-can plus plus d tt) .of-signals .at s)
+    (f (absence-asked (can m)) (absence-asked (can n)) (giving E s unknown) (giving F s unknown) (absence-no-more m n d r) .of-signals .at s)
     (asks-within m me ce (must-in-can p (giving E s unknown) .of-signals .at s))))
     r
 

@@ -3,19 +3,19 @@
 -- other way round. Assumes nothing.
 use mathlib.Core.Path.{_≡_, refl, sym, _∙_, ap, ap₂, subst, subst⁻¹}
 use mathlib.Core.Logic.{_⊎_, inl, inr, _≢_}
-use mathlib.Core.Bool.{Bool, true, false, cond, _&&_, _||_}
-use mathlib.Core.List.{List, [], _∷_, _++_}
-use Prim.Native.Nat.{ℕ, zero, suc, _+_, _≤_, _<_, max}
-use native.Mathlib.Omega.{arith}
-use lib.Dec.{T, eqb, eqb→eq}
+use mathlib.Core.Bool.{Bool, false, cond, _||_}
+use mathlib.Core.List.{List, _++_}
+use Prim.Native.Nat.{ℕ, _+_, max}
+use lib.Dec.{T, eqb}
 use lib.ListN.{length}
-use Rattle.sets.specs.Numbers.{Numbers, empty, single, union, only-if, down, listed}
-use Rattle.sets.proofs.Members.{is-true, is-false, eqb-in, and-in, and-left, and-right, or-left, or-right, or-out, single-out, union-out, only-if-member, Within, within-refl, within-only-if}
+use Rattle.sets.specs.Numbers.{Numbers, empty, single, union, down, listed}
+use Rattle.sets.proofs.Members.{is-true, is-false, and-in, and-left, and-right, or-left, or-right, single-out, union-out, Within, within-only-if}
 use Rattle.sets.proofs.Counts.{listed-append}
 use Rattle.rules.specs.Statements.{Depth, Stmt, nothing, pause, emit, present?_then_else_, suspend_on_, _⨾_, loop, _parallel_, trap, exit, local, pauses, from, Numbered}
 use Rattle.rules.specs.Instant.{Step, done, stay, say, leave, test, catch, scope, chain, beside, active, held, started, resumed}
 use Rattle.rules.specs.States.{holds-both, lowest-above, is-parallel, compatible}
-use Rattle.rules.specs.Coherence.{Locals, Execution, assigning, run-on, execute}
+use Rattle.rules.specs.Coherence.{Locals, Execution, assigning, execute}
+use Rattle.theorems.proofs.Cases.{by-test, by-first}
 use Rattle.theorems.proofs.Numbering.{split-from, apart}
 
 -- A set of a statement's pauses, any two of them compatible.
@@ -130,17 +130,9 @@ keeps-leave : (p : Stmt) (d : Depth) → KeepsIn p (leave d)
 unfolding execute
 keeps-leave p d = record { fits = λ l W. fits-none }
 
-keeps-cond : {p : Stmt} (z : Bool) {S S′ : Step} → KeepsIn p S → KeepsIn p S′ → KeepsIn p (cond z S S′)
-keeps-cond true f g = f
-keeps-cond false f g = g
-
-cond-fits : {p : Stmt} (z : Bool) (r s : Execution) → Fits p (r .keeps) → Fits p (s .keeps) → Fits p (cond z r s .keeps)
-cond-fits true r s f g = f
-cond-fits false r s f g = g
-
 keeps-test : {p : Stmt} (s : ℕ) {S S′ : Step} → KeepsIn p S → KeepsIn p S′ → KeepsIn p (test s S S′)
 unfolding execute
-keeps-test s {S} {S′} f g = record { fits = λ l W. cond-fits (W s) (execute S (l .0) W) (execute S′ (l .1) W) (f .fits (l .0) W) (g .fits (l .1) W) }
+keeps-test {p} s {S} {S′} f g = record { fits = λ l W. by-test (λ (r : Execution). Fits p (r .keeps)) (W s) (execute S (l .0) W) (execute S′ (l .1) W) (λ t. f .fits (l .0) W) (λ e. g .fits (l .1) W) }
 
 keeps-catch : {p : Stmt} {S : Step} → KeepsIn p S → KeepsIn p (catch S)
 unfolding execute
@@ -152,12 +144,8 @@ keeps-scope s f = record { fits = λ l W. f .fits (l .1) (assigning W s (l .0)) 
 
 keeps-chain : {p : Stmt} {S S′ : Step} → KeepsIn p S → KeepsIn p S′ → KeepsIn p (chain S S′)
 unfolding execute
-keeps-chain {S = S} {S′ = S′} f g = record {
-  fits = λ l W.
-      let a = execute S (l .0) W in
-      let b = execute S′ (l .1) W in
-      cond-fits (eqb (a .completes) 0) (record { emitted = union (a .emitted) (b .emitted); completes = b .completes; keeps = b .keeps }) a
-      (g .fits (l .1) W) (f .fits (l .0) W);
+keeps-chain {p} {S} {S′} f g = record {
+  fits = λ l W. by-first (λ (r : Execution). Fits p (r .keeps)) (execute S (l .0) W) (execute S′ (l .1) W) (λ t. g .fits (l .1) W) (λ e. f .fits (l .0) W);
 }
 
 keeps-beside : {p q : Stmt} {S S′ : Step} → TwoParts (p parallel q) p q → KeepsIn p S → KeepsIn q S′ → KeepsIn (p parallel q) (beside S S′)
@@ -298,24 +286,26 @@ keeps-resumed A (pause n) i h a = keeps-done (pause n)
 keeps-resumed A (emit s) i h a = keeps-done (emit s)
 keeps-resumed A (present? s then p else q) i h a =
     let v = present-halves i s p q h in
-    keeps-cond (active A p) (keeps-one (v .two) (keeps-resumed A p i (v .first) (agrees-one (v .two) a)))
-    (keeps-other (v .two) (keeps-resumed A q (i + length (pauses p)) (v .second) (agrees-other (v .two) a)))
+    by-test (KeepsIn (present? s then p else q)) (active A p) (resumed A p) (resumed A q)
+    (λ t. keeps-one (v .two) (keeps-resumed A p i (v .first) (agrees-one (v .two) a)))
+    (λ e. keeps-other (v .two) (keeps-resumed A q (i + length (pauses p)) (v .second) (agrees-other (v .two) a)))
 keeps-resumed A (suspend p on s) i h a =
     let b = agrees-part (part-suspend p s) a in
     keeps-part (part-suspend p s) (keeps-test s (keeps-held A p b) (keeps-resumed A p i (numbered-part i (part-suspend p s) h) b))
 keeps-resumed A (p ⨾ q) i h a =
     let v = sequence-halves i p q h in
-    keeps-cond (active A p)
-    (keeps-chain (keeps-one (v .two) (keeps-resumed A p i (v .first) (agrees-one (v .two) a)))
+    by-test (KeepsIn (p ⨾ q)) (active A p) (chain (resumed A p) (started q)) (resumed A q)
+    (λ t. keeps-chain (keeps-one (v .two) (keeps-resumed A p i (v .first) (agrees-one (v .two) a)))
     (keeps-other (v .two) (keeps-started q (i + length (pauses p)) (v .second))))
-    (keeps-other (v .two) (keeps-resumed A q (i + length (pauses p)) (v .second) (agrees-other (v .two) a)))
+    (λ e. keeps-other (v .two) (keeps-resumed A q (i + length (pauses p)) (v .second) (agrees-other (v .two) a)))
 keeps-resumed A (loop p) i h a =
     let n = numbered-part i (part-loop p) h in
     keeps-part (part-loop p) (keeps-chain (keeps-resumed A p i n (agrees-part (part-loop p) a)) (keeps-started p i n))
 keeps-resumed A (p parallel q) i h a =
     let v = parallel-halves i p q h in
-    keeps-beside (v .two) (keeps-cond (active A p) (keeps-resumed A p i (v .first) (agrees-one (v .two) a)) (keeps-done p))
-    (keeps-cond (active A q) (keeps-resumed A q (i + length (pauses p)) (v .second) (agrees-other (v .two) a)) (keeps-done q))
+    keeps-beside (v .two)
+    (by-test (KeepsIn p) (active A p) (resumed A p) done (λ t. keeps-resumed A p i (v .first) (agrees-one (v .two) a)) (λ e. keeps-done p))
+    (by-test (KeepsIn q) (active A q) (resumed A q) done (λ t. keeps-resumed A q (i + length (pauses p)) (v .second) (agrees-other (v .two) a)) (λ e. keeps-done q))
 keeps-resumed A (trap p) i h a =
     keeps-catch (keeps-part (part-trap p) (keeps-resumed A p i (numbered-part i (part-trap p) h) (agrees-part (part-trap p) a)))
 keeps-resumed A (exit d) i h a = keeps-done (exit d)

@@ -3,26 +3,26 @@
 use mathlib.Core.Path.{_≡_}
 use mathlib.Core.Logic.{_↔_}
 use mathlib.Core.Bool.{Bool}
-use mathlib.Core.List.{List, map}
-use Prim.Native.Nat.{ℕ, _+_, _<_}
+use mathlib.Core.List.{List}
+use Prim.Native.Nat.{ℕ, _<_}
 use lib.Dec.{T}
 use lib.ListN.{length, getD}
 use Rattle.sets.specs.Numbers.{Numbers}
 use Rattle.sets.proofs.Members.{Within}
-use Rattle.rules.specs.Statements.{Block, Stmt, loop, Numbered}
-use Rattle.rules.specs.Events.{Status, unknown, Event, known, event}
+use Rattle.rules.specs.Statements.{Block, Stmt, loop}
+use Rattle.rules.specs.Events.{Status, unknown, Event, event}
 use Rattle.rules.specs.Instant.{Step, started}
 use Rattle.rules.specs.MustCan.{Mark, plus, opened, Question, must, can, gives}
 use Rattle.rules.specs.Loops.{codes-of, loops-pass}
 use Rattle.rules.specs.States.{State, step, Legal, kept, next}
-use Rattle.rules.specs.Rounds.{round, begin, Rounds, Answer, answered, not-constructive, react}
+use Rattle.rules.specs.Rounds.{round, begin, Rounds, final-of, Answer, answered, not-constructive, react}
 use Rattle.rules.specs.Coherence.{Locals, execute, LocalsAgree, world, Coherent}
 use Rattle.rules.proofs.OneCode.{one-code}
 use Rattle.theorems.specs.Order.{Below, _⊑_, whole, Inside, Between}
-use Rattle.theorems.specs.Reach.{Reached, undecided, Final}
-use Rattle.theorems.specs.Reactions.{Some, is-present, SameReaction, OnlyReaction}
+use Rattle.theorems.specs.Reach.{Reached, at-first, undecided, Final}
+use Rattle.theorems.specs.Reactions.{Some, OnlyReaction}
 use Rattle.theorems.specs.Checked.{Checked, Part, NeverZero, ZeroOrOne}
-use Rattle.theorems.specs.Traces.{InputSet, Instant, after, Trace}
+use Rattle.theorems.specs.Traces.{InputSet, Instant, Trace}
 use Rattle.theorems.specs.Demand.{NeverStuck}
 use Rattle.theorems.proofs.MustInCan.{must-in-can}
 use Rattle.theorems.proofs.Compare.{must-grows, can-shrinks, plus-in-opened}
@@ -30,11 +30,11 @@ use Rattle.theorems.proofs.Exact.{exact}
 use Rattle.theorems.proofs.Sound.{sound}
 use Rattle.theorems.proofs.Reach.{round-keeps, same-end}
 use Rattle.theorems.proofs.RoundsEnd.{rounds-unique, last-unchanged, last-reached, final, none-undecided}
-use Rattle.theorems.proofs.Reaction.{coherent-above, coherent-between, coherent-unique, computed-coherent}
+use Rattle.theorems.proofs.Reaction.{coherent-between}
 use Rattle.theorems.proofs.LoopCodes.{given-codes, run-codes, loop-body-never-zero}
 use Rattle.theorems.proofs.Traps.{root-codes}
 use Rattle.theorems.proofs.NextLegal.{run-keeps-at-one, run-next-legal, computed-keeps-at-one, computed-next-legal}
-use Rattle.theorems.proofs.Instants.{one-answer, never-both, reacts, after-legal, answer-only}
+use Rattle.theorems.proofs.Instants.{one-answer, never-both, reacts, answer-only}
 use Rattle.theorems.proofs.Traces.{run-not-stuck, never-stuck}
 
 -- "A block that passes the check never gets stuck." The whole of the demand, over every run: exactly one run over every list of declared
@@ -99,6 +99,10 @@ rounds-end = final
 pub rounds-are-determined : (b : Block) (p : Step) (given : Numbers) {vs ws us : List Status} {m n : ℕ} → Rounds b p given vs m ws → Rounds b p given vs n us → (m ≡ n) × (ws ≡ us)
 rounds-are-determined b p given = rounds-unique b p given
 
+pub final-of-computes-their-only-end : (b : Block) (st : State) (given : Numbers) {vs : List Status} {n : ℕ} → Rounds b (step (b .body) st) given (begin b) n vs
+    → (n ≡ final-of b st given .rounds) × (vs ≡ final-of b st given .statuses)
+final-of-computes-their-only-end b st given r = rounds-unique b (step (b .body) st) given r (final b st given .ends)
+
 pub the-last-round-changes-nothing : (b : Block) (p : Step) (given : Numbers) {vs ws : List Status} {n : ℕ} → Rounds b p given vs n ws → round b p given ws ≡ ws
 the-last-round-changes-nothing b p given = last-unchanged b p given
 
@@ -109,6 +113,9 @@ a-decided-output-keeps-its-status b p given = round-keeps b p given
 pub a-known-code-leaves-none-undecided : (b : Block) (p : Step) (given : Numbers) {vs : List Status} {n : ℕ} → Rounds b p given (begin b) n vs
     → (c : ℕ) → T (gives must p (event b given vs) .codes c) → undecided vs ≡ 0
 a-known-code-leaves-none-undecided b p given {vs} r = none-undecided b p given vs (last-unchanged b p given r)
+
+pub rounds-are-one-order-of-settling : (b : Block) (p : Step) (given : Numbers) {vs : List Status} {n : ℕ} → Rounds b p given (begin b) n vs → Reached b p given vs
+rounds-are-one-order-of-settling b p given r = last-reached b p given at-first r
 
 pub any-order-of-settling-ends-alike : (b : Block) (p : Step) (given : Numbers) {vs ws : List Status} → Reached b p given vs → Reached b p given ws
     → round b p given vs ≡ vs → round b p given ws ≡ ws → vs ≡ ws

@@ -1,17 +1,17 @@
 -- The codes of a step with every signal, locals too, held unknown, bound what must and can give at any event under any mark and what
 -- any execution completes with: by induction over the step. Assumes nothing.
-use mathlib.Core.Path.{_≡_, refl, sym, subst, subst⁻¹}
-use mathlib.Core.Bool.{Bool, true, false, cond}
-use Prim.Native.Nat.{ℕ, max}
-use lib.Dec.{T, eqb, eqb→eq, eqb-refl}
-use Rattle.sets.specs.Numbers.{Numbers, single, union, without, only-if, maxima, down, downs}
-use Rattle.sets.proofs.Members.{of-true, of-false, eqb-in, union-left, union-right, without-in, only-if-in, Within, within-refl, within-trans, within-empty, within-left, within-right, union-mono, without-mono, only-if-mono, maxima-mono, downs-mono}
+use mathlib.Core.Path.{subst}
+use Prim.Native.Nat.{ℕ}
+use lib.Dec.{T, eqb→eq, eqb-refl}
+use Rattle.sets.specs.Numbers.{Numbers, single, union, without, only-if, maxima, downs}
+use Rattle.sets.proofs.Members.{of-false, eqb-in, union-left, union-right, without-in, only-if-in, Within, within-refl, within-trans, within-empty, within-left, within-right, union-mono, without-mono, only-if-mono, maxima-mono, downs-mono}
 use Rattle.sets.proofs.Maxima.{maxima-in, downs-in}
 use Rattle.rules.specs.Statements.{code}
 use Rattle.rules.specs.Events.{Status, present, absent, unknown, Event, giving}
 use Rattle.rules.specs.Instant.{Step, done, stay, say, leave, test, catch, scope, chain, beside}
 use Rattle.rules.specs.MustCan.{Question, must, can, Given, in-doubt, choose, onward, absence-asked, settled, gives}
 use Rattle.rules.specs.Coherence.{Locals, Execution, assigning, run-on, execute}
+use Rattle.theorems.proofs.Cases.{by-test, by-first}
 
 -- One after the other.
 abbrev pub codes-after : Numbers → Numbers → Numbers
@@ -53,19 +53,10 @@ given-ends k (scope s p) E =
 given-ends k (chain p q) E = codes-after-mono (given-ends k p E) (given-ends (onward k (gives must p E .codes 0)) q E)
 given-ends k (beside p q) E = maxima-mono (given-ends k p E) (given-ends k q E)
 
-cond-ends : (z : Bool) (a b : Numbers) (r s : Execution) → T (a (r .completes)) → T (b (s .completes)) → T (union a b (cond z r s .completes))
-cond-ends true a b r s f g = union-left a b (r .completes) f
-cond-ends false a b r s f g = union-right a b (s .completes) g
-
 run-on-ends : (a b : Numbers) (r s : Execution) → T (a (r .completes)) → T (b (s .completes)) → T (codes-after a b (run-on r s .completes))
-run-on-ends a b r s f g = go (eqb (r .completes) 0) refl
-  where
-    go : (z : Bool) → eqb (r .completes) 0 ≡ z
-        → T (codes-after a b (cond z (record { emitted = union (r .emitted) (s .emitted); completes = s .completes; keeps = s .keeps }) r .completes))
-    go true e =
-        union-right (without 0 a) (only-if (a 0) b) (s .completes)
-        (only-if-in (a 0) b (s .completes) (subst (λ (n : ℕ). T (a n)) (eqb→eq (r .completes) 0 (of-true e)) f) g)
-    go false e = union-left (without 0 a) (only-if (a 0) b) (r .completes) (without-in 0 a (r .completes) f (λ z. of-false e (eqb-in z)))
+run-on-ends a b r s f g = by-first (λ (x : Execution). T (codes-after a b (x .completes))) r s
+    (λ t. union-right (without 0 a) (only-if (a 0) b) (s .completes) (only-if-in (a 0) b (s .completes) (subst (λ (n : ℕ). T (a n)) (eqb→eq (r .completes) 0 t) f) g))
+    (λ e. union-left (without 0 a) (only-if (a 0) b) (r .completes) (without-in 0 a (r .completes) f (λ z. of-false e (eqb-in z))))
 
 pub run-ends : (p : Step) (l : Locals p) (W : Numbers) → T (ends p (execute p l W .completes))
 unfolding ends execute
@@ -73,8 +64,9 @@ run-ends done l W = tt
 run-ends (stay A) l W = tt
 run-ends (say s) l W = tt
 run-ends (leave d) l W = eqb-refl (code d)
-run-ends (test s p q) l W =
-    cond-ends (W s) (ends p) (ends q) (execute p (l .0) W) (execute q (l .1) W) (run-ends p (l .0) W) (run-ends q (l .1) W)
+run-ends (test s p q) l W = by-test (λ (r : Execution). T (union (ends p) (ends q) (r .completes))) (W s) (execute p (l .0) W) (execute q (l .1) W)
+    (λ t. union-left (ends p) (ends q) (execute p (l .0) W .completes) (run-ends p (l .0) W))
+    (λ e. union-right (ends p) (ends q) (execute q (l .1) W .completes) (run-ends q (l .1) W))
 run-ends (catch p) l W = downs-in (ends p) (execute p l W .completes) (run-ends p l W)
 run-ends (scope s p) l W = run-ends p (l .1) (assigning W s (l .0))
 run-ends (chain p q) l W = run-on-ends (ends p) (ends q) (execute p (l .0) W) (execute q (l .1) W) (run-ends p (l .0) W) (run-ends q (l .1) W)

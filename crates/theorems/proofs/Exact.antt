@@ -1,6 +1,6 @@
 -- Where must has a code, can under plus gives nothing more: by induction over the step. With a code known each test on the way is
 -- decided, and the first of a sequence has either 0 and no other code, or another and no 0. Assumes nothing.
-use mathlib.Core.Path.{_≡_, sym, subst}
+use mathlib.Core.Path.{_≡_}
 use mathlib.Core.Logic.{_⊎_, inl, inr}
 use mathlib.Core.Bool.{Bool, true, false}
 use Prim.Native.Nat.{ℕ}

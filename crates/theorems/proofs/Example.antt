@@ -1,15 +1,12 @@
 -- Blocks to which all of demand 3 applies: one with a loop, an exit and a parallel, and one that is refused and then goes on. By
 -- computation. Assumes nothing.
 use mathlib.Core.Path.{_≡_, refl}
-use mathlib.Core.Bool.{Bool}
 use mathlib.Core.List.{List, [], _∷_, map}
-use Prim.Native.Nat.{ℕ, _<_}
+use Prim.Native.Nat.{ℕ}
 use native.Mathlib.Omega.{arith}
-use lib.Dec.{T}
-use lib.ListN.{length}
-use Rattle.sets.specs.Numbers.{Numbers, empty, single, members, some-to, maxima, down, downs, lowest, listed}
+use Rattle.sets.specs.Numbers.{empty, single, members, some-to, maxima, down, downs, lowest, listed}
 use Rattle.sets.proofs.Members.{single-out}
-use Rattle.rules.specs.Statements.{Block, depth, code, Stmt, nothing, pause, emit, present?_then_else_, _⨾_, loop, _parallel_, trap, exit, pauses, from, Numbered, Trapped}
+use Rattle.rules.specs.Statements.{Block, depth, code, nothing, pause, emit, present?_then_else_, _⨾_, loop, _parallel_, trap, exit, pauses, from, Numbered, Trapped}
 use Rattle.rules.specs.Events.{Status, present, absent, unknown, event}
 use Rattle.rules.specs.Instant.{any, active, held, started, resumed}
 use Rattle.rules.specs.MustCan.{gives}

@@ -1,11 +1,10 @@
 -- Each form of a step keeps inclusion: the laws of sets, once for signals and once for codes. Assumes nothing.
-use mathlib.Core.Path.{_≡_, subst}
-use mathlib.Core.Logic.{_⊎_, inl, inr}
-use mathlib.Core.Bool.{Bool, true, false}
+use mathlib.Core.Path.{_≡_}
+use mathlib.Core.Bool.{Bool}
 use Prim.Native.Nat.{ℕ}
 use lib.Dec.{T}
-use Rattle.sets.specs.Numbers.{Numbers, empty, union, only-if}
-use Rattle.sets.proofs.Members.{Within, within-refl, within-trans, within-antisym, within-empty, within-left, within-right, union-least, union-mono, without-mono, only-if-mono, only-if-in, only-if-test, only-if-member, maxima-mono, downs-mono}
+use Rattle.sets.specs.Numbers.{Numbers, only-if}
+use Rattle.sets.proofs.Members.{Within, within-refl, within-trans, within-antisym, within-empty, within-left, within-right, union-mono, without-mono, only-if-in, only-if-test, only-if-member, maxima-mono, downs-mono}
 use Rattle.rules.specs.MustCan.{Given, nothing-known, either, caught, both, followed, hidden}
 use Rattle.theorems.specs.Order.{Inside}
 
@@ -29,9 +28,6 @@ either-left a b = record { of-signals = within-left (a .signals) (b .signals); o
 
 pub either-right : (a b : Given) → Inside b (either a b)
 either-right a b = record { of-signals = within-right (a .signals) (b .signals); of-codes = within-right (a .codes) (b .codes) }
-
-pub either-least : {a b c : Given} → Inside a c → Inside b c → Inside (either a b) c
-either-least f g = record { of-signals = union-least (f .of-signals) (g .of-signals); of-codes = union-least (f .of-codes) (g .of-codes) }
 
 pub either-inside : {a b c d : Given} → Inside a b → Inside c d → Inside (either a c) (either b d)
 either-inside f g = record { of-signals = union-mono (f .of-signals) (g .of-signals); of-codes = union-mono (f .of-codes) (g .of-codes) }

@@ -1,11 +1,10 @@
 -- One instant has exactly one answer, and `react` computes it: the rounds and their end are determined, must has at most one code, and
 -- a checked block's codes lie within the width that is looked at. Assumes nothing.
-use mathlib.Core.Path.{_≡_, refl, sym, _∙_, ap, ap₂, subst, subst⁻¹}
+use mathlib.Core.Path.{_≡_, refl, subst, subst⁻¹}
 use mathlib.Core.Logic.{_⊎_, inl, inr}
-use mathlib.Core.Bool.{Bool, true, false}
-use mathlib.Core.List.{List, map}
+use mathlib.Core.List.{List}
 use mathlib.Core.Option.{Option, none, some}
-use Prim.Native.Nat.{ℕ, suc, _≤_, _<_}
+use Prim.Native.Nat.{ℕ, _<_}
 use native.Mathlib.Omega.{arith}
 use lib.Dec.{T}
 use Rattle.sets.specs.Numbers.{Numbers, lowest}
@@ -14,8 +13,7 @@ use Rattle.rules.specs.Statements.{Block}
 use Rattle.rules.specs.Events.{Status, Event, event}
 use Rattle.rules.specs.MustCan.{must, gives}
 use Rattle.rules.specs.States.{State, step, Legal, kept, next}
-use Rattle.rules.specs.Rounds.{begin, Rounds, Settled, final-of, Answer, answered, not-constructive, code-width, answer, react}
-use Rattle.rules.specs.Coherence.{Coherent}
+use Rattle.rules.specs.Rounds.{final-of, Answer, answered, not-constructive, code-width, answer, react}
 use Rattle.rules.proofs.OneCode.{one-code}
 use Rattle.theorems.specs.Checked.{Checked}
 use Rattle.theorems.specs.Reach.{at-first}

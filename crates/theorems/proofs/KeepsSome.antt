@@ -1,20 +1,21 @@
 -- Code 1 exactly when something is kept: whatever stays in a started statement, or in one resumed with an active pause, stays with at
 -- least one pause, and an execution with code 1 has come to such a place; by induction. Assumes nothing.
-use mathlib.Core.Path.{_≡_, refl, sym, _∙_, ap, subst, subst⁻¹}
+use mathlib.Core.Path.{_≡_, refl, sym, _∙_, subst}
 use mathlib.Core.Logic.{_⊎_, inl, inr}
-use mathlib.Core.Bool.{Bool, true, false, cond, _||_}
+use mathlib.Core.Bool.{Bool, false, cond, _||_}
 use mathlib.Core.List.{List, [], _∷_, _++_}
-use Prim.Native.Nat.{ℕ, zero, suc, _+_, _≤_, _<_, max}
+use Prim.Native.Nat.{ℕ, zero, suc, _≤_, max}
 use native.Mathlib.Nat.{le-of-lt, lt-of-not-le, max-eq-left, max-eq-right}
 use native.Mathlib.Decide.{decLe}
 use native.Mathlib.Omega.{arith}
 use lib.Dec.{T, eqb, eqb-refl}
-use Rattle.sets.specs.Numbers.{Numbers, empty, single, union, only-if, down, listed}
-use Rattle.sets.proofs.Members.{of-true, cases, or-left, or-right, or-out, and-in, eqb-in, union-left, union-right, only-if-in}
+use Rattle.sets.specs.Numbers.{Numbers, union, only-if, down, listed}
+use Rattle.sets.proofs.Members.{of-false, or-left, or-right, or-out, and-in, eqb-in, union-left, union-right, only-if-in}
 use Rattle.rules.specs.Statements.{Depth, depth, code, Stmt, nothing, pause, emit, present?_then_else_, suspend_on_, _⨾_, loop, _parallel_, trap, exit, local, pauses}
 use Rattle.rules.specs.Instant.{Step, done, stay, say, leave, test, catch, scope, chain, beside, any, active, held, started, resumed}
 use Rattle.rules.specs.Coherence.{Locals, Execution, assigning, execute}
 use Rattle.theorems.specs.Reactions.{Some}
+use Rattle.theorems.proofs.Cases.{by-test, by-first}
 
 -- Every `stay` of a step keeps some pause.
 abbrev pub Stays : Step → Type 0
@@ -76,13 +77,11 @@ stays-started (local s p) = stays-started p
 
 -- One of two parts is active: the first is resumed if it is, and else the second.
 one-resumed : (z : Bool) {B : Type 0} (p q : Step) → T z ⊎ B → (T z → Stays p) → (B → Stays q) → Stays (cond z p q)
-one-resumed true p q h f g = f tt
-one-resumed false p q (inl t) f g = absurd t
-one-resumed false p q (inr b) f g = g b
-
-arm-resumed : (z : Bool) (p : Step) → (T z → Stays p) → Stays (cond z p done)
-arm-resumed true p f = f tt
-arm-resumed false p f = tt
+one-resumed z {B} p q h f g = by-test Stays z p q f (λ e. other h e)
+  where
+    other : T z ⊎ B → z ≡ false → Stays q
+    other (inl t) e = absurd (of-false e t)
+    other (inr b) e = g b
 
 pub stays-resumed : (A : Numbers) (p : Stmt) → T (active A p) → Stays (resumed A p)
 unfolding resumed active any pauses held
@@ -99,7 +98,7 @@ stays-resumed A (p ⨾ q) h =
     (λ t. (stays-resumed A p t, stays-started q)) (stays-resumed A q)
 stays-resumed A (loop p) h = (stays-resumed A p h, stays-started p)
 stays-resumed A (p parallel q) h =
-    (arm-resumed (active A p) (resumed A p) (stays-resumed A p), arm-resumed (active A q) (resumed A q) (stays-resumed A q))
+    (by-test Stays (active A p) (resumed A p) done (stays-resumed A p) (λ e. tt), by-test Stays (active A q) (resumed A q) done (stays-resumed A q) (λ e. tt))
 stays-resumed A (trap p) h = stays-resumed A p h
 stays-resumed A (exit d) h = tt
 stays-resumed A (local s p) h = stays-resumed A p h
@@ -110,15 +109,6 @@ pub record KeepsSome (r : Execution) : Type 0 where
 
 other-code : {r : Execution} → (r .completes ≡ 1 → ⊥) → KeepsSome r
 other-code f = record { some-kept = λ e. absurd (f e) }
-
-cond-some : (z : Bool) {r s : Execution} → KeepsSome r → KeepsSome s → KeepsSome (cond z r s)
-cond-some true f g = f
-cond-some false f g = g
-
-run-on-some : (z : Bool) {r s : Execution} (e : Numbers) → KeepsSome r → KeepsSome s
-    → KeepsSome (cond z (record { emitted = e; completes = s .completes; keeps = s .keeps }) r)
-run-on-some true e f g = record { some-kept = g .some-kept }
-run-on-some false e f g = f
 
 down-is-one : (c : ℕ) → down c ≡ 1 → c ≡ 1
 unfolding down
@@ -155,7 +145,7 @@ run-keeps-some done s l W = other-code (λ e. omega arith)
 run-keeps-some (stay A) s l W = record { some-kept = λ e. s }
 run-keeps-some (say n) s l W = other-code (λ e. omega arith)
 run-keeps-some (leave d) s l W = other-code (exit-code d)
-run-keeps-some (test n p q) s l W = cond-some (W n) (run-keeps-some p (s .0) (l .0) W) (run-keeps-some q (s .1) (l .1) W)
+run-keeps-some (test n p q) s l W = by-test KeepsSome (W n) (execute p (l .0) W) (execute q (l .1) W) (λ t. run-keeps-some p (s .0) (l .0) W) (λ e. run-keeps-some q (s .1) (l .1) W)
 run-keeps-some (catch p) s l W =
     let r = execute p l W in
     record {
@@ -163,9 +153,7 @@ run-keeps-some (catch p) s l W =
     }
 run-keeps-some (scope n p) s l W = record { some-kept = run-keeps-some p s (l .1) (assigning W n (l .0)) .some-kept }
 run-keeps-some (chain p q) s l W =
-    let a = execute p (l .0) W in
-    let b = execute q (l .1) W in
-    run-on-some (eqb (a .completes) 0) (union (a .emitted) (b .emitted)) (run-keeps-some p (s .0) (l .0) W) (run-keeps-some q (s .1) (l .1) W)
+    by-first KeepsSome (execute p (l .0) W) (execute q (l .1) W) (λ t. record { some-kept = run-keeps-some q (s .1) (l .1) W .some-kept }) (λ e. run-keeps-some p (s .0) (l .0) W)
 run-keeps-some (beside p q) s l W =
     let a = execute p (l .0) W in
     let b = execute q (l .1) W in

@@ -1,21 +1,22 @@
 -- What an execution keeps is what the rules keep, wherever must has a code: by induction over the step. Nothing is kept with a
 -- code other than 1, so the tests for 1 on both sides change nothing. Assumes nothing.
-use mathlib.Core.Path.{_≡_, refl, sym, _∙_, ap, ap₂, subst, subst⁻¹}
+use mathlib.Core.Path.{_≡_, refl, sym, _∙_, ap₂, subst, subst⁻¹}
 use mathlib.Core.Logic.{_⊎_, inl, inr}
 use mathlib.Core.Bool.{Bool, true, false, cond}
 use Prim.Native.Nat.{ℕ, max}
 use native.Mathlib.Omega.{arith}
-use lib.Dec.{T, eqb, eqb→eq, eqb-refl}
-use Rattle.sets.specs.Numbers.{Numbers, empty, union, without, only-if, maxima, down, downs}
-use Rattle.sets.proofs.Members.{same, is-true, is-false, eqb-in, eqb-not, single-out, union-left, union-right, union-out, without-in, only-if-in, only-if-test, only-if-member, ext-T}
-use Rattle.sets.proofs.Maxima.{maxima-in, maxima-out, downs-in, downs-out}
+use lib.Dec.{T, eqb, eqb→eq}
+use Rattle.sets.specs.Numbers.{Numbers, union, without, only-if, maxima, down, downs}
+use Rattle.sets.proofs.Members.{same, of-false, eqb-in, union-left, union-right, union-out, without-in, only-if-in, only-if-test, only-if-member, ext-T}
+use Rattle.sets.proofs.Maxima.{maxima-in, maxima-out, downs-out}
 use Rattle.rules.specs.Events.{Status, present, absent, unknown, Event, giving, known}
 use Rattle.rules.specs.Instant.{Step, done, stay, say, leave, test, catch, scope, chain, beside}
-use Rattle.rules.specs.MustCan.{plus, must, can, Given, choose, followed, gives}
+use Rattle.rules.specs.MustCan.{must, Given, choose, followed, gives}
 use Rattle.rules.specs.States.{executed-as, kept-by, kept}
 use Rattle.rules.specs.Coherence.{Locals, Execution, assigning, run-on, execute, LocalsAgree}
 use Rattle.rules.proofs.OneCode.{OneCode, one-code}
-use Rattle.theorems.specs.Order.{Below, _⊑_, whole, Between}
+use Rattle.theorems.specs.Order.{Below, _⊑_, whole}
+use Rattle.theorems.proofs.Cases.{by-test, by-first}
 use Rattle.theorems.proofs.Exact.{FirstOrBoth, only-first, then-second, first-or-both}
 use Rattle.theorems.proofs.Sound.{not-both, giving-whole, executed-below, if-so, sound, code-of-run}
 
@@ -23,30 +24,19 @@ use Rattle.theorems.proofs.Sound.{not-both, giving-whole, executed-belo
 pub record KeepsAtOne (r : Execution) : Type 0 where
   pub code-is-1 : (n : ℕ) → T (r .keeps n) → r .completes ≡ 1
 
-cond-at-one : (b : Bool) {r s : Execution} → KeepsAtOne r → KeepsAtOne s → KeepsAtOne (cond b r s)
-cond-at-one true f g = f
-cond-at-one false f g = g
-
-chain-at-one : (b : Bool) {r : Execution} (s : Execution) (e : Numbers) → KeepsAtOne r → KeepsAtOne s
-    → KeepsAtOne (cond b (record { emitted = e; completes = s .completes; keeps = s .keeps }) r)
-chain-at-one true s e f g = record { code-is-1 = g .code-is-1 }
-chain-at-one false s e f g = f
-
 pub executed-at-one : (p : Step) (l : Locals p) (W : Numbers) → KeepsAtOne (execute p l W)
 unfolding execute
 executed-at-one done l W = record { code-is-1 = λ n t. absurd t }
 executed-at-one (stay A) l W = record { code-is-1 = λ n t. refl }
 executed-at-one (say s) l W = record { code-is-1 = λ n t. absurd t }
 executed-at-one (leave d) l W = record { code-is-1 = λ n t. absurd t }
-executed-at-one (test s p q) l W = cond-at-one (W s) (executed-at-one p (l .0) W) (executed-at-one q (l .1) W)
+executed-at-one (test s p q) l W = by-test KeepsAtOne (W s) (execute p (l .0) W) (execute q (l .1) W) (λ t. executed-at-one p (l .0) W) (λ e. executed-at-one q (l .1) W)
 executed-at-one (catch p) l W =
     let c = down (execute p l W .completes) in
     record { code-is-1 = λ n t. eqb→eq c 1 (only-if-test (eqb c 1) (execute p l W .keeps) n t) }
 executed-at-one (scope s p) l W = record { code-is-1 = executed-at-one p (l .1) (assigning W s (l .0)) .code-is-1 }
 executed-at-one (chain p q) l W =
-    let a = execute p (l .0) W in
-    let b = execute q (l .1) W in
-    chain-at-one (eqb (a .completes) 0) b (union (a .emitted) (b .emitted)) (executed-at-one p (l .0) W) (executed-at-one q (l .1) W)
+    by-first KeepsAtOne (execute p (l .0) W) (execute q (l .1) W) (λ t. record { code-is-1 = executed-at-one q (l .1) W .code-is-1 }) (λ e. executed-at-one p (l .0) W)
 executed-at-one (beside p q) l W =
     let a = execute p (l .0) W in
     let b = execute q (l .1) W in
@@ -145,13 +135,11 @@ module _ (p q : Step) (E : Event) where
       → ((d : ℕ) → T (gives must p E .codes d) → a .keeps ≡ kept p E) → (T (eqb (a .completes) 0) → T (gives must q E .codes c) → b .keeps ≡ kept q E)
       → run-on a b .keeps ≡ only-if (followed (gives must p E) (gives must q E) .codes 1) of-parts
   run-on-kept c a b (only-first t n) k f g =
-      ap (λ (z : Bool). cond z (record { emitted = union (a .emitted) (b .emitted); completes = b .completes; keeps = b .keeps }) a .keeps)
-      (eqb-not (a .completes) 0 (λ e. n (k c t ∙ e)))
-      ∙ f c t ∙ chain-first c t n
+      by-first (λ (r : Execution). r .keeps ≡ only-if (followed (gives must p E) (gives must q E) .codes 1) of-parts) a b
+      (λ z. absurd (n (k c t ∙ eqb→eq (a .completes) 0 z))) (λ e. f c t ∙ chain-first c t n)
   run-on-kept c a b (then-second z t) k f g =
-      let e : T (eqb (a .completes) 0) = eqb-in (sym (k 0 z)) in
-      ap (λ (x : Bool). cond x (record { emitted = union (a .emitted) (b .emitted); completes = b .completes; keeps = b .keeps }) a .keeps) (is-true (eqb (a .completes) 0) e)
-      ∙ g e t ∙ chain-second z
+      by-first (λ (r : Execution). r .keeps ≡ only-if (followed (gives must p E) (gives must q E) .codes 1) of-parts) a b
+      (λ y. g y t ∙ chain-second z) (λ e. absurd (of-false e (eqb-in (sym (k 0 z)))))
 
 -- Both codes are the only ones, so the larger is 1 exactly when the maxima have 1.
 beside-one : {m n : Given} (c d : ℕ) → OneCode m → OneCode n → T (m .codes c) → T (n .codes d) → eqb (max c d) 1 ≡ maxima (m .codes) (n .codes) 1

@@ -1,3 +1,4 @@
+pub mod Cases
 pub mod Forms
 pub mod MustInCan
 pub mod Compare

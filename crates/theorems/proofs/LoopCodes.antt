@@ -1,7 +1,7 @@
 -- The codes of the loop check bound those of every started statement, by induction over the statement, so that no loop body, wherever
 -- the loop stands, ends with code 0 in the instant it began. Assumes nothing.
-use mathlib.Core.Path.{_≡_, subst}
-use mathlib.Core.Bool.{Bool, true, false, not, _&&_}
+use mathlib.Core.Path.{subst}
+use mathlib.Core.Bool.{not, _&&_}
 use Prim.Native.Nat.{ℕ}
 use lib.Dec.{T, T-not}
 use Rattle.sets.specs.Numbers.{Numbers, without}

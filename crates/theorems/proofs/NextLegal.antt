@@ -1,30 +1,29 @@
 -- From a legal state every execution, and so every computed reaction, leads to a legal state, and has code 1 exactly when something is
 -- kept: what an execution keeps is some of the block's pauses, pairwise compatible. Assumes nothing.
-use mathlib.Core.Path.{_≡_, refl, sym, _∙_, ap, ap₂, subst, subst⁻¹}
+use mathlib.Core.Path.{_≡_, sym, _∙_, ap₂, subst, subst⁻¹}
 use mathlib.Core.Logic.{_↔_}
-use mathlib.Core.Bool.{Bool, true, false, cond}
 use mathlib.Core.List.{List}
-use Prim.Native.Nat.{ℕ, _+_, _≤_, _<_}
+use Prim.Native.Nat.{ℕ, _<_}
 use native.Mathlib.Omega.{arith}
 use lib.Dec.{T, eqb, eqb→eq}
 use lib.ListN.{length}
 use Rattle.sets.specs.Numbers.{Numbers, listed}
-use Rattle.sets.proofs.Members.{of-true}
-use Rattle.rules.specs.Statements.{Stmt, pauses, from, Numbered}
+use Rattle.rules.specs.Statements.{Stmt, pauses, Numbered}
 use Rattle.rules.specs.Events.{Event}
 use Rattle.rules.specs.Instant.{active, started}
 use Rattle.rules.specs.MustCan.{must, gives}
 use Rattle.rules.specs.States.{State, fresh, running, finished, step, Running, Legal, kept, next}
-use Rattle.rules.specs.Coherence.{Locals, Execution, execute, LocalsAgree}
+use Rattle.rules.specs.Coherence.{Locals, execute}
 use Rattle.theorems.specs.Order.{_⊑_, whole}
 use Rattle.theorems.specs.Reactions.{Some, is-present}
+use Rattle.theorems.proofs.Cases.{by-test}
 use Rattle.theorems.proofs.Sound.{code-of-run}
 use Rattle.theorems.proofs.Kept.{executed-at-one, kept-of-run}
 use Rattle.theorems.proofs.Runs.{runs}
 use Rattle.theorems.proofs.Reaction.{below-is-present}
 use Rattle.theorems.proofs.KeepsSome.{Stays, any-in, stays-started, stays-resumed, run-keeps-some}
 use Rattle.theorems.proofs.Numbering.{from-out, from-in}
-use Rattle.theorems.proofs.Compatible.{Fits, KeepsIn, keeps-done, keeps-started, keeps-resumed}
+use Rattle.theorems.proofs.Compatible.{KeepsIn, keeps-done, keeps-started, keeps-resumed}
 
 -- The block's pauses are the numbers below their count.
 module _ (p : Stmt) (numbered : Numbered 0 p) where
@@ -62,17 +61,16 @@ module _ (p : Stmt) (numbered : Numbered 0 p) where
 
     pub run-next-legal : Legal p (next (execute (step p st) l W .completes) (execute (step p st) l W .keeps))
     unfolding Legal next
-    run-next-legal = go (eqb (execute (step p st) l W .completes) 1) refl
-      where
-        go : (z : Bool) → eqb (execute (step p st) l W .completes) 1 ≡ z → Legal p (cond z (running (execute (step p st) l W .keeps)) finished)
-        go true e =
-            let f = step-keeps st legal .fits l W in
-            record {
-              some-active = run-keeps-at-one .0 (eqb→eq (execute (step p st) l W .completes) 1 (of-true e));
-              in-block = λ n t. pause-below n (f .held-in n t);
-              all-compatible = f .agreeing;
-            }
-        go false e = tt
+    run-next-legal =
+        let r = execute (step p st) l W in
+        let f = step-keeps st legal .fits l W in
+        by-test (Legal p) (eqb (r .completes) 1) (running (r .keeps)) finished
+        (λ t. record {
+          some-active = run-keeps-at-one .0 (eqb→eq (r .completes) 1 t);
+          in-block = λ n k. pause-below n (f .held-in n k);
+          all-compatible = f .agreeing;
+        })
+        (λ e. tt)
 
   -- The computed reaction, at any event that makes the code known.
   module _ (st : State) (legal : Legal p st) (E : Event) (c : ℕ) (t : T (gives must (step p st) E .codes c)) where

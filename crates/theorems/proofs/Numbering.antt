@@ -1,6 +1,6 @@
 -- Pauses numbered in preorder: the two parts of a statement have the numbers of two stretches that follow one another, and so no pause
 -- in common. Assumes nothing.
-use mathlib.Core.Path.{_≡_, refl, sym, _∙_, ap, subst, subst⁻¹}
+use mathlib.Core.Path.{_≡_, refl, sym, _∙_, ap, subst}
 use mathlib.Core.Logic.{_⊎_, inl, inr}
 use mathlib.Core.Bool.{_||_}
 use mathlib.Core.List.{List, [], _∷_, _++_}

@@ -4,7 +4,7 @@ use mathlib.Core.Path.{_≡_, refl, sym, _∙_, ap, ap₂, subst, subst⁻¹}
 use mathlib.Core.Logic.{_⊎_, inl, inr}
 use mathlib.Core.Bool.{Bool, true, false, cond}
 use mathlib.Core.List.{List, [], _∷_}
-use Prim.Native.Nat.{ℕ, zero, suc, _+_, _-_, _≤_, _<_}
+use Prim.Native.Nat.{ℕ, zero, suc, _+_, _-_, _<_}
 use native.Mathlib.Nat.{add-zero, add-suc, suc-add, le-of-suc-le-suc, not-suc-le-zero}
 use native.Mathlib.Decide.{decLt}
 use native.Mathlib.Omega.{arith}
@@ -18,8 +18,9 @@ use Rattle.rules.specs.Events.{Status, present, absent, unknown, Event, known, 
 use Rattle.rules.specs.Instant.{Step}
 use Rattle.rules.specs.MustCan.{plus, must, can, Given, marked, gives}
 use Rattle.rules.specs.Rounds.{marks, round, begin}
-use Rattle.theorems.specs.Order.{Below, _⊑_, Inside}
+use Rattle.theorems.specs.Order.{Below, _⊑_}
 use Rattle.theorems.specs.Reach.{Settling, Reached, at-first, settling}
+use Rattle.theorems.proofs.Cases.{by-test}
 use Rattle.theorems.proofs.MustInCan.{must-in-can}
 use Rattle.theorems.proofs.Compare.{below-refl, must-grows, can-shrinks}
 use Rattle.theorems.proofs.Exact.{can-in-must}
@@ -94,15 +95,14 @@ module _ (b : Block) (given : Numbers) where
       → ((i : ℕ) → i < length vs → (n : ℕ) → ltb n (b .inputs) ≡ false → n - b .inputs ≡ i → Below (getD vs i unknown) (F n))
       → event b given vs ⊑ F
   unfolding event
-  event-below vs F f g = record { at = λ n. go n (ltb n (b .inputs)) refl }
+  event-below vs F f g = record {
+    at = λ n. by-test (λ (v : Status). Below v (F n)) (ltb n (b .inputs)) (known (given n)) (getD vs (n - b .inputs) unknown) (f n)
+        (λ e. out n e (decLt (n - b .inputs) (length vs)));
+  }
     where
       out : (n : ℕ) → ltb n (b .inputs) ≡ false → Dec (n - b .inputs < length vs) → Below (getD vs (n - b .inputs) unknown) (F n)
       out n e (yes h) = g (n - b .inputs) h n e refl
       out n e (no h) = subst⁻¹ (λ (v : Status). Below v (F n)) (List·getD-eq-default vs unknown (omega arith)) tt
-
-      go : (n : ℕ) (z : Bool) → ltb n (b .inputs) ≡ z → Below (cond z (known (given n)) (getD vs (n - b .inputs) unknown)) (F n)
-      go n true e = f n (subst⁻¹ T e tt)
-      go n false e = out n e (decLt (n - b .inputs) (length vs))
 
   event-input : (ws : List Status) (n : ℕ) → T (ltb n (b .inputs)) → event b given ws n ≡ known (given n)
   unfolding event

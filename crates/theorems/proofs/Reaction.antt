@@ -6,7 +6,6 @@ use mathlib.Core.Bool.{Bool, true, false, cond}
 use mathlib.Core.List.{List, [], _∷_, map}
 use Prim.Native.Nat.{ℕ, zero, suc, _+_, _-_, _<_}
 use native.Mathlib.Nat.{le-of-suc-le-suc, not-suc-le-zero}
-use native.Mathlib.Omega.{arith}
 use lib.Dec.{T, ltb}
 use lib.ListN.{length, getD, length-map, List·getD-map}
 use lib.Seq.{ext-getD}
@@ -17,7 +16,7 @@ use Rattle.rules.specs.Events.{Status, present, absent, unknown, Event, known, 
 use Rattle.rules.specs.MustCan.{plus, must, can, gives}
 use Rattle.rules.specs.States.{State, step, kept, next}
 use Rattle.rules.specs.Rounds.{round, begin}
-use Rattle.rules.specs.Coherence.{Execution, execute, LocalsAgree, world, Coherent}
+use Rattle.rules.specs.Coherence.{execute, world, Coherent}
 use Rattle.theorems.specs.Order.{Below, _⊑_, whole, Between}
 use Rattle.theorems.specs.Reach.{Reached, at-first, settling}
 use Rattle.theorems.specs.Reactions.{is-present, SameReaction}

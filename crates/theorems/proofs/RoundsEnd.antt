@@ -1,11 +1,11 @@
 -- The rounds end: a round that changes something leaves fewer outputs undecided, so that `settle` with fuel for each of them finds the
 -- first unchanged round, and there is only one such. Assumes nothing.
-use mathlib.Core.Path.{_≡_, refl, sym, _∙_, ap, ap₂, subst, subst⁻¹}
-use mathlib.Core.Logic.{_⊎_, inl, inr, _≢_}
-use mathlib.Core.Bool.{Bool, true, false, _&&_}
+use mathlib.Core.Path.{_≡_, refl, sym, _∙_, ap, ap₂, subst⁻¹}
+use mathlib.Core.Logic.{_⊎_, inl, inr}
+use mathlib.Core.Bool.{Bool, true, false}
 use mathlib.Core.List.{List, [], _∷_}
 use Prim.Native.Nat.{ℕ, zero, suc, _+_, _≤_, _<_, suc-le-suc, zero-le}
-use native.Mathlib.Nat.{le-refl, le-of-suc-le-suc, not-suc-le-zero, suc-inj, suc-ne-zero, zero-lt-suc}
+use native.Mathlib.Nat.{le-refl, not-suc-le-zero, suc-inj, suc-ne-zero, zero-lt-suc}
 use native.Mathlib.Omega.{arith}
 use lib.Dec.{T}
 use lib.ListN.{length, getD, replicate}

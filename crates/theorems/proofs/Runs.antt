@@ -1,6 +1,6 @@
 -- Where must has a code, some statuses of the locals agree with the execution, at every world above the event: by induction over the
 -- step. A local takes the status that it is settled with; it is settled, since can equals must where must has a code. Assumes nothing.
-use mathlib.Core.Path.{_≡_, refl, sym, _∙_, ap, subst, subst⁻¹}
+use mathlib.Core.Path.{_≡_, refl, sym, _∙_, subst⁻¹}
 use mathlib.Core.Bool.{Bool, true, false, cond}
 use Prim.Native.Nat.{ℕ}
 use lib.Dec.{T, eqb}
@@ -10,7 +10,7 @@ use Rattle.sets.proofs.Maxima.{maxima-out, downs-out}
 use Rattle.rules.specs.Events.{Status, present, absent, unknown, Event, giving, known}
 use Rattle.rules.specs.Instant.{Step, done, stay, say, leave, test, catch, scope, chain, beside}
 use Rattle.rules.specs.MustCan.{plus, must, can, Given, choose, marked, gives}
-use Rattle.rules.specs.Coherence.{Locals, Execution, assigning, execute, LocalsAgree}
+use Rattle.rules.specs.Coherence.{Locals, assigning, execute, LocalsAgree}
 use Rattle.theorems.specs.Order.{Below, _⊑_, whole}
 use Rattle.theorems.proofs.Compare.{⊑-refl, giving-below, must-grows, can-shrinks}
 use Rattle.theorems.proofs.Exact.{FirstOrBoth, only-first, then-second, first-or-both, can-in-must}

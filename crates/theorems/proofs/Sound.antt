@@ -4,9 +4,9 @@
 use mathlib.Core.Path.{_≡_, refl, sym, _∙_, subst, subst⁻¹}
 use mathlib.Core.Bool.{Bool, true, false, cond}
 use Prim.Native.Nat.{ℕ, max}
-use lib.Dec.{T, eqb, eqb→eq, eqb-refl}
+use lib.Dec.{T, eqb, eqb→eq}
 use Rattle.sets.specs.Numbers.{Numbers, single, union, without, only-if, down}
-use Rattle.sets.proofs.Members.{of-true, of-false, eqb-in, single-out, without-in, without-member, without-other, only-if-in, only-if-test, Within, within-refl, within-trans, within-antisym, within-eq, within-left, within-right, within-without, within-only-if, union-least, union-mono}
+use Rattle.sets.proofs.Members.{of-false, eqb-in, single-out, without-in, without-member, without-other, only-if-in, only-if-test, Within, within-refl, within-trans, within-antisym, within-eq, within-left, within-right, within-without, within-only-if, union-least, union-mono}
 use Rattle.sets.proofs.Maxima.{maxima-single, downs-single}
 use Rattle.rules.specs.Events.{Status, present, absent, unknown, Event, giving, known}
 use Rattle.rules.specs.Instant.{Step, done, stay, say, leave, test, catch, scope, chain, beside}
@@ -14,6 +14,7 @@ use Rattle.rules.specs.MustCan.{plus, opened, must, can, Given, choose, caught,
 use Rattle.rules.specs.States.{executed-as}
 use Rattle.rules.specs.Coherence.{Locals, Execution, assigning, run-on, execute, LocalsAgree}
 use Rattle.theorems.specs.Order.{Below, _⊑_, whole, Inside, outcome, Between}
+use Rattle.theorems.proofs.Cases.{by-first}
 use Rattle.theorems.proofs.Forms.{inside-refl, inside-trans, inside-nothing, either-left, either-right, caught-inside, hidden-inside, both-inside, followed-inside}
 use Rattle.theorems.proofs.Compare.{plus-in-opened}
 use Rattle.theorems.proofs.Exact.{can-in-must}
@@ -84,42 +85,31 @@ left : (c : ℕ) → (c ≡ 0 → ⊥) → Within (single c) (without 0 (single 
 left c f = record { at = λ n t. without-in 0 (single c) n t (λ z. f (sym (single-out c n t) ∙ z)) }
 
 module _ (a b : Execution) where
-  both-parts : Execution
-  both-parts = record { emitted = union (a .emitted) (b .emitted); completes = b .completes; keeps = b .keeps }
-
   run-on-least : Inside (followed (outcome a) (outcome b)) (outcome (run-on a b))
-  unfolding both-parts
-  run-on-least = go (eqb (a .completes) 0) refl
-    where
-      go : (z : Bool) → eqb (a .completes) 0 ≡ z → Inside (followed (outcome a) (outcome b)) (outcome (cond z both-parts a))
-      go true e = record {
+  run-on-least = by-first (λ (r : Execution). Inside (followed (outcome a) (outcome b)) (outcome r)) a b
+      (λ t. record {
         of-signals = union-mono (within-refl {a = a .emitted}) (within-only-if (eqb 0 (a .completes)) (b .emitted));
-        of-codes = union-least (removed (a .completes) (single (b .completes)) (eqb→eq (a .completes) 0 (of-true e)))
+        of-codes = union-least (removed (a .completes) (single (b .completes)) (eqb→eq (a .completes) 0 t))
             (within-only-if (eqb 0 (a .completes)) (single (b .completes)));
-      }
-      go false e = record {
+      })
+      (λ e. record {
         of-signals = union-least (within-refl {a = a .emitted}) (skipped (eqb 0 (a .completes)) (b .emitted) (a .emitted) (λ t. of-false e (zero-first (a .completes) t)));
         of-codes = union-least (within-without 0 (single (a .completes)))
             (skipped (eqb 0 (a .completes)) (single (b .completes)) (single (a .completes)) (λ t. of-false e (zero-first (a .completes) t)));
-      }
+      })
 
   run-on-most : Inside (outcome (run-on a b)) (followed (outcome a) (outcome b))
-  unfolding both-parts
-  run-on-most = go (eqb (a .completes) 0) refl
-    where
-      go : (z : Bool) → eqb (a .completes) 0 ≡ z → Inside (outcome (cond z both-parts a)) (followed (outcome a) (outcome b))
-      go true e =
-          let z : T (eqb 0 (a .completes)) = zero-second (a .completes) (of-true e) in
-          record {
-            of-signals = union-mono (within-refl {a = a .emitted}) (taken (eqb 0 (a .completes)) (b .emitted) z);
-            of-codes = within-trans (taken (eqb 0 (a .completes)) (single (b .completes)) z)
-                (within-right (without 0 (single (a .completes))) (only-if (eqb 0 (a .completes)) (single (b .completes))));
-          }
-      go false e = record {
+  run-on-most = by-first (λ (r : Execution). Inside (outcome r) (followed (outcome a) (outcome b))) a b
+      (λ t. record {
+        of-signals = union-mono (within-refl {a = a .emitted}) (taken (eqb 0 (a .completes)) (b .emitted) (zero-second (a .completes) t));
+        of-codes = within-trans (taken (eqb 0 (a .completes)) (single (b .completes)) (zero-second (a .completes) t))
+            (within-right (without 0 (single (a .completes))) (only-if (eqb 0 (a .completes)) (single (b .completes))));
+      })
+      (λ e. record {
         of-signals = within-left (a .emitted) (only-if (eqb 0 (a .completes)) (b .emitted));
         of-codes = within-trans (left (a .completes) (λ z. of-false e (eqb-in z)))
             (within-left (without 0 (single (a .completes))) (only-if (eqb 0 (a .completes)) (single (b .completes))));
-      }
+      })
 
 onward-most : (b : Bool) (q : Step) (E : Event) (r : Given) → Inside r (gives (can plus) q E) → Inside r (gives (onward (can plus) b) q E)
 onward-most true q E r f = f

@@ -1,8 +1,8 @@
 -- Runs of instants: from a legal state there is exactly one run over any list of input sets, and at each of its instants all that holds
 -- of an instant from a legal state does, since each instant leads to a legal state: by induction over the run. Assumes nothing.
-use mathlib.Core.Path.{_≡_, refl, _∙_, ap, ap₂, sym}
+use mathlib.Core.Path.{_≡_, refl, _∙_, ap, ap₂}
 use mathlib.Core.List.{List, [], _∷_}
-use Prim.Native.Nat.{ℕ, suc}
+use Prim.Native.Nat.{suc}
 use lib.ListN.{length}
 use Rattle.rules.specs.Statements.{Block}
 use Rattle.rules.specs.States.{State, Legal}

@@ -1,21 +1,20 @@
 -- Every exit finds its trap: with k traps around a statement its codes are below k + 2, by induction over the statement, started and
 -- resumed; so a block's own codes are 0 and 1. Assumes nothing.
-use mathlib.Core.Path.{_≡_, sym, subst, subst⁻¹}
+use mathlib.Core.Path.{_≡_, subst}
 use mathlib.Core.Logic.{_⊎_, inl, inr}
-use mathlib.Core.Bool.{Bool, true, false, cond}
-use Prim.Native.Nat.{ℕ, zero, suc, _+_, _<_, _≤_, max}
+use mathlib.Core.Bool.{Bool, cond}
+use Prim.Native.Nat.{ℕ, zero, suc, _+_, _<_, max}
 use native.Mathlib.Omega.{arith}
 use lib.Dec.{T}
 use Rattle.sets.specs.Numbers.{Numbers, single, union, without, only-if, maxima, down, downs}
 use Rattle.sets.proofs.Members.{single-out, union-out, without-member, only-if-member}
 use Rattle.sets.proofs.Maxima.{maxima-out, downs-out}
-use Rattle.rules.specs.Statements.{Depth, depth, code, Stmt, nothing, pause, emit, present?_then_else_, suspend_on_, _⨾_, loop, _parallel_, trap, exit, local, Trapped}
-use Rattle.rules.specs.Events.{Event}
-use Rattle.rules.specs.Instant.{Step, done, chain, active, held, started, resumed}
-use Rattle.rules.specs.MustCan.{Question, gives}
+use Rattle.rules.specs.Statements.{depth, code, Stmt, nothing, pause, emit, present?_then_else_, suspend_on_, _⨾_, loop, _parallel_, trap, exit, local, Trapped}
+use Rattle.rules.specs.Instant.{Step, done, chain, active, started, resumed}
 use Rattle.rules.specs.States.{State, fresh, running, finished, step}
-use Rattle.rules.specs.Coherence.{Locals, execute}
+use Rattle.rules.specs.Coherence.{execute}
 use Rattle.theorems.specs.Checked.{ZeroOrOne}
+use Rattle.theorems.proofs.Cases.{by-test}
 use Rattle.theorems.proofs.Ends.{codes-after, ends, given-ends, run-ends}
 
 -- All members are below k + 2.
@@ -64,8 +63,7 @@ under-downs {k} {a} f = record { below = go }
     go c t = let r = downs-out a c t in subst (λ (x : ℕ). x < k + 2) (r .2) (down-under k (r .0) (f .below (r .0) (r .1)))
 
 under-cond : {k : ℕ} (z : Bool) (p q : Step) → Under k (ends p) → Under k (ends q) → Under k (ends (cond z p q))
-under-cond true p q f g = f
-under-cond false p q f g = g
+under-cond {k} z p q f g = by-test (λ (S : Step). Under k (ends S)) z p q (λ t. f) (λ e. g)
 
 started-under : (p : Stmt) (k : ℕ) → Trapped k p → Under k (ends (started p))
 unfolding ends started Trapped code
