@@ -6,13 +6,14 @@ use mathlib.Core.Bool.{Bool, true, false, not, cond, _&&_, _||_, and-true, and-f
 use mathlib.Core.List.{List, [], _∷_, _++_, List·Memᴰ, List·Memᴰ·head, List·Memᴰ·tail}
 use mathlib.Core.Option.{Option, none, some}
 use Prim.Native.Nat.{ℕ, zero, suc, _+_, _≤_, _<_, zero-le}
-use native.Mathlib.Nat.{le-refl, le-of-suc-le-suc, le-suc-iff, add-zero, add-suc, add-comm, add-left-comm, not-suc-le-zero}
+use native.Mathlib.Nat.{le-refl, add-zero, add-suc, add-comm, add-left-comm, not-suc-le-zero}
 use native.Mathlib.Decide.{decLt}
 use native.Mathlib.Omega.{arith}
 use lib.Dec.{T, eqb, ltb, ltb→lt, lt→ltb, eqb→eq, eqb-refl, leb·suc-zero}
 use lib.ListN.{length, length-append}
-use Rattle.sets.specs.Numbers.{Numbers, empty, single, without, count, lowest, members, listed}
-use Rattle.sets.proofs.Members.{and-in, and-left, and-right, or-left, or-right, or-out, eqb-in, same, cases, is-true, is-false, of-false, single-out, Within}
+use Rattle.sets.specs.Numbers.{Numbers, empty, single, union, without, count, lowest, members, listed}
+use Rattle.sets.proofs.Members.{and-in, and-left, and-right, or-left, or-right, or-out, eqb-in, eqb-not, same, is-true, is-false, of-false, ext-T, Within}
+use Rattle.sets.proofs.Members.{single-out, union-left, union-right, union-out, without-in, without-member, without-other}
 
 -- One number more.
 pub lt-suc : {k n : ℕ} → k < suc n → (k < n) ⊎ (k ≡ n)
@@ -99,6 +100,40 @@ pub count-zero : (n : ℕ) (a : Numbers) → count n a ≡ 0 → (k : ℕ) → k
 unfolding count
 count-zero zero a e k h t = not-suc-le-zero h
 count-zero (suc n) a e k h t = none-suc n a (count-zero n a (omega arith)) (bit-zero (a n) (omega arith)) k h t
+
+pub count-without : (n : ℕ) (a : Numbers) {k : ℕ} → k < n → T (a k) → suc (count n (without k a)) ≡ count n a
+unfolding count
+count-without zero a h t = absurd (not-suc-le-zero h)
+count-without (suc n) a {k} h t = pick (λ (l : k < n). count-without n a l t) (lt-suc h)
+  where
+    kept : (j : ℕ) → (j ≡ k → ⊥) → without k a j ≡ a j
+    kept j f = ap (λ (b : Bool). a j && not b) (eqb-not j k f) ∙ and-true (a j)
+
+    pick : (k < n → suc (count n (without k a)) ≡ count n a) → (k < n) ⊎ (k ≡ n)
+        → suc (cond (without k a n) 1 0 + count n (without k a)) ≡ cond (a n) 1 0 + count n a
+    pick ih (inl l) = omega (arith, ih l, ap (λ (b : Bool). cond {A = ℕ} b 1 0) (kept n (λ e. omega arith)))
+    pick ih (inr e) =
+        let gone : without k a n ≡ false = ap (λ (b : Bool). a n && not b) (is-true (eqb n k) (eqb-in (sym e))) ∙ and-false (a n) in
+        let here : a n ≡ true = is-true (a n) (subst (λ (x : ℕ). T (a x)) e t) in
+        omega (
+          arith,
+          ap (λ (b : Bool). cond {A = ℕ} b 1 0) gone,
+          ap (λ (b : Bool). cond {A = ℕ} b 1 0) here,
+          count-cong n (without k a) a (λ j l. kept j (λ q. omega arith)),
+        )
+
+pub count-with : (n : ℕ) (a : Numbers) {k : ℕ} → k < n → (T (a k) → ⊥) → count n (union a (single k)) ≡ suc (count n a)
+count-with n a {k} h f = sym (count-without n (union a (single k)) h (union-right a (single k) k (eqb-refl k))) ∙ ap (λ (b : Numbers). suc (count n b)) (ext-T there back)
+  where
+    there : (j : ℕ) → T (without k (union a (single k)) j) → T (a j)
+    there j t = pick (union-out a (single k) j (without-member k (union a (single k)) j t))
+      where
+        pick : T (a j) ⊎ T (single k j) → T (a j)
+        pick (inl s) = s
+        pick (inr s) = absurd (without-other k (union a (single k)) j t (single-out k j s))
+
+    back : (j : ℕ) → T (a j) → T (without k (union a (single k)) j)
+    back j t = without-in k (union a (single k)) j (union-left a (single k) j t) (λ e. f (subst (λ (x : ℕ). T (a x)) e t))
 
 -- The lowest member: what the answer says, and that only one answer does.
 abbrev pub Lowest : ℕ → Numbers → Option ℕ → Type 0

@@ -2,9 +2,9 @@
 -- Assumes nothing.
 use mathlib.Core.Path.{_≡_, refl, sym, subst, subst⁻¹, _∙_, ap, ap₂}
 use mathlib.Core.Logic.{_⊎_, inl, inr}
-use mathlib.Core.Bool.{Bool, true, false, _&&_, _||_, or-comm}
+use mathlib.Core.Bool.{Bool, _&&_, _||_, or-comm}
 use Prim.Native.Nat.{ℕ, zero, suc, _≤_, max}
-use native.Mathlib.Nat.{le-refl, le-step, le-suc-iff, max-eq-left, max-eq-right, le-max-left, le-max-right, le-of-lt, lt-of-not-le, max-comm}
+use native.Mathlib.Nat.{le-refl, le-step, le-suc-iff, max-eq-left, max-eq-right, le-of-lt, lt-of-not-le}
 use native.Mathlib.Decide.{decLe}
 use native.Mathlib.Omega.{arith}
 use lib.Dec.{T, eqb-refl}
