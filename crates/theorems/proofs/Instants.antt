@@ -20,7 +20,7 @@ use Rattle.theorems.specs.Reach.{at-first}
 use Rattle.theorems.specs.Reactions.{OnlyIfAnswered}
 use Rattle.theorems.specs.Traces.{Instant, answers, refuses, after}
 use Rattle.theorems.proofs.RoundsEnd.{rounds-unique, last-unchanged, last-reached, final}
-use Rattle.theorems.proofs.Reaction.{coherent-unique, computed-coherent}
+use Rattle.theorems.proofs.Reaction.{coherent-unique, computed-coherent, locals-unique}
 use Rattle.theorems.proofs.Traps.{root-codes}
 use Rattle.theorems.proofs.NextLegal.{computed-next-legal}
 
@@ -74,5 +74,6 @@ module _ (b : Block) (st : State) (given : Numbers) where
       record {
         coherent = computed-coherent b st given vs q e c t;
         the-only-one = λ outs d st″ x. coherent-unique b st given vs q e c t x;
+        with-the-same-locals = λ outs d st″ x. locals-unique b st given vs q e c t x;
       }
   answer-only (refuses r f) = tt

@@ -6,6 +6,7 @@ pub mod Exact
 pub mod Sound
 pub mod Kept
 pub mod Runs
+pub mod SameLocals
 pub mod Reach
 pub mod RoundsEnd
 pub mod Reaction

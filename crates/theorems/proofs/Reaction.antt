@@ -16,19 +16,24 @@ use Rattle.rules.specs.Events.{Status, present, absent, unknown, Event, known, 
 use Rattle.rules.specs.MustCan.{plus, must, can, gives}
 use Rattle.rules.specs.States.{State, step, kept, next}
 use Rattle.rules.specs.Rounds.{round, begin}
-use Rattle.rules.specs.Coherence.{execute, world, Coherent}
+use Rattle.rules.specs.Coherence.{execute, world, Coherent, LocalsAgree}
 use Rattle.theorems.specs.Order.{Below, _⊑_, whole, Between}
 use Rattle.theorems.specs.Reach.{Reached, at-first, settling}
-use Rattle.theorems.specs.Reactions.{is-present, SameReaction}
+use Rattle.theorems.specs.Reactions.{is-present, SameReaction, SameLocals}
 use Rattle.theorems.proofs.Compare.{below-refl}
 use Rattle.theorems.proofs.Sound.{marked-known, sound, code-of-run, emitted-of-run}
 use Rattle.theorems.proofs.Kept.{kept-of-run}
 use Rattle.theorems.proofs.Runs.{runs}
+use Rattle.theorems.proofs.SameLocals.{same-locals}
 use Rattle.theorems.proofs.Reach.{begin-at, round-at, event-below, reached-length, decided, in-must, in-can}
 
 is-present-known : (v : Bool) → is-present (known v) ≡ v
 is-present-known true = refl
 is-present-known false = refl
+
+is-present-all : (outs : List Bool) → map is-present (map known outs) ≡ outs
+is-present-all [] = refl
+is-present-all (o ∷ outs) = ap₂ (λ (x : Bool) (xs : List Bool). x ∷ xs) (is-present-known o) (is-present-all outs)
 
 pub below-is-present : (v : Status) → Below v (known (is-present v))
 below-is-present present = refl
@@ -134,3 +139,13 @@ module _ (b : Block) (st : State) (given : Numbers) (vs : List Status) (q : Reac
         its-code = sym code;
         its-next = ap (next c) (kept-of-run p (l .0) W (l .1) E up c t);
       }
+
+  -- Each local has the same status in every coherent reaction, each time its body is executed.
+  pub locals-unique : {outs : List Bool} {d : ℕ} {st″ : State} (r : Coherent b st given outs d st″)
+      → SameLocals (step (b .body) st) (computed-coherent .locals) (r .locals) (world b given (map is-present vs))
+  locals-unique {outs} r =
+      let p = step (b .body) st in
+      let e : outs ≡ map is-present vs = sym (is-present-all outs) ∙ ap (map is-present) (coherent-unique r .same-outputs) in
+      same-locals p (computed-coherent .locals) (r .locals) (world b given (map is-present vs)) (computed-coherent .locals-agree)
+      (subst (λ (os : List Bool). LocalsAgree p (r .locals) (world b given os)) e (r .locals-agree))
+      (event b given vs) (coherent-above b st given computed-coherent q) c t
