@@ -108,9 +108,9 @@ asks-stricter plus opened b c r f t = absurd t
 asks-stricter opened plus b c r f t = absurd r
 asks-stricter opened opened b c r f t = t
 
-asks-within : (m : Mark) (b c : Bool) → (T b → T c) → T (asks-must (can m) && b) → T c
-asks-within plus b c f t = f t
-asks-within opened b c f t = absurd t
+asks-within : (m : Mark) (p : Step) (G : Event) (s : ℕ) → T (asks-must (can m) && gives must p G .signals s) → T (gives (absence-asked (can m)) p G .signals s)
+asks-within plus p G s t = must-in-can p G .of-signals .at s t
+asks-within opened p G s t = absurd t
 
 -- A local's status, as the question gives it.
 abbrev status-of : Question → ℕ → Step → Event → Status
@@ -135,7 +135,7 @@ scope-no-more {E = E} {F = F} s p f (for-can m n h r) =
     (marked-below (asks-must (can n) && mf) cf (asks-must (can m) && me) ce
     (asks-stricter m n me mf r (f must must (giving F s unknown) (giving E s unknown) (for-must d) .of-signals .at s))
     (f (absence-asked (can m)) (absence-asked (can n)) (giving E s unknown) (giving F s unknown) (absence-no-more m n d r) .of-signals .at s)
-    (asks-within m me ce (must-in-can p (giving E s unknown) .of-signals .at s))))
+    (asks-within m p (giving E s unknown) s)))
     r
 
 pub compare : (p : Step) {k l : Question} {E F : Event} → NoMore k E l F → Inside (gives k p E) (gives l p F)
