@@ -1,5 +1,6 @@
 pub mod Cases
 pub mod CheckCases
 pub mod CoherentCases
-pub mod Sentences
 pub mod LoopCodes
+pub mod OneCode
+pub mod Sentences
