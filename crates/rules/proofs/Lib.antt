@@ -3,4 +3,5 @@ pub mod CheckCases
 pub mod CoherentCases
 pub mod LoopCodes
 pub mod OneCode
+pub mod RoundLaws
 pub mod Sentences

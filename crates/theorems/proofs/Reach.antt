@@ -18,27 +18,13 @@ use Rattle.rules.specs.Events.{Status, present, absent, unknown, Event, known, 
 use Rattle.rules.specs.Instant.{Step}
 use Rattle.rules.specs.MustCan.{plus, must, can, Given, marked, gives}
 use Rattle.rules.specs.Rounds.{marks, round, begin}
+use Rattle.rules.proofs.RoundLaws.{marks-length, marks-at}
 use Rattle.theorems.specs.Order.{Below, _⊑_}
 use Rattle.theorems.specs.Reach.{Settling, Reached, at-first, settling}
 use Rattle.theorems.proofs.Cases.{by-test}
 use Rattle.theorems.proofs.MustInCan.{must-in-can}
 use Rattle.theorems.proofs.Compare.{below-refl, must-grows, can-shrinks}
 use Rattle.theorems.proofs.Exact.{can-in-must}
-
--- A round, output by output.
-marks-length : (m c : Given) (s : ℕ) (vs : List Status) → length (marks m c s vs) ≡ length vs
-unfolding marks
-marks-length m c s [] = refl
-marks-length m c s (v ∷ vs) = ap suc (marks-length m c (suc s) vs)
-
-marks-at : (m c : Given) (s : ℕ) (vs : List Status) (i : ℕ) → i < length vs
-    → getD (marks m c s vs) i unknown ≡ marked (m .signals (s + i)) (c .signals (s + i)) (getD vs i unknown)
-unfolding marks
-marks-at m c s [] i h = absurd (not-suc-le-zero h)
-marks-at m c s (v ∷ vs) zero h = sym (ap (λ (n : ℕ). marked (m .signals n) (c .signals n) v) (add-zero s))
-marks-at m c s (v ∷ vs) (suc i) h =
-    marks-at m c (suc s) vs i (le-of-suc-le-suc h)
-    ∙ ap (λ (n : ℕ). marked (m .signals n) (c .signals n) (getD vs i unknown)) (suc-add s i ∙ sym (add-suc s i))
 
 pub begin-at : (n i : ℕ) → getD (replicate n unknown) i unknown ≡ unknown
 begin-at zero i = refl

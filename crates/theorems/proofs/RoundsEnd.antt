@@ -17,39 +17,10 @@ use Rattle.rules.specs.Instant.{Step}
 use Rattle.rules.specs.MustCan.{must, gives}
 use Rattle.rules.specs.States.{State, step}
 use Rattle.rules.specs.Rounds.{round, begin, Rounds, last, more, same, all-same, Settled, one-more, settle, final-of}
+use Rattle.rules.proofs.RoundLaws.{same-is, same-refl, all-same-is, all-same-refl}
 use Rattle.theorems.specs.Order.{Below}
 use Rattle.theorems.specs.Reach.{Reached, at-first, settling, undecided, Final}
 use Rattle.theorems.proofs.Reach.{in-must, round-length, round-keeps, round-settles, decided}
-
--- Statuses that are the same.
-same-is : (v w : Status) → T (same v w) → v ≡ w
-same-is present present t = refl
-same-is present absent t = absurd t
-same-is present unknown t = absurd t
-same-is absent present t = absurd t
-same-is absent absent t = refl
-same-is absent unknown t = absurd t
-same-is unknown present t = absurd t
-same-is unknown absent t = absurd t
-same-is unknown unknown t = refl
-
-same-refl : (v : Status) → T (same v v)
-same-refl present = tt
-same-refl absent = tt
-same-refl unknown = tt
-
-all-same-is : (vs ws : List Status) → T (all-same vs ws) → vs ≡ ws
-unfolding all-same
-all-same-is [] [] t = refl
-all-same-is [] (w ∷ ws) t = absurd t
-all-same-is (v ∷ vs) [] t = absurd t
-all-same-is (v ∷ vs) (w ∷ ws) t =
-    ap₂ (λ (x : Status) (xs : List Status). x ∷ xs) (same-is v w (and-left (same v w) (all-same vs ws) t)) (all-same-is vs ws (and-right (same v w) (all-same vs ws) t))
-
-all-same-refl : (vs : List Status) → T (all-same vs vs)
-unfolding all-same
-all-same-refl [] = tt
-all-same-refl (v ∷ vs) = and-in (same v v) (all-same vs vs) (same-refl v) (all-same-refl vs)
 
 -- Statuses above others leave fewer undecided, or are the same.
 abbrev weight : Status → ℕ
