@@ -1,12 +1,11 @@
 -- The worked instants of document 01, and our own, as one table: each row is a block, a state, the present inputs and the whole answer.
 -- That the rules give every answer is one statement, `worked`, proved by computing. Assumes nothing.
 use mathlib.Core.Path.{_≡_, refl}
-use mathlib.Core.Bool.{Bool, true, false, cond, _&&_}
 use mathlib.Core.List.{List, [], _∷_, map}
-use Prim.Native.Nat.{ℕ, zero, suc, _+_}
+use Prim.Native.Nat.{ℕ, suc}
 use lib.ListN.{length}
-use Rattle.sets.specs.Numbers.{Numbers, members, listed, some-to, maxima, down, downs, lowest}
-use Rattle.rules.specs.Statements.{Block, Depth, depth, code, Stmt, nothing, pause, emit, present?_then_else_, suspend_on_, _⨾_, loop, _parallel_, trap, exit, local, pauses}
+use Rattle.sets.specs.Numbers.{members, listed, some-to, maxima, down, downs, lowest}
+use Rattle.rules.specs.Statements.{depth, code, Stmt, nothing, pause, emit, present?_then_else_, suspend_on_, _⨾_, loop, _parallel_, trap, exit, local, pauses}
 use Rattle.rules.specs.Events.{Status, present, absent, unknown, event}
 use Rattle.rules.specs.Instant.{any, active, held, started, resumed}
 use Rattle.rules.specs.MustCan.{gives}

@@ -2,15 +2,14 @@
 -- their traps, compatible pauses, legal states. Assumes nothing.
 use mathlib.Core.Path.{_≡_, refl, sym, _∙_, ap, ap₂, subst, subst₂}
 use mathlib.Core.Logic.{_⊎_, inl, inr, _≢_}
-use mathlib.Core.Bool.{Bool, true, false, _||_}
+use mathlib.Core.Bool.{true, false, _||_}
 use mathlib.Core.List.{List, [], _∷_, map}
-use Prim.Native.Nat.{ℕ, zero, suc, _+_, _<_}
+use Prim.Native.Nat.{ℕ, zero, suc, _<_}
 use native.Mathlib.Omega.{arith}
 use lib.Dec.{T, lit<, eqb·suc-zero, eqb·suc-suc}
-use lib.ListN.{length}
 use Rattle.sets.specs.Numbers.{some-to, maxima, downs, listed}
 use Rattle.rules.specs.Statements.{depth, code, Stmt, nothing, pause, emit, present?_then_else_, suspend_on_, _⨾_, loop, _parallel_, trap, exit, local, pauses, from, Numbered, Trapped}
-use Rattle.rules.specs.States.{State, fresh, running, finished, holds-both, lowest-above, compatible, Running, Legal}
+use Rattle.rules.specs.States.{running, holds-both, lowest-above, compatible, Legal}
 use Rattle.rules.specs.Loops.{codes-of, loops-pass}
 
 -- the loops of document 01's checks: three get LOOP, two pass

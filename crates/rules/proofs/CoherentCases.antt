@@ -1,14 +1,13 @@
 -- The coherence law at three blocks with one output O (signal 0): two coherent reactions, exactly one, and none. The output is
 -- tried present and absent, and the execution is computed. Assumes nothing.
-use mathlib.Core.Path.{_≡_, refl, sym, _∙_, subst}
+use mathlib.Core.Path.{_≡_, refl, sym, _∙_}
 use mathlib.Core.Logic.{_⊎_, inl, inr}
 use mathlib.Core.Bool.{Bool, true, false, true≢false, false≢true}
 use mathlib.Core.List.{List, [], _∷_}
-use Prim.Native.Nat.{ℕ, zero, suc, _+_, _<_}
-use native.Mathlib.Nat.{not-suc-le-zero}
+use Prim.Native.Nat.{ℕ, zero, suc, _<_}
 use native.Mathlib.Omega.{arith}
 use lib.Dec.{lit<}
-use lib.ListN.{length, getD}
+use lib.ListN.{length}
 use Rattle.sets.specs.Numbers.{Numbers, empty, single, listed}
 use Rattle.rules.specs.Statements.{Block, Stmt, nothing, pause, emit, present?_then_else_, _⨾_, loop, local, pauses}
 use Rattle.rules.specs.Instant.{done, say, test, scope, any, active, started, resumed}

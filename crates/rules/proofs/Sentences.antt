@@ -9,15 +9,15 @@ use mathlib.Core.Option.{Option, none, some}
 use Prim.Native.Nat.{ℕ, zero, suc, _+_, _-_, _<_, max}
 use lib.Dec.{T, eqb, ltb, eqb·suc-zero}
 use lib.ListN.{length, getD, replicate}
-use Rattle.sets.specs.Numbers.{Numbers, empty, single, union, without, only-if, some-to, maxima, down, downs, lowest, listed}
+use Rattle.sets.specs.Numbers.{Numbers, empty, single, union, without, only-if, maxima, downs, lowest, listed}
 use Rattle.sets.proofs.Members.{ext}
 use Rattle.sets.proofs.Maxima.{maxima-in, maxima-out, maxima-empty-left, maxima-empty-right}
-use Rattle.rules.specs.Statements.{Block, Depth, depth, code, Stmt, nothing, pause, emit, present?_then_else_, suspend_on_, _⨾_, loop, _parallel_, trap, exit, local, pauses}
+use Rattle.rules.specs.Statements.{Block, depth, code, Stmt, nothing, pause, emit, present?_then_else_, suspend_on_, _⨾_, loop, _parallel_, trap, exit, local, pauses}
 use Rattle.rules.specs.Events.{Status, present, absent, unknown, Event, giving, known, event}
 use Rattle.rules.specs.Instant.{Step, done, stay, say, leave, test, catch, scope, chain, beside, active, held, started, resumed}
-use Rattle.rules.specs.MustCan.{Mark, plus, opened, Question, must, can, Given, nothing-known, either, caught, both, followed, hidden, marked, gives}
+use Rattle.rules.specs.MustCan.{Mark, plus, opened, Question, must, can, Given, either, both, followed, hidden, marked, gives}
 use Rattle.rules.specs.States.{State, fresh, running, finished, step, executed-as, kept, next}
-use Rattle.rules.specs.Rounds.{Settled, one-more, all-same, marks, round, begin, settle, final-of, answer, Answer, answered, not-constructive, react, code-width}
+use Rattle.rules.specs.Rounds.{Settled, one-more, all-same, round, begin, settle, final-of, answer, answered, not-constructive, react, code-width}
 use Rattle.rules.proofs.OneCode.{one-code}
 use Rattle.rules.proofs.RoundLaws.{all-same-is, all-same-refl, marks-at}
 

@@ -3,9 +3,8 @@
 use mathlib.Core.Path.{_≡_, refl, sym, _∙_, ap, ap₂, subst, subst⁻¹}
 use mathlib.Core.Logic.{_⊎_, inl, inr}
 use mathlib.Core.Bool.{Bool, true, false, cond}
-use mathlib.Core.List.{List, [], _∷_}
+use mathlib.Core.List.{List}
 use Prim.Native.Nat.{ℕ, zero, suc, _+_, _-_, _<_}
-use native.Mathlib.Nat.{add-zero, add-suc, suc-add, le-of-suc-le-suc, not-suc-le-zero}
 use native.Mathlib.Decide.{decLt}
 use native.Mathlib.Omega.{arith}
 use lib.Dec.{T, ltb}
@@ -16,8 +15,8 @@ use Rattle.sets.proofs.Members.{is-true}
 use Rattle.rules.specs.Statements.{Block}
 use Rattle.rules.specs.Events.{Status, present, absent, unknown, Event, known, event}
 use Rattle.rules.specs.Instant.{Step}
-use Rattle.rules.specs.MustCan.{plus, must, can, Given, marked, gives}
-use Rattle.rules.specs.Rounds.{marks, round, begin}
+use Rattle.rules.specs.MustCan.{plus, must, can, marked, gives}
+use Rattle.rules.specs.Rounds.{round, begin}
 use Rattle.rules.proofs.RoundLaws.{marks-length, marks-at}
 use Rattle.theorems.specs.Order.{Below, _⊑_}
 use Rattle.theorems.specs.Reach.{Settling, Reached, at-first, settling}

@@ -10,14 +10,14 @@ use native.Mathlib.Omega.{arith}
 use lib.Dec.{T}
 use lib.ListN.{length, getD, replicate}
 use Rattle.sets.specs.Numbers.{Numbers}
-use Rattle.sets.proofs.Members.{of-true, of-false, and-in, and-left, and-right}
+use Rattle.sets.proofs.Members.{of-true, of-false}
 use Rattle.rules.specs.Statements.{Block}
 use Rattle.rules.specs.Events.{Status, present, absent, unknown, known, event}
 use Rattle.rules.specs.Instant.{Step}
 use Rattle.rules.specs.MustCan.{must, gives}
 use Rattle.rules.specs.States.{State, step}
-use Rattle.rules.specs.Rounds.{round, begin, Rounds, last, more, same, all-same, Settled, one-more, settle, final-of}
-use Rattle.rules.proofs.RoundLaws.{same-is, same-refl, all-same-is, all-same-refl}
+use Rattle.rules.specs.Rounds.{round, begin, Rounds, last, more, all-same, Settled, one-more, settle, final-of}
+use Rattle.rules.proofs.RoundLaws.{all-same-is, all-same-refl}
 use Rattle.theorems.specs.Order.{Below}
 use Rattle.theorems.specs.Reach.{Reached, at-first, settling, undecided, Final}
 use Rattle.theorems.proofs.Reach.{in-must, round-length, round-keeps, round-settles, decided}
