@@ -1,0 +1,2 @@
+// The records of document 01: the state record, the log record and the input set.
+mod numerals;
