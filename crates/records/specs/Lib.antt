@@ -1,3 +1,4 @@
 pub mod Numerals
 pub mod StateRecord
+pub mod Held
 pub mod LogRecord

@@ -1,2 +1,4 @@
 // The records of document 01: the state record, the log record and the input set.
+pub mod bits;
 mod numerals;
+pub mod state;

@@ -49,9 +49,11 @@ loop-less : tie.Need-loop-less Inv-loop μ-loop
 loop-less c = search needs
 
 loop-again : tie.Need-loop-again Inv-loop μ-loop
-loop-again c = let a = c .before .before .before .args in let l = c .before .before .loop in
-    (search needs, field-more (now (a .s)) (a .at + (l .k - 1)) (a .n - l .k) (omega arith) (omega arith) (omega arith) (l .inv .1),
-     more-fits (a .n - l .k) (omega arith) (l .inv .2) (omega (arith, c .shared-slice-known .given (a .at + (l .k - 1)))))
+loop-again c = let a = c .before .before .before .args in let l = c .before .before .loop in (
+  search needs,
+  field-more (now (a .s)) (a .at + (l .k - 1)) (a .n - l .k) (omega arith) (omega arith) (omega arith) (l .inv .1),
+  more-fits (a .n - l .k) (omega arith) (l .inv .2) (omega (arith, c .shared-slice-known .given (a .at + (l .k - 1)))),
+)
 
 returns : tie.Need-returns Inv-loop μ-loop
 returns c = let a = c .before .before .args in let l = c .before .loop in l .inv .1 ∙ field-end (now (a .s)) (a .at) (a .n) (l .k) (c .loop-test .left)

@@ -1,0 +1,18 @@
+-- `bits::input_over`: the definition is the leaf's. Assumes nothing.
+use Rattle.records.specs.StateRecord.{undeclared-input}
+use borrow.Author.Needs.{needs}
+use Rattle.records.proofs.bits.input_over.Statement.{statement}
+use Rattle.records.proofs.bits.input_over.Tie as tie
+use Rattle.records.proofs.bits.input_over.Reads as reads
+use Rattle.records.proofs.bits.input_over.Lts as lts
+use Rattle.records.proofs.bits.bit_from.Reads as bit-from-reads
+
+bit-from-requires : tie.Need-bit-from-requires
+bit-from-requires c κs = search needs
+
+returns : tie.Need-returns
+unfolding undeclared-input
+returns c = c .bit-from .ensures
+
+pub input-over-spec : {M : Type 1} → statement M
+input-over-spec = tie.close (tie.spec bit-from-requires returns)
