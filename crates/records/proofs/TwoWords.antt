@@ -104,15 +104,18 @@ module _ (low high : ℕ) (l64 : low < 2 ^ 64) (h64 : high < 2 ^ 64) where
     where
       A : Numbers
       A = two-words 64 low high
+
       there : T (beyond p A) → T (not (eqb high 0))
       there t = go (or-64 (r .0))
         where
           r : (m : ℕ) × (m < 128) × (p ≤ m) × T (A m)
           r = beyond-out p A t
+
           go : (r .0 < 64) ⊎ (64 ≤ r .0) → T (not (eqb high 0))
           go (inl l) = absurd (none-from low p e (r .2) (subst T (in-low low high l) (r .3)))
           go (inr l) =
               not-T (eqb high 0) (λ z. subst T (in-high low high l ∙ ap (λ (x : ℕ). bits x (r .0 - 64)) (eqb→eq high 0 z) ∙ bits-zero (r .0 - 64)) (r .3))
+
       back : T (not (eqb high 0)) → T (beyond p A)
       back t =
           let r = some-bit high h64 (λ z. T-not (eqb high 0) t (eqb-in z)) in
@@ -124,12 +127,14 @@ module _ (low high : ℕ) (l64 : low < 2 ^ 64) (h64 : high < 2 ^ 64) where
     where
       A : Numbers
       A = two-words 64 low high
+
       there : T (beyond p A) → T (not (eqb (high / 2 ^ (p - 64)) 0))
       there t =
           let r = beyond-out p A t in
           let l : 64 ≤ r .0 = omega (arith, r .2) in
           not-T (eqb (high / 2 ^ (p - 64)) 0)
           (λ z. none-from high (p - 64) (eqb→eq (high / 2 ^ (p - 64)) 0 z) (omega (arith, r .2)) (subst T (in-high low high l) (r .3)))
+
       back : T (not (eqb (high / 2 ^ (p - 64)) 0)) → T (beyond p A)
       back t =
           let r = some-from high (p - 64) h64 (λ z. T-not (eqb (high / 2 ^ (p - 64)) 0) t (eqb-in z)) in
@@ -154,6 +159,7 @@ set-of-words A f = ext (λ n. go n (or-64 n))
     back n l =
         same (ltb (n - 64) 64 && A n) (A n) (and-right (ltb (n - 64) 64) (A n))
         (λ t. let b : n < 128 = f n t in and-in (ltb (n - 64) 64) (A n) (lt→ltb (n - 64) 64 (omega arith)) t)
+
     go : (n : ℕ) → (n < 64) ⊎ (64 ≤ n) → two-words 64 (word 64 A) (word 64 (upper A)) n ≡ A n
     go n (inl l) = in-low (word 64 A) (word 64 (upper A)) l ∙ bits-word-in 64 A l
     go n (inr l) =

@@ -1,0 +1,42 @@
+-- Writing the records: the stores of the fields, one after the other, make the whole record in front of what lies behind it.
+-- Assumes nothing.
+use mathlib.Core.Path.{_≡_, refl, sym, ap, ap₂, _∙_}
+use mathlib.Core.List.{List, [], _∷_, _++_, append-nil}
+use Prim.Native.Nat.{ℕ, _+_, _≤_, _<_, _^_}
+use native.Mathlib.Omega.{arith}
+use lib.ListN.{length, getD, take, drop}
+use lib.Seq.{sets, drop-length, drop-drop}
+use Rattle.sets.specs.Words.{word, two-words}
+use Rattle.rules.specs.States.{State}
+use Rattle.records.specs.Numerals.{in-bytes}
+use Rattle.records.specs.StateRecord.{state-record, phase-of, active-of, upper}
+use Rattle.records.specs.Held.{set-of, words-of, state-bytes}
+use Rattle.records.proofs.Bytes.{sets-front, length-in-bytes}
+use Rattle.records.proofs.TwoWords.{words-low, words-high}
+
+-- The state's five fields.
+pub state-stored : (s : List ℕ) (phase : ℕ) (ws : List ℕ) {s1 s2 s3 s4 s5 : List ℕ} → length s ≡ 22 → s1 ≡ sets s 0 (in-bytes 2 22) → s2 ≡ sets s1 2 (in-bytes 2 2)
+    → s3 ≡ sets s2 4 (in-bytes 2 phase) → s4 ≡ sets s3 6 (in-bytes 8 (getD ws 0 0)) → s5 ≡ sets s4 14 (in-bytes 8 (getD ws 1 0))
+    → s5 ≡ state-bytes phase ws
+unfolding state-bytes in-bytes
+state-stored s phase ws l e1 e2 e3 e4 e5 =
+    e5 ∙ ap (λ (x : List ℕ). sets x 14 (in-bytes 8 (getD ws 1 0)))
+    (e4 ∙ ap (λ (x : List ℕ). sets x 6 (in-bytes 8 (getD ws 0 0)))
+    (e3 ∙ ap (λ (x : List ℕ). sets x 4 (in-bytes 2 phase))
+    (e2 ∙ ap (λ (x : List ℕ). sets x 2 (in-bytes 2 2)) e1)))
+    ∙ sets-front (state-bytes phase ws) s (omega arith)
+    ∙ ap (λ (r : List ℕ). state-bytes phase ws ++ r) (ap (λ (n : ℕ). drop n s) (sym l) ∙ drop-length s)
+    ∙ append-nil (state-bytes phase ws)
+
+-- The bytes of a state's own phase and words are the state's record.
+pub state-written : (st : State) → state-bytes (phase-of st) (words-of (active-of st)) ≡ state-record st
+unfolding state-bytes state-record
+state-written st = refl
+
+pub written-state : (st : State) (phase : ℕ) (ws : List ℕ) → getD ws 0 0 < 2 ^ 64 → getD ws 1 0 < 2 ^ 64
+    → phase ≡ phase-of st → set-of ws ≡ active-of st → state-bytes phase ws ≡ state-record st
+unfolding state-bytes state-record
+written-state st phase ws l h p a =
+    let low : getD ws 0 0 ≡ word 64 (active-of st) = sym (words-low (getD ws 0 0) (getD ws 1 0) l h) ∙ ap (word 64) a in
+    let high : getD ws 1 0 ≡ word 64 (upper (active-of st)) = sym (words-high (getD ws 0 0) (getD ws 1 0) l h) ∙ ap (λ A. word 64 (upper A)) a in
+    ap₂ (λ (n : ℕ) (b : List ℕ). in-bytes 2 22 ++ (in-bytes 2 2 ++ (in-bytes 2 n ++ b))) p (ap₂ (λ (x y : ℕ). in-bytes 8 x ++ in-bytes 8 y) low high)
