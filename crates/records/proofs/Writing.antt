@@ -2,14 +2,19 @@
 -- Assumes nothing.
 use mathlib.Core.Path.{_≡_, refl, sym, ap, ap₂, _∙_}
 use mathlib.Core.List.{List, [], _∷_, _++_, append-nil}
-use Prim.Native.Nat.{ℕ, _+_, _≤_, _<_, _^_}
+use Prim.Native.Nat.{ℕ, _+_, _-_, _≤_, _<_, _^_}
 use native.Mathlib.Omega.{arith}
-use lib.ListN.{length, getD, take, drop}
-use lib.Seq.{sets, drop-length, drop-drop}
+use lib.Dec.{ltb}
+use lib.ListN.{length, getD, take, drop, length-drop, drop-of-length-le}
+use lib.Seq.{sets, drop-length, drop-drop, take-all}
+use borrow.Author.Tests.{lt-ltb, le-ltb}
+use native.Mathlib.Nat.{le-refl, le-of-eq}
+use mathlib.Core.Bool.{Bool, true, _||_}
 use Rattle.sets.specs.Words.{word, two-words}
 use Rattle.rules.specs.States.{State}
 use Rattle.records.specs.Numerals.{in-bytes}
 use Rattle.records.specs.StateRecord.{state-record, phase-of, active-of, upper}
+use Rattle.records.specs.LogRecord.{Logged, log-record, no-room, logged-at}
 use Rattle.records.specs.Held.{set-of, words-of, state-bytes}
 use Rattle.records.proofs.Bytes.{sets-front, length-in-bytes}
 use Rattle.records.proofs.TwoWords.{words-low, words-high}
@@ -40,3 +45,43 @@ written-state st phase ws l h p a =
     let low : getD ws 0 0 ≡ word 64 (active-of st) = sym (words-low (getD ws 0 0) (getD ws 1 0) l h) ∙ ap (word 64) a in
     let high : getD ws 1 0 ≡ word 64 (upper (active-of st)) = sym (words-high (getD ws 0 0) (getD ws 1 0) l h) ∙ ap (λ A. word 64 (upper A)) a in
     ap₂ (λ (n : ℕ) (b : List ℕ). in-bytes 2 22 ++ (in-bytes 2 2 ++ (in-bytes 2 n ++ b))) p (ap₂ (λ (x y : ℕ). in-bytes 8 x ++ in-bytes 8 y) low high)
+
+-- The log record's six fields.
+pub log-stored : (s : List ℕ) (l : Logged) {s1 s2 s3 s4 s5 s6 : List ℕ} → 24 ≤ length s → s1 ≡ sets s 0 (in-bytes 2 24) → s2 ≡ sets s1 2 (in-bytes 2 3)
+    → s3 ≡ sets s2 4 (in-bytes 8 (l .inputs)) → s4 ≡ sets s3 12 (in-bytes 8 (l .present)) → s5 ≡ sets s4 20 (in-bytes 2 (l .code))
+    → s6 ≡ sets s5 22 (in-bytes 2 (l .rounds)) → s6 ≡ log-record l ++ drop 24 s
+unfolding log-record in-bytes
+log-stored s l h e1 e2 e3 e4 e5 e6 =
+    e6 ∙ ap (λ (x : List ℕ). sets x 22 (in-bytes 2 (l .rounds)))
+    (e5 ∙ ap (λ (x : List ℕ). sets x 20 (in-bytes 2 (l .code)))
+    (e4 ∙ ap (λ (x : List ℕ). sets x 12 (in-bytes 8 (l .present)))
+    (e3 ∙ ap (λ (x : List ℕ). sets x 4 (in-bytes 8 (l .inputs)))
+    (e2 ∙ ap (λ (x : List ℕ). sets x 2 (in-bytes 2 3)) e1))))
+    ∙ sets-front (log-record l) s h
+
+-- A record written into the part of a log from its end on, and the part put back, is the log with the record.
+pub lent-on : (log : List ℕ) (end : ℕ) (l : Logged) {part : List ℕ} → part ≡ log-record l ++ drop 24 (take (length log - end) (drop end log))
+    → take end log ++ (part ++ drop (length log - end) (drop end log)) ≡ logged-at log end l
+unfolding logged-at
+lent-on log end l {part} e =
+    let n : length (drop end log) ≤ length log - end = le-of-eq (length-drop end log) in
+    ap₂ (λ (p r : List ℕ). take end log ++ (p ++ r)) e (drop-of-length-le (drop end log) n)
+    ∙ ap (λ (r : List ℕ). take end log ++ r) (append-nil (log-record l ++ drop 24 (take (length log - end) (drop end log))))
+    ∙ ap (λ (r : List ℕ). take end log ++ (log-record l ++ drop 24 r)) (take-all (length log - end) (drop end log) n)
+    ∙ ap (λ (r : List ℕ). take end log ++ (log-record l ++ r)) (drop-drop 24 end log)
+
+-- The same of the part alone: what lies before the end, then the record and what lies behind it.
+pub from-the-end : (log : List ℕ) (end : ℕ) (l : Logged) → take end log ++ (log-record l ++ drop 24 (drop end log)) ≡ logged-at log end l
+unfolding logged-at
+from-the-end log end l = ap (λ (r : List ℕ). take end log ++ (log-record l ++ r)) (drop-drop 24 end log)
+
+-- ROOM, by the log's length.
+pub beyond-log : (log : List ℕ) (end : ℕ) {len : ℕ} → length log ≡ len → len < end → true ≡ no-room log end
+unfolding no-room
+beyond-log log end {len} e h =
+    sym (ap (λ (n : ℕ). ltb n end || ltb (n - end) 24) e ∙ ap (λ (b : Bool). b || ltb (len - end) 24) (lt-ltb len end h))
+
+pub within-log : (log : List ℕ) (end : ℕ) {len : ℕ} → length log ≡ len → end ≤ len → ltb (len - end) 24 ≡ no-room log end
+unfolding no-room
+within-log log end {len} e h =
+    sym (ap (λ (n : ℕ). ltb n end || ltb (n - end) 24) e ∙ ap (λ (b : Bool). b || ltb (len - end) 24) (le-ltb len end h))

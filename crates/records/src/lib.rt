@@ -1,4 +1,5 @@
 // The records of document 01: the state record, the log record and the input set.
 pub mod bits;
+pub mod log;
 mod numerals;
 pub mod state;
