@@ -2,3 +2,4 @@ pub mod Numerals
 pub mod StateRecord
 pub mod Held
 pub mod LogRecord
+pub mod Clashing
