@@ -212,3 +212,33 @@ filled-more kinds firsts i n h e f j l = go (eqb j i) refl
         let k : j ≡ i = eqb-true j i q in
         ap (λ (x : ℕ). getD (set firsts i n) x 0) k ∙ getD-set-same firsts i n 0 h ∙ e ∙ ap (before kinds) (sym k)
     go false q = let k : j ≡ i → ⊥ = eqb-false j i q in getD-set-other firsts i j n 0 k ∙ f j (omega arith)
+
+-- The walk: it has come to a part that holds both, with the same lowest statement above them.
+pub record Reaches (kinds sizes firsts : List ℕ) (m n : ℕ) (t : Stmt) (at : ℕ) : Type 0 where
+  pub part : Stmt
+  pub place : Place kinds sizes firsts m n at part
+  pub same : compatible part m n ≡ compatible t m n
+
+pub reach-root : (kinds sizes firsts : List ℕ) (m n : ℕ) (t : Stmt) → Place kinds sizes firsts m n 0 t → Reaches kinds sizes firsts m n t 0
+reach-root kinds sizes firsts m n t P = record { part = t; place = P; same = refl }
+
+module _ (kinds sizes firsts : List ℕ) (m n : ℕ) (t : Stmt) (at r : ℕ) (R : Reaches kinds sizes firsts m n t at)
+    (f : (p : Stmt) → Place kinds sizes firsts m n at p → Goes kinds sizes firsts m n at r p) where
+  pub reach-in : at < 512
+  reach-in = here kinds sizes firsts m n at (R .part) (R .place)
+
+  pub reach-next : (r ≡ at → ⊥) → (at < r) × Reaches kinds sizes firsts m n t r
+  unfolding Goes
+  reach-next h = go (f (R .part) (R .place))
+    where
+      go : Goes kinds sizes firsts m n at r (R .part) → (at < r) × Reaches kinds sizes firsts m n t r
+      go (inl w) = absurd (h (w .0))
+      go (inr w) = (w .1, record { part = w .0; place = w .2; same = w .3 ∙ R .same })
+
+  pub reach-here : r ≡ at → eqb (getD kinds at 0) 23 ≡ compatible t m n
+  unfolding Goes
+  reach-here h = go (f (R .part) (R .place))
+    where
+      go : Goes kinds sizes firsts m n at r (R .part) → eqb (getD kinds at 0) 23 ≡ compatible t m n
+      go (inl w) = w .1 ∙ R .same
+      go (inr w) = absurd (omega (arith, w .1))

@@ -38,6 +38,16 @@ before kinds (suc i) = cond (eqb (getD kinds i 0) 17) 1 0 + before kinds i
 pub record Filled (kinds : List ℕ) (count : ℕ) (firsts : List ℕ) : Type 0 where
   pub first : (i : ℕ) → i < count → getD firsts i 0 ≡ before kinds i
 
+-- A pair to be tested: the first pause is active and the lower one, in some table with its counts.
+pub record Pairable (kinds sizes firsts active : List ℕ) (m n : ℕ) : Type 0 where
+  pub count : ℕ
+  pub tree : Stmt
+  pub searchable : Searchable kinds sizes count active tree
+  pub filled : Filled kinds count firsts
+  pub member : T (set-of active m)
+  pub lower : m < n
+  pub in-width : n < 128
+
 -- The kinds of statements with two parts: present, sequence, parallel.
 unfoldable pub two-parts : ℕ → Bool
 two-parts kind = eqb kind 19 || (eqb kind 21 || eqb kind 23)

@@ -8,7 +8,7 @@ ghost use Rattle.rules.specs.Statements.{Stmt};
 ghost use Rattle.rules.specs.States.{compatible};
 ghost use Rattle.records.specs.StateRecord.{clashes, first-clash};
 ghost use Rattle.records.specs.Held.{set-of};
-ghost use Rattle.records.specs.Clashing.{pair-of, Searchable, Filled, two-parts, Place, Goes};
+ghost use Rattle.records.specs.Clashing.{pair-of, Searchable, Filled, Pairable, two-parts, Place, Goes};
 
 // The first bad pair, or none.
 pub enum Clash {
@@ -68,4 +68,59 @@ fn toward(
         return second;
     }
     i + 1
+}
+
+// The lowest statement above both pauses is a parallel.
+fn in_parallel(kinds: &[u16; 512], sizes: &[u16; 512], firsts: &[u16; 512], m: u16, n: u16) -> bool
+    requires { ⌜ ((t : Stmt) × Place (now kinds) (now sizes) (now firsts) m n 0 t) ⌝ }
+    ensures { λ r. ⌜ ((t : Stmt) → Place (now (kinds .entry)) (now (sizes .entry)) (now (firsts .entry)) m n 0 t → r ≡ compatible t m n) ⌝ }
+{
+    let mut at: usize = 0;
+    loop {
+        let next = toward(kinds, sizes, firsts, at, m, n);
+        if next == at {
+            break;
+        }
+        at = next;
+    }
+    kinds[at] == 23
+}
+
+// An active first pause clashes with the second: it is active too, and the two are not compatible.
+fn clashing(
+    kinds: &[u16; 512],
+    sizes: &[u16; 512],
+    firsts: &[u16; 512],
+    active: [u64; 2],
+    m: u16,
+    n: u16,
+) -> bool
+    requires { ⌜ Pairable (now kinds) (now sizes) (now firsts) active m n ⌝ }
+    ensures { λ r. ⌜ ((count : ℕ) (t : Stmt) → Searchable (now (kinds .entry)) (now (sizes .entry)) count active t → Filled (now (kinds .entry)) count (now (firsts .entry)) → r ≡ clashes t (set-of active) m n) ⌝ }
+{
+    if has(active, n) {
+        !in_parallel(kinds, sizes, firsts, m, n)
+    } else {
+        false
+    }
+}
+
+// The lowest first pause, then the lowest second, of a pair that clashes.
+pub fn first_clash(kinds: &[u16; 512], sizes: &[u16; 512], count: usize, active: [u64; 2]) -> Clash
+    requires { ⌜ ((t : Stmt) × Searchable (now kinds) (now sizes) count active t) ⌝ }
+    ensures { λ r. ⌜ ((t : Stmt) → Searchable (now (kinds .entry)) (now (sizes .entry)) count active t → pair-of r ≡ first-clash t (set-of active)) ⌝ }
+{
+    let firsts = pauses_before(kinds, count);
+    let mut found = Clash::None;
+    'pairs: for m in 0u16..128 {
+        if has(active, m) {
+            for n in m + 1..128 {
+                if clashing(kinds, sizes, &firsts, active, m, n) {
+                    found = Clash::Pair(m, n);
+                    break 'pairs;
+                }
+            }
+        }
+    }
+    found
 }
