@@ -17,12 +17,12 @@ use Rattle.records.specs.declared.state.Held.{Held}
 use Rattle.records.proofs.TwoWords.{words-low, words-high}
 
 -- The definition's choice, with the tests of the bits as Booleans.
-abbrev choose : ℕ → Bool → Bool → Numbers → Found
+abbrev pub choose : ℕ → Bool → Bool → Numbers → Found
 choose phase clear far A =
     cond (eqb phase 0 && clear) (state fresh)
     (cond (eqb phase 1 && not clear && not far) (state (running A)) (cond (eqb phase 2 && clear) (state finished) not-a-state))
 
-in-phase-of : (phase pauses : ℕ) (bs : List ℕ) {low high : ℕ} → field bs 6 8 ≡ low → field bs 14 8 ≡ high
+pub in-phase-of : (phase pauses : ℕ) (bs : List ℕ) {low high : ℕ} → field bs 6 8 ≡ low → field bs 14 8 ≡ high
     → in-phase phase pauses bs ≡ choose phase (eqb low 0 && eqb high 0) (beyond pauses (two-words 64 low high)) (two-words 64 low high)
 unfolding in-phase
 in-phase-of phase pauses bs e f =
@@ -99,7 +99,7 @@ module _ (phase pauses low high : ℕ) (bs : List ℕ) (e : field bs 6 8 ≡ low
           (ap (λ (x : Bool). x && not false && not (beyond pauses (two-words 64 low high))) (ne-eqb phase 1 p)))
 
 -- The ways through the length, the kind and the size.
-abbrev headed : Bool → Bool → Bool → Found → Found
+abbrev pub headed : Bool → Bool → Bool → Found → Found
 headed a b c f = cond (a && b && c) f not-a-state
 
 not-sized : (a b c : Bool) (f : Found) → a ≡ false → headed a b c f ≡ not-a-state
