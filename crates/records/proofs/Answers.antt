@@ -1,7 +1,7 @@
 -- The answers, for callers: which state a held one stands for, and that no contract lets two differing answers pass. Assumes nothing.
-use mathlib.Core.Path.{_≡_, refl, sym, ap, ap₂, _∙_, subst, subst⁻¹}
+use mathlib.Core.Path.{_≡_, refl, sym, ap, ap₂, _∙_, subst}
 use mathlib.Core.Bool.{Bool}
-use mathlib.Core.List.{List, [], _∷_}
+use mathlib.Core.List.{List}
 use mathlib.Core.Option.{Option, none, some}
 use Prim.Native.Nat.{ℕ, _<_}
 use native.Mathlib.Omega.{arith}
@@ -11,9 +11,9 @@ use Rattle.sets.specs.Numbers.{Numbers, empty}
 use Rattle.sets.specs.Words.{word, two-words}
 use Rattle.rules.specs.Statements.{Stmt}
 use Rattle.rules.specs.States.{State, fresh, running, finished}
-use Rattle.records.specs.StateRecord.{Found, not-a-state, state, phase-of, active-of, upper, read-state, Pair, first-clash}
+use Rattle.records.specs.StateRecord.{Found, not-a-state, state, active-of, upper, read-state, Pair, first-clash}
 use Rattle.records.specs.LogRecord.{no-room}
-use Rattle.records.specs.Held.{set-of, words-of, held-of}
+use Rattle.records.specs.Held.{set-of, held-of}
 use Rattle.records.specs.Clashing.{pair-of, Searchable}
 use Rattle.records.specs.declared.clash.Clash.{Clash}
 use Rattle.records.specs.declared.clash.Clash.the-variants as clash

@@ -1,32 +1,22 @@
 -- Both ways: what is written is read back, and a state that is found without a clash is a legal one. Assumes nothing.
-use mathlib.Core.Path.{_≡_, refl, sym, ap, ap₂, _∙_, subst, subst⁻¹}
-use mathlib.Core.Logic.{_⊎_, inl, inr, _≢_}
-use mathlib.Core.Bool.{Bool, true, false, not, cond, _&&_, and-comm}
-use mathlib.Core.List.{List, [], _∷_, _++_}
-use mathlib.Core.Option.{Option, none, some}
-use Prim.Native.Nat.{ℕ, zero, suc, _+_, _-_, _*_, _^_, _≤_, _<_}
-use native.Mathlib.Nat.{pow-suc, zero-lt-suc, add-zero}
+use mathlib.Core.Path.{_≡_, refl, sym, ap, ap₂, _∙_, subst⁻¹}
+use mathlib.Core.Bool.{Bool, true, false, cond, _&&_, and-comm}
+use Prim.Native.Nat.{ℕ, _^_, _≤_, _<_}
 use native.Mathlib.Omega.{arith}
-use lib.Dec.{T, eqb, ltb, leb, eqb→eq, T-not, not-T, lt→ltb}
-use lib.ListN.{length, getD, take, drop, length-append, length-take, length-drop}
-use lib.Seq.{getD-drop, take-at, drop-at, drop-drop, length-take-le}
-use borrow.Author.Tests.{ltb-true, ltb-false, ne-eqb}
-use Rattle.sets.specs.Numbers.{Numbers, empty, listed, some-to, lowest}
-use Rattle.sets.specs.Words.{bits, word, two-words}
-use Rattle.sets.proofs.Members.{is-true, is-false, of-true, of-false, and-in, and-left, and-right, eqb-in, cases}
-use Rattle.sets.proofs.Maxima.{some-to-in, some-to-out}
-use Rattle.sets.proofs.Counts.{lowest-is, Lowest}
+use lib.Dec.{T, eqb, eqb→eq}
+use lib.ListN.{length}
+use Rattle.sets.specs.Numbers.{Numbers, empty, listed}
+use Rattle.sets.specs.Words.{word, two-words}
+use Rattle.sets.proofs.Members.{is-false, of-false, and-left, and-right}
 use Rattle.sets.proofs.Words.{word-lt, word-empty}
 use Rattle.rules.specs.Statements.{Stmt, nothing, pause, emit, present?_then_else_, suspend_on_, _⨾_, loop, _parallel_, trap, exit, local, pauses}
-use Rattle.rules.specs.States.{State, fresh, running, finished, holds-both, lowest-above, is-parallel, compatible, Running, Legal}
+use Rattle.rules.specs.States.{State, fresh, running, finished, holds-both, lowest-above, is-parallel, compatible}
 use Rattle.records.specs.Numerals.{in-bytes, number, field}
-use Rattle.records.specs.StateRecord.{Found, not-a-state, state, phase-of, active-of, upper, state-record, beyond, active-in, none-active, in-phase, read-state, Pair, clashes, first-clash, with-second, paired}
-use Rattle.records.specs.LogRecord.{Logged, log-record, logged-at}
-use Rattle.records.specs.Held.{set-of, words-of, held-of}
-use Rattle.records.proofs.Bytes.{number-in-bytes, field-cons}
-use Rattle.records.proofs.TwoWords.{set-of-words, set-of-none, beyond-in, beyond-out, some-bit, in-low, in-high, below-128, below-width}
-use Rattle.records.proofs.Reading.{choose, in-phase-of, headed, read-whole}
-use Rattle.records.proofs.Pairs.{Clear-first, none-found, clash-first, clash-second, clash-lower, clash-apart}
+use Rattle.records.specs.StateRecord.{state, phase-of, active-of, upper, state-record, beyond, in-phase, read-state}
+use Rattle.records.specs.LogRecord.{Logged, log-record}
+use Rattle.records.proofs.Bytes.{number-in-bytes}
+use Rattle.records.proofs.TwoWords.{set-of-words, set-of-none, beyond-out}
+use Rattle.records.proofs.Reading.{choose, in-phase-of, read-whole}
 
 -- The log record, field by field.
 module _ (l : Logged) where

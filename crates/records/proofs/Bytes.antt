@@ -1,12 +1,12 @@
 -- Numbers in bytes: a field is its first byte and the field behind it, and what is written in so many bytes is read back where it
 -- fits. Assumes nothing.
 use mathlib.Core.Path.{_≡_, refl, sym, ap, ap₂, _∙_, subst}
-use mathlib.Core.List.{List, [], _∷_, _++_, append-assoc, append-nil}
+use mathlib.Core.List.{List, [], _∷_, _++_}
 use Prim.Native.Nat.{ℕ, zero, suc, _+_, _-_, _*_, _/_, _%_, _^_, _≤_, _<_}
 use native.Mathlib.Nat.{pow-suc, pow-le-pow-right, zero-lt-suc, add-zero, zero-add, add-suc, suc-add}
 use native.Mathlib.Omega.{arith}
-use lib.ListN.{length, getD, take, drop, set, length-append}
-use lib.Seq.{drop-cons, sets, sets-eq, length-sets, drop-at, take-at, drop-length}
+use lib.ListN.{length, getD, take, drop, set}
+use lib.Seq.{drop-cons, sets, sets-eq}
 use Rattle.records.specs.Numerals.{in-bytes, number, field}
 
 -- A field, from its first byte on.

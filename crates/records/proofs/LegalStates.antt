@@ -1,31 +1,27 @@
 -- A state found in a record, and legal states: found without a clash it is legal, and every legal state's record is found, without
 -- a clash. Assumes nothing.
-use mathlib.Core.Path.{_≡_, refl, sym, ap, ap₂, _∙_, subst, subst⁻¹}
+use mathlib.Core.Path.{_≡_, refl, sym, ap, _∙_, subst, subst⁻¹}
 use mathlib.Core.Logic.{_⊎_, inl, inr, _≢_}
 use mathlib.Core.Bool.{Bool, true, false, not, cond, _&&_}
 use mathlib.Core.List.{List, [], _∷_}
 use mathlib.Core.Option.{Option, none, some}
-use Prim.Native.Nat.{ℕ, zero, suc, _+_, _-_, _*_, _^_, _≤_, _<_}
-use native.Mathlib.Nat.{pow-suc, zero-lt-suc}
+use Prim.Native.Nat.{ℕ, zero, suc, _+_, _-_, _^_, _≤_, _<_}
+use native.Mathlib.Nat.{pow-suc}
 use native.Mathlib.Omega.{arith}
 use lib.Dec.{T, eqb, ltb, eqb→eq, T-not, not-T, lt→ltb}
 use lib.ListN.{length, getD, take, drop}
 use lib.Seq.{getD-drop}
-use lib.Pow.{pow-pos}
 use borrow.Author.Tests.{ltb-true, ltb-false}
 use Rattle.sets.specs.Numbers.{Numbers, empty, some-to, lowest}
-use Rattle.sets.specs.Words.{bits, word, two-words}
-use Rattle.sets.proofs.Members.{is-true, is-false, of-true, of-false, and-in, and-left, and-right, eqb-in, cases}
+use Rattle.sets.specs.Words.{bits}
+use Rattle.sets.proofs.Members.{of-false, and-in, and-left, and-right, eqb-in, cases}
 use Rattle.sets.proofs.Maxima.{some-to-in, some-to-out}
 use Rattle.sets.proofs.Counts.{lowest-is, Lowest}
-use Rattle.sets.proofs.Words.{word-empty}
 use Rattle.rules.specs.Statements.{Stmt, pauses}
-use Rattle.rules.specs.States.{State, fresh, running, finished, compatible, Running, Legal}
+use Rattle.rules.specs.States.{State, fresh, running, finished, compatible, Legal}
 use Rattle.records.specs.Numerals.{number, field}
-use Rattle.records.specs.StateRecord.{Found, not-a-state, state, phase-of, active-of, upper, state-record, beyond, active-in, in-phase, read-state, Pair, clashes, first-clash, with-second, paired}
-use Rattle.records.specs.Held.{set-of, words-of, held-of}
-use Rattle.records.proofs.TwoWords.{set-of-words, set-of-none, beyond-in, beyond-out, some-bit, in-low, in-high, below-128, below-width, or-64, words-low, words-high}
-use Rattle.records.proofs.Reading.{choose, headed}
+use Rattle.records.specs.StateRecord.{Found, not-a-state, state, active-of, state-record, beyond, active-in, in-phase, read-state, clashes, first-clash, with-second, paired}
+use Rattle.records.proofs.TwoWords.{beyond-in, some-bit, in-low, in-high, below-128, below-width}
 use Rattle.records.proofs.Pairs.{Clear-first, none-found, clash-first, clash-second, clash-lower, clash-apart}
 use Rattle.records.proofs.Back.{fresh-back, finished-back, running-back, compatible-sym}
 

@@ -1,24 +1,22 @@
 -- Pairs of pauses: what one test says, and what the search over all pairs has shown. Assumes nothing.
-use mathlib.Core.Path.{_≡_, refl, sym, ap, ap₂, _∙_, subst, subst⁻¹}
-use mathlib.Core.Logic.{_⊎_, inl, inr}
-use mathlib.Core.Bool.{Bool, true, false, not, cond, _&&_}
+use mathlib.Core.Path.{_≡_, refl, sym, ap, _∙_, subst}
+use mathlib.Core.Bool.{Bool, true, false, not, _&&_}
 use mathlib.Core.List.{List}
-use mathlib.Core.Option.{Option, none, some}
-use Prim.Native.Nat.{ℕ, suc, _+_, _≤_, _<_}
+use mathlib.Core.Option.{none, some}
+use Prim.Native.Nat.{ℕ, _+_, _≤_, _<_}
 use native.Mathlib.Omega.{arith}
-use lib.Dec.{T, eqb, ltb, ltb→lt, lt→ltb, T-not}
-use lib.ListN.{length, getD}
+use lib.Dec.{T, eqb, ltb, ltb→lt, T-not}
+use lib.ListN.{length}
 use borrow.Author.Tests.{lt-ltb, eqb-true, eqb-false}
-use Rattle.sets.specs.Numbers.{Numbers, some-to, lowest}
-use Rattle.sets.proofs.Members.{is-true, is-false, of-true, of-false, and-in, and-left, and-right}
+use Rattle.sets.specs.Numbers.{Numbers, some-to}
+use Rattle.sets.proofs.Members.{is-true, is-false, of-false, and-left, and-right}
 use Rattle.sets.proofs.Maxima.{some-to-in, some-to-out}
 use Rattle.sets.proofs.Counts.{lowest-in, lowest-empty}
-use Rattle.rules.specs.Statements.{Stmt, pauses, Numbered}
+use Rattle.rules.specs.Statements.{Stmt, pauses}
 use Rattle.rules.specs.States.{compatible}
-use Rattle.block.specs.Table.{statements, Has}
-use Rattle.records.specs.StateRecord.{Pair, clashes, first-clash, with-second, paired}
+use Rattle.records.specs.StateRecord.{clashes, first-clash, with-second, paired}
 use Rattle.records.specs.Held.{set-of}
-use Rattle.records.specs.Clashing.{pair-of, Searchable, before, Filled, Pairable, Place}
+use Rattle.records.specs.Clashing.{Searchable, before, Filled, Place}
 
 -- Two active pauses are in the tree, so that the walk may start at its root.
 pub root-place : (kinds sizes firsts active : List ℕ) (count m n : ℕ) (t : Stmt) → Searchable kinds sizes count active t → Filled kinds count firsts

@@ -6,14 +6,13 @@ use Prim.Native.Nat.{ℕ, _<_, _^_}
 use lib.Dec.{eqb}
 use lib.ListN.{length}
 use borrow.Author.Tests.{ne-eqb}
-use Rattle.sets.specs.Numbers.{Numbers, empty}
-use Rattle.sets.specs.Words.{word, two-words}
+use Rattle.sets.specs.Numbers.{Numbers}
+use Rattle.sets.specs.Words.{two-words}
 use Rattle.sets.proofs.Words.{word-empty}
 use Rattle.rules.specs.States.{fresh, running, finished}
 use Rattle.records.specs.Numerals.{field}
-use Rattle.records.specs.StateRecord.{Found, not-a-state, state, phase-of, active-of, upper, beyond, none-active, active-in, in-phase, read-state}
-use Rattle.records.specs.Held.{held-of, words-of}
-use Rattle.records.specs.declared.state.Held.{Held}
+use Rattle.records.specs.StateRecord.{Found, not-a-state, state, beyond, in-phase, read-state}
+use Rattle.records.specs.Held.{held-of}
 use Rattle.records.proofs.TwoWords.{words-low, words-high}
 
 -- The definition's choice, with the tests of the bits as Booleans.

@@ -2,19 +2,19 @@
 use mathlib.Core.Path.{_≡_, refl, sym, ap, ap₂, _∙_, subst, subst⁻¹}
 use mathlib.Core.Logic.{_⊎_, inl, inr}
 use mathlib.Core.Bool.{Bool, true, false, cond, _||_}
-use mathlib.Core.List.{List, _++_}
+use mathlib.Core.List.{List}
 use Prim.Native.Nat.{ℕ, _+_, _≤_, _<_}
 use native.Mathlib.Omega.{arith}
-use lib.Dec.{T, eqb}
+use lib.Dec.{eqb}
 use lib.ListN.{length, getD, set, length-append}
 use lib.Seq.{getD-set-same, getD-set-other}
 use native.Mathlib.Nat.{zero-add}
 use borrow.Author.Tests.{ne-eqb, eqb-true, eqb-false}
 use Rattle.rules.specs.Statements.{Stmt, pauses, Numbered}
 use Rattle.rules.specs.States.{holds-both, lowest-above, is-parallel, compatible}
-use Rattle.block.specs.Table.{Table, kind-of, statements, Row, Has}
-use Rattle.records.specs.Clashing.{before, Filled, two-parts, Place, Goes}
-use Rattle.records.proofs.Walk.{row, statements-pos, One, Two, Shape, leaf, one, two, shape, before-step, before-part, before-next, numbered-one, numbered-first, numbered-second, holds, holds-not-first, holds-not-second, choice}
+use Rattle.block.specs.Table.{Table, kind-of, statements}
+use Rattle.records.specs.Clashing.{before, two-parts, Place, Goes}
+use Rattle.records.proofs.Walk.{row, statements-pos, One, Two, Shape, leaf, one, two, shape, before-step, before-part, before-next, numbered-one, numbered-first, numbered-second, holds, holds-not-first, holds-not-second}
 
 -- Two Booleans at once.
 true-false : {b : Bool} → b ≡ true → b ≡ false → ⊥

@@ -1,25 +1,22 @@
 -- A set in two words: which word has a member, when a word has a bit from a place on, and words and sets taken into each other.
 -- Assumes nothing.
-use mathlib.Core.Path.{_≡_, refl, sym, ap, ap₂, _∙_, subst, subst⁻¹}
+use mathlib.Core.Path.{_≡_, refl, sym, ap, _∙_, subst, subst⁻¹}
 use mathlib.Core.Logic.{_⊎_, inl, inr}
-use mathlib.Core.Bool.{Bool, true, false, not, cond, _&&_, _||_}
+use mathlib.Core.Bool.{Bool, true, false, not, cond, _&&_}
 use mathlib.Core.Option.{Option, none, some}
-use mathlib.Core.List.{List, [], _∷_}
-use Prim.Native.Nat.{ℕ, zero, suc, _+_, _-_, _/_, _^_, _≤_, _<_}
+use Prim.Native.Nat.{ℕ, _+_, _-_, _/_, _^_, _≤_, _<_}
 use native.Mathlib.Nat.{lt-of-lt-of-le, div-eq-of-lt, zero-lt-suc, div-le-self}
 use native.Mathlib.Omega.{arith}
 use lib.Dec.{T, eqb, ltb, leb, le→leb, leb→le, lt→ltb, T-not, not-T, eqb→eq}
-use lib.Pow.{pow-mono, pow-pos}
-use lib.ListN.{getD}
+use lib.Pow.{pow-mono}
 use borrow.Author.Tests.{lt-ltb, le-ltb}
-use Rattle.sets.specs.Numbers.{Numbers, empty, some-to, lowest}
+use Rattle.sets.specs.Numbers.{Numbers, lowest}
 use Rattle.sets.specs.Words.{bits, word, two-words}
-use Rattle.sets.proofs.Members.{is-true, of-true, is-false, same, and-in, and-left, and-right, eqb-in, eqb-not, ext, cases}
+use Rattle.sets.proofs.Members.{is-true, of-true, is-false, same, and-in, and-left, and-right, eqb-in, ext}
 use Rattle.sets.proofs.Maxima.{some-to-in, some-to-out}
 use Rattle.sets.proofs.Counts.{lowest-is, Lowest}
-use Rattle.sets.proofs.Words.{bits-shift, bits-zero, bits-high, bits-ext-to, bits-word, bits-word-in, word-bits, word-cong, word-lt, word-empty}
+use Rattle.sets.proofs.Words.{bits-shift, bits-zero, bits-high, bits-ext-to, bits-word, bits-word-in, word-bits, word-cong}
 use Rattle.records.specs.StateRecord.{upper, beyond}
-use Rattle.records.specs.Held.{set-of, words-of}
 
 -- Which word has a member.
 pub in-low : (low high : ℕ) {n : ℕ} → n < 64 → two-words 64 low high n ≡ bits low n

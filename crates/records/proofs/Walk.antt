@@ -1,23 +1,23 @@
 -- The table and the tree: a statement's first pause is the count of pauses before it, so that a part holds two pauses exactly when
 -- they lie in its interval. Assumes nothing.
-use mathlib.Core.Path.{_≡_, refl, sym, ap, ap₂, _∙_, subst, subst⁻¹}
+use mathlib.Core.Path.{_≡_, refl, sym, ap, _∙_, subst, subst⁻¹}
 use mathlib.Core.Logic.{_⊎_, inl, inr}
 use mathlib.Core.Bool.{Bool, true, false, cond, _&&_, _||_}
-use mathlib.Core.List.{List, [], _∷_, _++_}
-use Prim.Native.Nat.{ℕ, zero, suc, _+_, _-_, _≤_, _<_}
-use native.Mathlib.Nat.{le-refl, add-zero}
+use mathlib.Core.List.{List, _∷_, _++_}
+use Prim.Native.Nat.{ℕ, zero, suc, _+_, _≤_, _<_}
+use native.Mathlib.Nat.{le-refl}
 use native.Mathlib.Numerals.{add-one}
 use native.Mathlib.Omega.{arith}
-use lib.Dec.{T, eqb, eqb→eq, leb·zero}
+use lib.Dec.{T, eqb, eqb→eq}
 use lib.ListN.{length, getD, take, drop, length-append}
 use lib.Seq.{take-at, drop-at}
 use borrow.Author.Tests.{eqb-false}
 use Rattle.sets.specs.Numbers.{listed}
-use Rattle.sets.proofs.Members.{is-true, is-false, of-true, or-left, or-right, or-out, and-in, and-left, and-right, eqb-in}
+use Rattle.sets.proofs.Members.{is-true, is-false, of-true, or-left, or-right, or-out, and-in, and-left, and-right}
 use Rattle.rules.specs.Statements.{Stmt, nothing, pause, emit, present?_then_else_, suspend_on_, _⨾_, loop, _parallel_, trap, exit, local, pauses, from, Numbered}
 use Rattle.rules.specs.States.{holds-both, lowest-above, is-parallel, compatible}
 use Rattle.block.specs.Table.{Table, kind-of, statements, Row, Has}
-use Rattle.records.specs.Clashing.{before, Filled, two-parts, Place, Goes}
+use Rattle.records.specs.Clashing.{before, two-parts}
 
 -- What is at a place of the table: its row, and what there is below it.
 pub row : (tab : Table) (i : ℕ) (p : Stmt) → Has tab i p → Row tab i p

@@ -2,22 +2,23 @@
 -- Assumes nothing.
 use mathlib.Core.Path.{_≡_, refl, sym, ap, ap₂, _∙_}
 use mathlib.Core.List.{List, [], _∷_, _++_, append-nil}
-use Prim.Native.Nat.{ℕ, _+_, _-_, _≤_, _<_, _^_}
+use Prim.Native.Nat.{ℕ, _-_, _≤_, _<_, _^_}
 use native.Mathlib.Omega.{arith}
 use lib.Dec.{ltb}
 use lib.ListN.{length, getD, take, drop, length-drop, drop-of-length-le}
 use lib.Seq.{sets, drop-length, drop-drop, take-all}
 use borrow.Author.Tests.{lt-ltb, le-ltb}
-use native.Mathlib.Nat.{le-refl, le-of-eq}
+use native.Mathlib.Nat.{le-of-eq}
 use mathlib.Core.Bool.{Bool, true, _||_}
-use Rattle.sets.specs.Words.{word, two-words}
-use Rattle.rules.specs.States.{State}
+use Rattle.sets.specs.Words.{word}
+use Rattle.sets.proofs.Members.{ext}
+use Rattle.rules.specs.States.{State, fresh, finished}
 use Rattle.records.specs.Numerals.{in-bytes}
 use Rattle.records.specs.StateRecord.{state-record, phase-of, active-of, upper}
 use Rattle.records.specs.LogRecord.{Logged, log-record, no-room, logged-at}
 use Rattle.records.specs.Held.{set-of, words-of, state-bytes}
-use Rattle.records.proofs.Bytes.{sets-front, length-in-bytes}
-use Rattle.records.proofs.TwoWords.{words-low, words-high}
+use Rattle.records.proofs.Bytes.{sets-front}
+use Rattle.records.proofs.TwoWords.{words-low, words-high, set-of-none}
 
 -- The state's five fields.
 pub state-stored : (s : List ℕ) (phase : ℕ) (ws : List ℕ) {s1 s2 s3 s4 s5 : List ℕ} → length s ≡ 22 → s1 ≡ sets s 0 (in-bytes 2 22) → s2 ≡ sets s1 2 (in-bytes 2 2)
@@ -45,6 +46,14 @@ written-state st phase ws l h p a =
     let low : getD ws 0 0 ≡ word 64 (active-of st) = sym (words-low (getD ws 0 0) (getD ws 1 0) l h) ∙ ap (word 64) a in
     let high : getD ws 1 0 ≡ word 64 (upper (active-of st)) = sym (words-high (getD ws 0 0) (getD ws 1 0) l h) ∙ ap (λ A. word 64 (upper A)) a in
     ap₂ (λ (n : ℕ) (b : List ℕ). in-bytes 2 22 ++ (in-bytes 2 2 ++ (in-bytes 2 n ++ b))) p (ap₂ (λ (x y : ℕ). in-bytes 8 x ++ in-bytes 8 y) low high)
+
+pub fresh-written : state-bytes 0 (0 ∷ 0 ∷ []) ≡ state-record fresh
+unfolding phase-of active-of
+fresh-written = written-state fresh 0 (0 ∷ 0 ∷ []) (omega arith) (omega arith) refl (ext set-of-none)
+
+pub finished-written : state-bytes 2 (0 ∷ 0 ∷ []) ≡ state-record finished
+unfolding phase-of active-of
+finished-written = written-state finished 2 (0 ∷ 0 ∷ []) (omega arith) (omega arith) refl (ext set-of-none)
 
 -- The log record's six fields.
 pub log-stored : (s : List ℕ) (l : Logged) {s1 s2 s3 s4 s5 s6 : List ℕ} → 24 ≤ length s → s1 ≡ sets s 0 (in-bytes 2 24) → s2 ≡ sets s1 2 (in-bytes 2 3)

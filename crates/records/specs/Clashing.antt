@@ -9,7 +9,7 @@ use lib.Dec.{T, eqb}
 use lib.ListN.{length, getD}
 use Rattle.rules.specs.Statements.{Stmt, pauses, Numbered}
 use Rattle.rules.specs.States.{compatible}
-use Rattle.block.specs.Table.{Table, Has, statements}
+use Rattle.block.specs.Table.{Has, statements}
 use Rattle.records.specs.StateRecord.{Pair}
 use Rattle.records.specs.Held.{set-of}
 use Rattle.records.specs.declared.clash.Clash.{Clash}
@@ -27,7 +27,6 @@ pub record Searchable (kinds sizes : List ℕ) (count : ℕ) (active : List ℕ)
   pub numbered : Numbered 0 t
   pub counted : statements t ≡ count
   pub few : count ≤ 512
-  pub few-pauses : length (pauses t) ≤ 128
   pub in-block : (n : ℕ) → T (set-of active n) → n < length (pauses t)
 
 -- How many pauses stand before statement i.

@@ -1,7 +1,7 @@
 // Bits of a word and of the two words of an active set.
 ghost use mathlib.Core.Path.{_≡_};
-ghost use mathlib.Core.Bool.{not, _||_};
-ghost use Prim.Native.Nat.{_+_, _/_, _<_, _^_};
+ghost use mathlib.Core.Bool.{not};
+ghost use Prim.Native.Nat.{_/_, _<_, _^_};
 ghost use lib.Dec.{eqb};
 ghost use Rattle.sets.specs.Words.{two-words};
 ghost use Rattle.records.specs.Held.{set-of};

@@ -1,9 +1,7 @@
 // CLASH: two active pauses that are not compatible, by a walk down the table of the block.
 use crate::bits::has;
 ghost use mathlib.Core.Path.{_≡_};
-ghost use mathlib.Core.List.{List};
 ghost use Prim.Native.Nat.{ℕ, _≤_, _<_};
-ghost use lib.Dec.{T};
 ghost use Rattle.rules.specs.Statements.{Stmt};
 ghost use Rattle.rules.specs.States.{compatible};
 ghost use Rattle.records.specs.StateRecord.{clashes, first-clash};

@@ -1,12 +1,9 @@
 -- `bits::bit_beyond`: below 64 the first word is tested from the count on and the second whole. Assumes nothing.
 use mathlib.Core.Path.{sym, _∙_}
-use Rattle.records.proofs.TwoWords.{beyond-low, beyond-high, beyond-second, shift-set, shift-clear}
 use borrow.Author.Needs.{needs}
+use Rattle.records.proofs.TwoWords.{beyond-low, beyond-high, beyond-second, shift-set, shift-clear}
 use Rattle.records.proofs.bits.bit_beyond.Statement.{statement}
 use Rattle.records.proofs.bits.bit_beyond.Tie as tie
-use Rattle.records.proofs.bits.bit_beyond.Reads as reads
-use Rattle.records.proofs.bits.bit_beyond.Lts as lts
-use Rattle.records.proofs.bits.bit_from.Reads as bit-from-reads
 
 bit-from-requires : tie.Need-bit-from-requires
 bit-from-requires c κs = search needs

@@ -3,12 +3,10 @@ use mathlib.Core.Path.{sym, ap}
 use mathlib.Core.Bool.{not}
 use Prim.Native.Nat.{ℕ}
 use lib.Dec.{eqb}
-use Rattle.records.proofs.TwoWords.{shifted-out}
 use borrow.Author.Needs.{needs}
+use Rattle.records.proofs.TwoWords.{shifted-out}
 use Rattle.records.proofs.bits.bit_from.Statement.{statement}
 use Rattle.records.proofs.bits.bit_from.Tie as tie
-use Rattle.records.proofs.bits.bit_from.Reads as reads
-use Rattle.records.proofs.bits.bit_from.Lts as lts
 
 shr-result : tie.Need-shr-result
 shr-result c = search needs

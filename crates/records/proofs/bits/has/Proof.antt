@@ -1,13 +1,11 @@
 -- `bits::has`: the bit of the word that has it. Assumes nothing.
 use mathlib.Core.Path.{sym}
 use lib.ListN.{getD}
+use borrow.Author.Needs.{needs}
 use Rattle.sets.specs.Words.{bits}
 use Rattle.records.proofs.TwoWords.{in-low, in-high}
-use borrow.Author.Needs.{needs}
 use Rattle.records.proofs.bits.has.Statement.{statement}
 use Rattle.records.proofs.bits.has.Tie as tie
-use Rattle.records.proofs.bits.has.Reads as reads
-use Rattle.records.proofs.bits.has.Lts as lts
 
 array-read-result : tie.Need-array-read-result
 array-read-result c = search needs

@@ -1,11 +1,8 @@
 -- `bits::input_over`: the definition is the leaf's. Assumes nothing.
-use Rattle.records.specs.StateRecord.{undeclared-input}
 use borrow.Author.Needs.{needs}
+use Rattle.records.specs.StateRecord.{undeclared-input}
 use Rattle.records.proofs.bits.input_over.Statement.{statement}
 use Rattle.records.proofs.bits.input_over.Tie as tie
-use Rattle.records.proofs.bits.input_over.Reads as reads
-use Rattle.records.proofs.bits.input_over.Lts as lts
-use Rattle.records.proofs.bits.bit_from.Reads as bit-from-reads
 
 bit-from-requires : tie.Need-bit-from-requires
 bit-from-requires c κs = search needs

@@ -1,16 +1,12 @@
 -- `clash::clashing`: both active, and the lowest statement above them no parallel. Assumes nothing.
 use mathlib.Core.Path.{sym, _∙_}
 use denote.Ref.{now}
+use borrow.Author.Needs.{needs}
 use Rattle.sets.proofs.Members.{of-true}
 use Rattle.records.specs.Held.{set-of}
 use Rattle.records.proofs.Pairs.{root-place, clash-tested, clash-inactive}
-use borrow.Author.Needs.{needs}
 use Rattle.records.proofs.clash.clashing.Statement.{statement}
 use Rattle.records.proofs.clash.clashing.Tie as tie
-use Rattle.records.proofs.clash.clashing.Reads as reads
-use Rattle.records.proofs.clash.clashing.Lts as lts
-use Rattle.records.proofs.bits.has.Reads as has-reads
-use Rattle.records.proofs.clash.in_parallel.Reads as in-parallel-reads
 
 has-requires : tie.Need-has-requires
 has-requires c κs = search needs

@@ -2,8 +2,6 @@
 use Rattle.records.proofs.Steps.{two-yes, two-no}
 use Rattle.records.proofs.clash.has_two_parts.Statement.{statement}
 use Rattle.records.proofs.clash.has_two_parts.Tie as tie
-use Rattle.records.proofs.clash.has_two_parts.Reads as reads
-use Rattle.records.proofs.clash.has_two_parts.Lts as lts
 
 returns : tie.Need-returns
 returns c = two-yes (c .before .args .kind) (c .match .keys1)

@@ -7,9 +7,6 @@ use Rattle.records.specs.Clashing.{Place}
 use Rattle.records.proofs.Steps.{Reaches, reach-root, reach-in, reach-next, reach-here}
 use Rattle.records.proofs.clash.in_parallel.Statement.{statement}
 use Rattle.records.proofs.clash.in_parallel.Tie as tie
-use Rattle.records.proofs.clash.in_parallel.Reads as reads
-use Rattle.records.proofs.clash.in_parallel.Lts as lts
-use Rattle.records.proofs.clash.toward.Reads as toward-reads
 
 abbrev Inv-loop : tie.InvT-loop
 Inv-loop kinds sizes firsts m n at₀ at = (t : Stmt) → Place kinds sizes firsts m n 0 t → Reaches kinds sizes firsts m n t at

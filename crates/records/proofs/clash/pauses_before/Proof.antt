@@ -1,17 +1,15 @@
 -- `clash::pauses_before`: the counter is the count of pauses before the place, and is kept at each. Assumes nothing.
 use borrow.Author.Needs.{needs}
-use mathlib.Core.Path.{_≡_, refl, sym, _∙_, subst}
+use mathlib.Core.Path.{_≡_, refl, _∙_}
 use mathlib.Core.Logic.{⊎-elim}
-use Prim.Native.Nat.{ℕ, _+_, _-_, _≤_, _<_}
+use Prim.Native.Nat.{ℕ, _-_, _≤_, _<_}
 use native.Mathlib.Omega.{arith}
 use denote.Ref.{now}
 use lib.ListN.{length, getD, length-set}
-use Rattle.records.specs.Clashing.{before, Filled}
+use Rattle.records.specs.Clashing.{before}
 use Rattle.records.proofs.Steps.{count-more, count-same, filled-more}
 use Rattle.records.proofs.clash.pauses_before.Statement.{statement}
 use Rattle.records.proofs.clash.pauses_before.Tie as tie
-use Rattle.records.proofs.clash.pauses_before.Reads as reads
-use Rattle.records.proofs.clash.pauses_before.Lts as lts
 
 abbrev Inv-loop : tie.InvT-loop
 Inv-loop kinds count firsts₀ n₀ i₀ firsts n i =

@@ -2,13 +2,10 @@
 use mathlib.Core.Path.{sym, _∙_}
 use native.Mathlib.Omega.{arith}
 use denote.Ref.{now}
-use Rattle.records.proofs.Steps.{here, next-in, second-below, goes-first, goes-second, goes-only, stays}
 use borrow.Author.Needs.{needs}
+use Rattle.records.proofs.Steps.{here, next-in, second-below, goes-first, goes-second, goes-only, stays}
 use Rattle.records.proofs.clash.toward.Statement.{statement}
 use Rattle.records.proofs.clash.toward.Tie as tie
-use Rattle.records.proofs.clash.toward.Reads as reads
-use Rattle.records.proofs.clash.toward.Lts as lts
-use Rattle.records.proofs.clash.has_two_parts.Reads as has-two-parts-reads
 
 mul-has-two-parts : tie.Need-mul-has-two-parts
 mul-has-two-parts c = search needs

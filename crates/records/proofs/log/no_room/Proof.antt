@@ -2,8 +2,6 @@
 use Rattle.records.proofs.Writing.{beyond-log, within-log}
 use Rattle.records.proofs.log.no_room.Statement.{statement}
 use Rattle.records.proofs.log.no_room.Tie as tie
-use Rattle.records.proofs.log.no_room.Reads as reads
-use Rattle.records.proofs.log.no_room.Lts as lts
 
 returns : tie.Need-returns
 returns c = λ log e. beyond-log log (c .before .args .end) e (c .if1 .taken)

@@ -1,13 +1,10 @@
 -- `log::write_at_end`: the record is at the front of the part from the end on. Assumes nothing.
 use mathlib.Core.Path.{refl}
 use denote.Ref.{now}
-use Rattle.records.proofs.Writing.{lent-on}
 use borrow.Author.Needs.{needs}
+use Rattle.records.proofs.Writing.{lent-on}
 use Rattle.records.proofs.log.write_at_end.Statement.{statement}
 use Rattle.records.proofs.log.write_at_end.Tie as tie
-use Rattle.records.proofs.log.write_at_end.Reads as reads
-use Rattle.records.proofs.log.write_at_end.Lts as lts
-use Rattle.records.proofs.log.write_record.Reads as write-record-reads
 
 sub-write-record : tie.Need-sub-write-record
 sub-write-record c = search needs

@@ -1,12 +1,9 @@
 -- `log::write_record`: the six stores make the record. Assumes nothing.
 use denote.Ref.{now}
-use Rattle.records.proofs.Writing.{log-stored}
 use borrow.Author.Needs.{needs}
+use Rattle.records.proofs.Writing.{log-stored}
 use Rattle.records.proofs.log.write_record.Statement.{statement}
 use Rattle.records.proofs.log.write_record.Tie as tie
-use Rattle.records.proofs.log.write_record.Reads as reads
-use Rattle.records.proofs.log.write_record.Lts as lts
-use Rattle.records.proofs.numerals.put_number.Reads as put-number-reads
 
 put-number-requires : tie.Need-put-number-requires
 put-number-requires c κs = search needs

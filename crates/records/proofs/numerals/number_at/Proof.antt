@@ -1,19 +1,13 @@
 -- `numerals::number_at`: the sum is the field of the bytes passed so far, from the highest down. Assumes nothing.
 use denote.Ref.{now}
-use mathlib.Core.Path.{_∙_}
-use Prim.Native.Nat.{_*_}
-use Rattle.records.proofs.Bytes.{field-begin, small-begin, field-end}
-use mathlib.Core.Path.{_≡_}
-use Prim.Native.Nat.{ℕ, _+_, _-_, _≤_, _<_, _^_}
+use mathlib.Core.Path.{_∙_, _≡_}
+use Prim.Native.Nat.{_*_, _+_, _-_, _≤_, _<_, _^_}
 use borrow.Author.Needs.{needs}
 use native.Mathlib.Omega.{arith}
-use lib.ListN.{length}
+use Rattle.records.proofs.Bytes.{field-begin, small-begin, field-end, field-more, more-fits, to-eight}
 use Rattle.records.specs.Numerals.{field}
-use Rattle.records.proofs.Bytes.{field-none, field-more, more-fits, to-eight}
 use Rattle.records.proofs.numerals.number_at.Statement.{statement}
 use Rattle.records.proofs.numerals.number_at.Tie as tie
-use Rattle.records.proofs.numerals.number_at.Reads as reads
-use Rattle.records.proofs.numerals.number_at.Lts as lts
 
 abbrev Inv-loop : tie.InvT-loop
 Inv-loop s at n x₀ k₀ x k = (k ≤ n) × (x ≡ field s (at + k) (n - k)) × (x < 256 ^ (n - k))

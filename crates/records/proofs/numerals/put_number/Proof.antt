@@ -1,17 +1,13 @@
 -- `numerals::put_number`: the stores that are left make of the present bytes what all of them make of the first. Assumes nothing.
-use mathlib.Core.Path.{sym, _∙_}
-use Rattle.records.proofs.Bytes.{stores-begin, stores-more, stores-end}
-use mathlib.Core.Path.{_≡_, refl}
-use Prim.Native.Nat.{ℕ, _+_, _-_, _≤_, _<_}
+use mathlib.Core.Path.{sym, _∙_, _≡_, refl}
+use Prim.Native.Nat.{_+_, _-_, _≤_}
 use borrow.Author.Needs.{needs}
-use native.Mathlib.Omega.{arith}
-use lib.ListN.{length, length-set}
+use lib.ListN.{length}
 use lib.Seq.{sets}
+use Rattle.records.proofs.Bytes.{stores-begin, stores-more, stores-end}
 use Rattle.records.specs.Numerals.{in-bytes}
 use Rattle.records.proofs.numerals.put_number.Statement.{statement}
 use Rattle.records.proofs.numerals.put_number.Tie as tie
-use Rattle.records.proofs.numerals.put_number.Reads as reads
-use Rattle.records.proofs.numerals.put_number.Lts as lts
 
 abbrev Inv-loop : tie.InvT-loop
 Inv-loop s₀ at n x rest₀ i₀ s rest i =

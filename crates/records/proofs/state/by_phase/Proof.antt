@@ -1,15 +1,10 @@
 -- `state::by_phase`: one law of Reading for each way. Assumes nothing.
 use mathlib.Core.Path.{_∙_, ap}
+use borrow.Author.Needs.{needs}
 use Rattle.records.specs.Held.{held-of}
 use Rattle.records.proofs.Reading.{by-fresh, by-finished, by-neither, by-far, by-running, by-other}
-use borrow.Author.Needs.{needs}
 use Rattle.records.proofs.state.by_phase.Statement.{statement}
 use Rattle.records.proofs.state.by_phase.Tie as tie
-use Rattle.records.proofs.state.by_phase.Reads as reads
-use Rattle.records.proofs.state.by_phase.Lts as lts
-use Rattle.records.proofs.bits.bit_beyond.Reads as bit-beyond-reads
-use Rattle.records.proofs.state.no_bit.Reads as no-bit-reads
-use Rattle.records.proofs.state.no_state.Reads as no-state-reads
 
 no-bit-requires : tie.Need-no-bit-requires
 no-bit-requires c κs = search needs

@@ -6,8 +6,6 @@ use lib.Dec.{eqb}
 use borrow.Author.Tests.{ne-eqb}
 use Rattle.records.proofs.state.no_bit.Statement.{statement}
 use Rattle.records.proofs.state.no_bit.Tie as tie
-use Rattle.records.proofs.state.no_bit.Reads as reads
-use Rattle.records.proofs.state.no_bit.Lts as lts
 
 returns : tie.Need-returns
 returns c = sym (ap (λ (x : ℕ). eqb x 0 && eqb (c .before .args .high) 0) (c .if1 .taken))

@@ -3,8 +3,6 @@ use mathlib.Core.Path.{refl}
 use Rattle.records.specs.Held.{held-of}
 use Rattle.records.proofs.state.no_state.Statement.{statement}
 use Rattle.records.proofs.state.no_state.Tie as tie
-use Rattle.records.proofs.state.no_state.Reads as reads
-use Rattle.records.proofs.state.no_state.Lts as lts
 
 returns : tie.Need-returns
 unfolding held-of

@@ -2,17 +2,12 @@
 use mathlib.Core.Path.{_∙_, ap, sym}
 use denote.Ref.{now}
 use Prim.Native.Nat.{ℕ}
+use borrow.Author.Needs.{needs}
 use Rattle.records.specs.StateRecord.{in-phase}
 use Rattle.records.specs.Held.{held-of}
 use Rattle.records.proofs.Reading.{read-sized, read-headed, read-kind, read-whole}
-use borrow.Author.Needs.{needs}
 use Rattle.records.proofs.state.read_state.Statement.{statement}
 use Rattle.records.proofs.state.read_state.Tie as tie
-use Rattle.records.proofs.state.read_state.Reads as reads
-use Rattle.records.proofs.state.read_state.Lts as lts
-use Rattle.records.proofs.numerals.number_at.Reads as number-at-reads
-use Rattle.records.proofs.state.by_phase.Reads as by-phase-reads
-use Rattle.records.proofs.state.no_state.Reads as no-state-reads
 
 no-state-requires : tie.Need-no-state-requires
 no-state-requires c κs = search needs

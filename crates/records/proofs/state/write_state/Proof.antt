@@ -1,12 +1,9 @@
 -- `state::write_state`: the five stores make the record. Assumes nothing.
 use denote.Ref.{now}
-use Rattle.records.proofs.Writing.{state-stored}
 use borrow.Author.Needs.{needs}
+use Rattle.records.proofs.Writing.{state-stored}
 use Rattle.records.proofs.state.write_state.Statement.{statement}
 use Rattle.records.proofs.state.write_state.Tie as tie
-use Rattle.records.proofs.state.write_state.Reads as reads
-use Rattle.records.proofs.state.write_state.Lts as lts
-use Rattle.records.proofs.numerals.put_number.Reads as put-number-reads
 
 put-number-requires : tie.Need-put-number-requires
 put-number-requires c κs = search needs
