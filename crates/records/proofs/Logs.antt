@@ -1,12 +1,28 @@
 -- A log with a record written at its end: its length, what lies before and behind, and the record. Assumes nothing.
 use mathlib.Core.Path.{_≡_, sym, ap, ap₂, _∙_}
+use mathlib.Core.Bool.{Bool, false, _||_}
 use mathlib.Core.List.{List, _++_}
-use Prim.Native.Nat.{ℕ, _+_, _≤_}
+use Prim.Native.Nat.{ℕ, _+_, _-_, _≤_}
 use native.Mathlib.Omega.{arith}
+use lib.Dec.{ltb, not-T, nltb→le}
 use lib.ListN.{length, take, drop, length-append, length-drop}
 use lib.Seq.{take-at, drop-at, drop-drop, length-take-le}
-use Rattle.records.specs.LogRecord.{Logged, log-record, logged-at}
+use borrow.Author.Tests.{le-ltb}
+use Rattle.sets.proofs.Members.{of-false, or-left, or-right}
+use Rattle.records.specs.LogRecord.{Logged, log-record, no-room, logged-at}
 use Rattle.records.proofs.Back.{log-length}
+
+-- Where there is room the record fits behind the end, and only there.
+pub has-room : (log : List ℕ) (end : ℕ) → no-room log end ≡ false → end + 24 ≤ length log
+unfolding no-room
+has-room log end e =
+    let a : end ≤ length log = nltb→le (length log) end (not-T (ltb (length log) end) (λ t. of-false e (or-left (ltb (length log) end) (ltb (length log - end) 24) t))) in
+    let b : 24 ≤ length log - end = nltb→le (length log - end) 24 (not-T (ltb (length log - end) 24) (λ t. of-false e (or-right (ltb (length log) end) (ltb (length log - end) 24) t))) in
+    omega arith
+
+pub room-has : (log : List ℕ) (end : ℕ) → end + 24 ≤ length log → no-room log end ≡ false
+unfolding no-room
+room-has log end h = ap₂ (λ (x y : Bool). x || y) (le-ltb (length log) end (omega arith)) (le-ltb (length log - end) 24 (omega arith))
 
 module _ (log : List ℕ) (end : ℕ) (l : Logged) (h : end + 24 ≤ length log) where
   front : length (take end log) ≡ end
