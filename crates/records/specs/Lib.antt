@@ -1,3 +1,5 @@
 pub mod Numerals
 pub mod StateRecord
+pub mod Held
 pub mod LogRecord
+pub mod Clashing

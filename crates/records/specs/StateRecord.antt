@@ -1,12 +1,12 @@
 -- The state record: its 22 bytes, the refusals 9 and 10, and the input set's 11. Assumes nothing.
-use mathlib.Core.Bool.{Bool, true, false, not, cond, _&&_, _||_}
-use mathlib.Core.List.{List, [], _∷_, _++_}
+use mathlib.Core.Bool.{Bool, not, cond, _&&_}
+use mathlib.Core.List.{List, _++_}
 use mathlib.Core.Option.{Option, none, some}
 use Prim.Native.Nat.{ℕ, _+_, _/_, _^_}
 use lib.Dec.{eqb, ltb, leb}
 use lib.ListN.{length}
 use Rattle.sets.specs.Numbers.{Numbers, empty, some-to, lowest}
-use Rattle.sets.specs.Words.{bits, word, two-words}
+use Rattle.sets.specs.Words.{word, two-words}
 use Rattle.rules.specs.Statements.{Stmt}
 use Rattle.rules.specs.States.{State, fresh, running, finished, compatible}
 use Rattle.records.specs.Numerals.{in-bytes, field}

@@ -1,0 +1,6 @@
+// The records of document 01: the state record, the log record and the input set.
+pub mod bits;
+pub mod clash;
+pub mod log;
+mod numerals;
+pub mod state;

@@ -1,11 +1,11 @@
--- Instants with their whole answers. Assumes nothing.
+-- The worked instants of document 01, and our own, as one table: each row is a block, a state, the present inputs and the whole answer.
+-- That the rules give every answer is one statement, `worked`, proved by computing. Assumes nothing.
 use mathlib.Core.Path.{_≡_, refl}
-use mathlib.Core.Bool.{Bool, true, false, cond, _&&_}
 use mathlib.Core.List.{List, [], _∷_, map}
-use Prim.Native.Nat.{ℕ, zero, suc, _+_}
+use Prim.Native.Nat.{ℕ, suc}
 use lib.ListN.{length}
-use Rattle.sets.specs.Numbers.{Numbers, members, listed, some-to, maxima, down, downs, lowest}
-use Rattle.rules.specs.Statements.{Block, Depth, depth, code, Stmt, nothing, pause, emit, present?_then_else_, suspend_on_, _⨾_, loop, _parallel_, trap, exit, local, pauses}
+use Rattle.sets.specs.Numbers.{members, listed, some-to, maxima, down, downs, lowest}
+use Rattle.rules.specs.Statements.{depth, code, Stmt, nothing, pause, emit, present?_then_else_, suspend_on_, _⨾_, loop, _parallel_, trap, exit, local, pauses}
 use Rattle.rules.specs.Events.{Status, present, absent, unknown, event}
 use Rattle.rules.specs.Instant.{any, active, held, started, resumed}
 use Rattle.rules.specs.MustCan.{gives}
@@ -47,44 +47,203 @@ tell p (answered vs c st n) =
 tell p (not-constructive vs n) =
     record { refusal = 13; statuses = vs; undecided = unknowns vs; code = 0; rounds = n; phase = 0; keeps = [] }
 
+-- A case declares only the signals it names: so many inputs, so many outputs.
 pub record Row : Type 0 where
   pub inputs : ℕ
   pub outputs : ℕ
   pub body : Stmt
-  pub from : State
+  pub begins : State
   pub given : List ℕ
   pub told : Told
 
-abbrev answers : Row → Told
-unfolding react listed members pauses
-answers r = tell (r .body) (react (record { inputs = r .inputs; outputs = r .outputs; body = r .body }) (r .from) (listed (r .given)))
+abbrev pub row : ℕ → ℕ → Stmt → State → List ℕ → Told → Row
+row i o p st given t = record { inputs = i; outputs = o; body = p; begins = st; given = given; told = t }
 
--- answered with code 0, which finishes the block
-abbrev ends : List Status → ℕ → Told
+abbrev pub active-on : List ℕ → State
+active-on ns = running (listed ns)
+
+-- The answer that the rules give to a row's instant, and the state that it leaves.
+abbrev reaction : Row → Answer
+unfolding react listed
+reaction r = react (record { inputs = r .inputs; outputs = r .outputs; body = r .body }) (r .begins) (listed (r .given))
+
+abbrev pub answers : Row → Told
+unfolding react listed members pauses
+answers r = tell (r .body) (reaction r)
+
+abbrev left-by : Answer → State
+left-by (answered vs c st n) = st
+left-by (not-constructive vs n) = fresh
+
+abbrev after : Row → State
+unfolding react listed
+after r = left-by (reaction r)
+
+-- Answered with code 0, which finishes the block.
+abbrev pub ends : List Status → ℕ → Told
 ends vs n = record { refusal = 0; statuses = vs; undecided = 0; code = 0; rounds = n; phase = 2; keeps = [] }
 
--- answered with code 1, which leaves it running on these pauses
-abbrev waits : List Status → List ℕ → ℕ → Told
-waits vs ks n = record { refusal = 0; statuses = vs; undecided = 0; code = 1; rounds = n; phase = 1; keeps = ks }
+-- Answered with code 1, which leaves it running on these pauses.
+abbrev pub waits : List Status → ℕ → List ℕ → Told
+waits vs n ks = record { refusal = 0; statuses = vs; undecided = 0; code = 1; rounds = n; phase = 1; keeps = ks }
 
--- NOT CONSTRUCTIVE, with so many undecided
-abbrev stuck : List Status → ℕ → ℕ → Told
+-- NOT CONSTRUCTIVE.
+abbrev pub stuck : List Status → ℕ → ℕ → Told
 stuck vs u n = record { refusal = 13; statuses = vs; undecided = u; code = 0; rounds = n; phase = 0; keeps = [] }
 
-abbrev document : List Row
-document =
-    record { inputs = 0; outputs = 0; body = nothing; from = fresh; given = []; told = ends [] 1 } ∷
-    record { inputs = 0; outputs = 1; body = present? 0 then emit 0 else nothing; from = fresh; given = []; told = stuck (unknown ∷ []) 1 1 } ∷
-    record { inputs = 0; outputs = 1; body = present? 0 then emit 0 else emit 0; from = fresh; given = []; told = stuck (unknown ∷ []) 1 1 } ∷
-    record { inputs = 0; outputs = 1; body = (present? 0 then nothing else nothing) ⨾ emit 0; from = fresh; given = []; told = stuck (unknown ∷ []) 1 1 } ∷
-    record { inputs = 0; outputs = 1; body = trap (local 1 (emit 1 ⨾ (present? 0 then ((present? 1 then (exit (depth 0)) else nothing) ⨾ emit 0) else nothing))); from = fresh; given = []; told = ends (absent ∷ []) 2 } ∷
-    record { inputs = 0; outputs = 2; body = loop (local 2 ((present? 2 then emit 0 else emit 1) ⨾ pause 0 ⨾ emit 2)); from = fresh; given = []; told = waits (absent ∷ present ∷ []) (0 ∷ []) 2 } ∷
-    record { inputs = 0; outputs = 2; body = loop (local 2 ((present? 2 then emit 0 else emit 1) ⨾ pause 0 ⨾ emit 2)); from = running (listed (0 ∷ [])); given = []; told = waits (absent ∷ present ∷ []) (0 ∷ []) 2 } ∷
-    record { inputs = 0; outputs = 1; body = trap (exit (depth 0) parallel pause 0) ⨾ emit 0; from = fresh; given = []; told = ends (present ∷ []) 2 } ∷
-    record { inputs = 1; outputs = 2; body = present? 0 then (present? 2 then emit 1 else nothing) else (present? 1 then emit 2 else nothing); from = fresh; given = 0 ∷ []; told = ends (absent ∷ absent ∷ []) 3 } ∷
-    record { inputs = 0; outputs = 1; body = present? 0 then (local 1 (local 2 (emit 2 ⨾ (present? 2 then nothing else emit 1)) ⨾ (present? 1 then emit 0 else nothing))) else nothing; from = fresh; given = []; told = ends (absent ∷ []) 2 } ∷
-    []
+-- The cases that document 01 marks, with their letters.
 
-worked : map answers document ≡ map (λ r. r .told) document
-unfolding react listed members pauses gives kept started resumed any active held code marks round begin all-same settle final-of answer some-to maxima down downs lowest step next event
+-- nothing, no signals
+B : Row
+B = row 0 0 nothing fresh [] (ends [] 1)
+
+-- O is 0
+C : Row
+C = row 0 1 (present? 0 then emit 0 else nothing) fresh [] (stuck (unknown ∷ []) 1 1)
+
+E : Row
+E = row 0 1 (present? 0 then emit 0 else emit 0) fresh [] (stuck (unknown ∷ []) 1 1)
+
+F : Row
+F = row 0 1 ((present? 0 then nothing else nothing) ⨾ emit 0) fresh [] (stuck (unknown ∷ []) 1 1)
+
+-- O is 0, S is 1
+G : Row
+G = row 0 1
+    (trap (local 1 (emit 1 ⨾ (present? 0 then ((present? 1 then (exit (depth 0)) else nothing) ⨾ emit 0) else nothing))))
+    fresh [] (ends (absent ∷ []) 2)
+
+-- O is 0, N is 1, S is 2
+H-body : Stmt
+H-body = loop (local 2 ((present? 2 then emit 0 else emit 1) ⨾ pause 0 ⨾ emit 2))
+
+H-first : Row
+unfolding H-body
+H-first = row 0 2 H-body fresh [] (waits (absent ∷ present ∷ []) 2 (0 ∷ []))
+
+-- from the state that the first instant leaves
+H-second : Row
+unfolding H-first H-body
+H-second = row 0 2 H-body (after H-first) [] (waits (absent ∷ present ∷ []) 2 (0 ∷ []))
+
+-- O is 0
+J : Row
+J = row 0 1 (trap (exit (depth 0) parallel pause 0) ⨾ emit 0) fresh [] (ends (present ∷ []) 2)
+
+-- I is 0, A is 1, B is 2
+M : Row
+M = row 1 2
+    (present? 0 then (present? 2 then emit 1 else nothing) else (present? 1 then emit 2 else nothing))
+    fresh (0 ∷ []) (ends (absent ∷ absent ∷ []) 3)
+
+-- O is 0, S is 1, T is 2
+N : Row
+N = row 0 1
+    (present? 0 then (local 1 (local 2 (emit 2 ⨾ (present? 2 then nothing else emit 1)) ⨾ (present? 1 then emit 0 else nothing))) else nothing)
+    fresh [] (ends (absent ∷ []) 2)
+
+-- Cases of our own. Each tells the rules from a wrong one that all cases above would let pass.
+
+-- emits S and then, only if S is absent, O: under plus S is present and O cannot be emitted, under open it can
+says-both : ℕ → ℕ → Stmt
+says-both S O = local S (emit S ⨾ (present? S then nothing else emit O))
+
+-- a sequence's second part is not always under plus; O is 0, S is 1
+second-part-open : Row
+unfolding says-both
+second-part-open = row 0 1 ((present? 0 then nothing else nothing) ⨾ says-both 1 0) fresh [] (stuck (unknown ∷ []) 1 1)
+
+-- an unknown present does not keep its mark, and under open a local is not set present; O is 0, S is 1
+present-opens : Row
+unfolding says-both
+present-opens = row 0 1 (present? 0 then (says-both 1 0) else nothing) fresh [] (stuck (unknown ∷ []) 1 1)
+
+-- an unknown suspend does not keep its mark; O is 0, S is 1
+suspend-opens : Row
+unfolding says-both
+suspend-opens = row 0 1 (suspend (pause 0 ⨾ says-both 1 0) on 0) (active-on (0 ∷ [])) [] (stuck (unknown ∷ []) 1 1)
+
+-- a loop's restart does not keep the old mark; O is 0, S is 1
+restart-opens : Row
+unfolding says-both
+restart-opens =
+    row 0 1 (loop (says-both 1 0 ⨾ pause 0 ⨾ (present? 0 then nothing else nothing))) (active-on (0 ∷ [])) [] (stuck (unknown ∷ []) 1 1)
+
+-- must asks for a local in can under plus, not under open; O is 0, S is 1, T is 2
+must-asks-plus : Row
+unfolding says-both
+must-asks-plus = row 0 1 (local 1 (says-both 2 1 ⨾ (present? 1 then nothing else emit 0))) fresh [] (ends (present ∷ []) 2)
+
+-- an unknown suspend has the code 1 besides: the inner trap may then end, and A is settled a round later; O is 0, A is 1
+suspend-may-stay : Row
+suspend-may-stay = row 0 2
+    (trap (trap ((suspend (pause 0 ⨾ exit (depth 1)) on 0) parallel (pause 1 ⨾ exit (depth 0))) ⨾ emit 1))
+    (active-on (0 ∷ 1 ∷ [])) [] (ends (absent ∷ absent ∷ []) 3)
+
+-- suspend does not test when its body starts; I is 0, O is 1
+suspend-starts : Row
+suspend-starts = row 1 1 (suspend (emit 1) on 0) fresh (0 ∷ []) (ends (present ∷ []) 2)
+
+-- nor does present test again on resuming
+present-resumes : Row
+present-resumes = row 1 1 (present? 0 then (pause 0 ⨾ emit 1) else nothing) (active-on (0 ∷ [])) [] (ends (present ∷ []) 2)
+
+-- a suspended body keeps its old set
+suspend-holds : Row
+suspend-holds = row 1 1 (suspend (pause 0 ⨾ emit 1) on 0) (active-on (0 ∷ [])) (0 ∷ []) (waits (absent ∷ []) 2 (0 ∷ []))
+
+-- two pauses in parallel arms complete with 0, and an arm that is over gives 0
+both-arms : Row
+both-arms = row 0 0 (pause 0 parallel pause 1) (active-on (0 ∷ 1 ∷ [])) [] (ends [] 1)
+
+one-arm : Row
+one-arm = row 0 1 ((pause 0 ⨾ pause 1) parallel (pause 2 ⨾ emit 0)) (active-on (0 ∷ [])) [] (waits (absent ∷ []) 2 (1 ∷ []))
+
+-- an exit passes over one trap
+outer-trap : Row
+outer-trap = row 0 2 (trap (trap (exit (depth 1)) ⨾ emit 0) ⨾ emit 1) fresh [] (ends (absent ∷ present ∷ []) 2)
+
+-- no output, and still no code
+no-output : Row
+no-output = row 0 0 (local 0 (present? 0 then emit 0 else nothing)) fresh [] (stuck [] 0 1)
+
+-- an input that is not given is absent; I is 0, O is 1
+input-absent : Row
+input-absent = row 1 1 (present? 0 then nothing else emit 1) fresh [] (ends (present ∷ []) 2)
+
+-- the active pause is not the first of its part; O is 0
+later-pause : Row
+later-pause = row 0 1 ((pause 0 ⨾ pause 1) ⨾ emit 0) (active-on (1 ∷ [])) [] (ends (present ∷ []) 2)
+
+-- an active pause in an else branch; I is 0, O is 1
+else-resumes : Row
+else-resumes = row 1 1 ((present? 0 then nothing else pause 0) ⨾ emit 1) (active-on (0 ∷ [])) [] (ends (present ∷ []) 2)
+
+-- a local is executed with the status that must settles; S is 0
+local-present-keeps : Row
+local-present-keeps = row 0 0 (local 0 (emit 0 ⨾ (present? 0 then pause 0 else pause 1))) fresh [] (waits [] 1 (0 ∷ []))
+
+local-absent-keeps : Row
+local-absent-keeps = row 0 0 (local 0 (present? 0 then pause 0 else pause 1)) fresh [] (waits [] 1 (1 ∷ []))
+
+-- one output is settled in each round; there are three of them
+outputs-plus-1 : Row
+outputs-plus-1 =
+    row 0 3 ((present? 0 then emit 1 else nothing) ⨾ (present? 1 then emit 2 else nothing)) fresh []
+    (ends (absent ∷ absent ∷ absent ∷ []) 4)
+
+-- finished runs as nothing
+over : Row
+over = row 0 1 (emit 0) finished [] (ends (absent ∷ []) 2)
+
+pub table : List Row
+unfolding B C E F G H-first H-second J M N second-part-open present-opens suspend-opens restart-opens must-asks-plus suspend-may-stay suspend-starts present-resumes suspend-holds both-arms one-arm outer-trap no-output input-absent later-pause else-resumes local-present-keeps local-absent-keeps outputs-plus-1 over
+table =
+    B ∷ C ∷ E ∷ F ∷ G ∷ H-first ∷ H-second ∷ J ∷ M ∷ N
+    ∷ second-part-open ∷ present-opens ∷ suspend-opens ∷ restart-opens ∷ must-asks-plus ∷ suspend-may-stay
+    ∷ suspend-starts ∷ present-resumes ∷ suspend-holds ∷ both-arms ∷ one-arm ∷ outer-trap ∷ no-output
+    ∷ input-absent ∷ later-pause ∷ else-resumes ∷ local-present-keeps ∷ local-absent-keeps ∷ outputs-plus-1 ∷ over ∷ []
+
+pub worked : map answers table ≡ map (λ r. r .told) table
+unfolding table react listed members pauses gives kept started resumed any active held code marks round begin all-same settle final-of answer some-to maxima down downs lowest step next event
 worked = refl

@@ -1,18 +1,17 @@
 -- The coherence law at three blocks with one output O (signal 0): two coherent reactions, exactly one, and none. The output is
 -- tried present and absent, and the execution is computed. Assumes nothing.
-use mathlib.Core.Path.{_≡_, refl, sym, _∙_, subst}
+use mathlib.Core.Path.{_≡_, refl, sym, _∙_}
 use mathlib.Core.Logic.{_⊎_, inl, inr}
 use mathlib.Core.Bool.{Bool, true, false, true≢false, false≢true}
 use mathlib.Core.List.{List, [], _∷_}
-use Prim.Native.Nat.{ℕ, zero, suc, _+_, _<_}
-use native.Mathlib.Nat.{not-suc-le-zero}
+use Prim.Native.Nat.{ℕ, zero, suc, _<_}
 use native.Mathlib.Omega.{arith}
 use lib.Dec.{lit<}
-use lib.ListN.{length, getD}
-use Rattle.sets.specs.Numbers.{Numbers, empty}
-use Rattle.rules.specs.Statements.{Block, Stmt, nothing, emit, present?_then_else_}
-use Rattle.rules.specs.Instant.{started}
-use Rattle.rules.specs.States.{State, fresh, finished, step, next}
+use lib.ListN.{length}
+use Rattle.sets.specs.Numbers.{Numbers, empty, single, listed}
+use Rattle.rules.specs.Statements.{Block, Stmt, nothing, pause, emit, present?_then_else_, _⨾_, loop, local, pauses}
+use Rattle.rules.specs.Instant.{done, say, test, scope, any, active, started, resumed}
+use Rattle.rules.specs.States.{State, fresh, running, finished, step, next}
 use Rattle.rules.specs.Coherence.{Locals, LocalsAgree, execute, world, Coherent}
 
 -- a block of one output and no input
@@ -112,3 +111,37 @@ contrary-none outs c st r =
     (λ x. true≢false (x .outputs-agree 0 (lit< tt)))
     (λ x. false≢true (x .outputs-agree 0 (lit< tt)))
     r
+
+-- a local that is emitted only where it is absent has none either
+contrary-local : Block
+contrary-local = record { inputs = 0; outputs = 0; body = local 0 (present? 0 then nothing else emit 0) }
+
+neither : (v : Bool) (l : Locals (test 0 done (say 0))) (W : Numbers) → LocalsAgree (scope 0 (test 0 done (say 0))) (v, l) W → ⊥
+unfolding LocalsAgree execute
+neither true l W a = true≢false (a .0)
+neither false l W a = false≢true (a .0)
+
+contrary-local-none : (outs : List Bool) (c : ℕ) (st : State) → Coherent contrary-local fresh empty outs c st → ⊥
+unfolding contrary-local started step
+contrary-local-none outs c st r = neither (r .locals .0) (r .locals .1) (world contrary-local empty outs) (r .locals-agree)
+
+-- H's second instant (O is 0, N is 1, S is 2): S is present in the run of the body that is resumed and absent in the one that the loop starts
+-- afresh; only N is present
+each-of-two : (P : ℕ → Type 0) → P 0 → P 1 → (i : ℕ) → i < 2 → P i
+each-of-two P h g zero l = h
+each-of-two P h g (suc zero) l = g
+each-of-two P h g (suc (suc i)) l = absurd (omega arith)
+
+case-H : Block
+case-H = record { inputs = 0; outputs = 2; body = loop (local 2 ((present? 2 then emit 0 else emit 1) ⨾ pause 0 ⨾ emit 2)) }
+
+H-restarts : Coherent case-H (running (listed (0 ∷ []))) empty (false ∷ true ∷ []) 1 (running (single 0))
+unfolding case-H started resumed active any pauses listed step next LocalsAgree execute world
+H-restarts = record {
+  each-output = refl;
+  locals = ((true, (tt, tt)), (false, ((tt, tt), (tt, tt))));
+  locals-agree = ((refl, (tt, tt)), (refl, (tt, (tt, tt))));
+  outputs-agree = each-of-two _ refl refl;
+  its-code = refl;
+  its-next = refl;
+}

@@ -1,4 +1,7 @@
 pub mod Cases
+pub mod CheckCases
 pub mod CoherentCases
-pub mod Sentences
 pub mod LoopCodes
+pub mod OneCode
+pub mod RoundLaws
+pub mod Sentences

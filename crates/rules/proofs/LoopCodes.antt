@@ -49,3 +49,12 @@ loop-codes-are-can (plain-sequence {p = r} {q = t} p q) m =
     (second t m (gives must (started r) nothing-heard .codes 0) (loop-codes-are-can q))
 loop-codes-are-can (plain-parallel p q) m = ap₂ maxima (loop-codes-are-can p m) (loop-codes-are-can q m)
 loop-codes-are-can (plain-trap p) m = ap downs (loop-codes-are-can p m)
+
+-- a loop's own codes are its body's without 0, and a local's signal is held unknown like any other
+loop-own-codes : (p : Stmt) → codes-of (loop p) ≡ without 0 (codes-of p)
+unfolding codes-of
+loop-own-codes p = refl
+
+local-codes : (s : ℕ) (p : Stmt) → codes-of (local s p) ≡ codes-of p
+unfolding codes-of
+local-codes s p = refl

@@ -1,20 +1,25 @@
 -- "Must and can in one instant", sentence by sentence: lay this file beside document 01. Each is an equation about the definitions,
 -- of statements started or resumed, that holds by computation; where a sentence has a condition, it is put in first.
 -- Assumes nothing.
-use mathlib.Core.Path.{_≡_, refl, ap}
-use mathlib.Core.Bool.{Bool, true, false, not, cond, _&&_, _||_, true≢false}
-use mathlib.Core.List.{List, [], _∷_}
+use mathlib.Core.Path.{_≡_, refl, _∙_, ap, subst}
+use mathlib.Core.Bool.{Bool, true, false, not, cond, _&&_, _||_, true≢false, and-true, or-false}
+use mathlib.Core.Logic.{_↔_}
+use mathlib.Core.List.{List}
 use mathlib.Core.Option.{Option, none, some}
-use Prim.Native.Nat.{ℕ, zero, suc, _+_, _<_}
-use lib.Dec.{eqb}
+use Prim.Native.Nat.{ℕ, zero, suc, _+_, _-_, _<_, max}
+use lib.Dec.{T, eqb, ltb, eqb·suc-zero}
 use lib.ListN.{length, getD, replicate}
-use Rattle.sets.specs.Numbers.{Numbers, empty, single, union, without, only-if, some-to, maxima, down, downs, lowest, listed}
-use Rattle.rules.specs.Statements.{Block, Depth, depth, code, Stmt, nothing, pause, emit, present?_then_else_, suspend_on_, _⨾_, loop, _parallel_, trap, exit, local, pauses}
-use Rattle.rules.specs.Events.{Status, present, absent, unknown, Event, giving, event}
+use Rattle.sets.specs.Numbers.{Numbers, empty, single, union, without, only-if, maxima, downs, lowest, listed}
+use Rattle.sets.proofs.Members.{ext}
+use Rattle.sets.proofs.Maxima.{maxima-in, maxima-out, maxima-empty-left, maxima-empty-right}
+use Rattle.rules.specs.Statements.{Block, depth, code, Stmt, nothing, pause, emit, present?_then_else_, suspend_on_, _⨾_, loop, _parallel_, trap, exit, local, pauses}
+use Rattle.rules.specs.Events.{Status, present, absent, unknown, Event, giving, known, event}
 use Rattle.rules.specs.Instant.{Step, done, stay, say, leave, test, catch, scope, chain, beside, active, held, started, resumed}
-use Rattle.rules.specs.MustCan.{Mark, plus, opened, Question, must, can, Given, nothing-known, either, caught, both, followed, hidden, marked, gives}
+use Rattle.rules.specs.MustCan.{Mark, plus, opened, Question, must, can, Given, either, both, followed, hidden, marked, gives}
 use Rattle.rules.specs.States.{State, fresh, running, finished, step, executed-as, kept, next}
-use Rattle.rules.specs.Rounds.{Settled, one-more, all-same, marks, round, begin, settle, final-of, answer, Answer, answered, not-constructive, react, code-width}
+use Rattle.rules.specs.Rounds.{Settled, one-more, all-same, round, begin, settle, final-of, answer, answered, not-constructive, react, code-width}
+use Rattle.rules.proofs.OneCode.{one-code}
+use Rattle.rules.proofs.RoundLaws.{all-same-is, all-same-refl, marks-at}
 
 -- the signals and codes of a result, side by side
 abbrev given : Numbers → Numbers → Given
@@ -268,6 +273,11 @@ module _ (E : Event) where
 
 -- THE HELPERS ABOVE, MEMBER BY MEMBER
 
+all-unknown : (n i : ℕ) → getD (replicate n unknown) i unknown ≡ unknown
+all-unknown zero i = refl
+all-unknown (suc n) zero = refl
+all-unknown (suc n) (suc i) = all-unknown n i
+
 module _ (a b : Given) (n : ℕ) where
   either-signals : either a b .signals n ≡ (a .signals n || b .signals n)
   either-signals = refl
@@ -275,13 +285,26 @@ module _ (a b : Given) (n : ℕ) where
   either-codes : either a b .codes n ≡ (a .codes n || b .codes n)
   either-codes = refl
 
-  -- the second part of a sequence counts: its members besides, and the first's 0 is removed
+  -- a sequence's second part counts: its members besides, and the first's 0 is removed
   followed-counts : a .codes 0 ≡ true → followed a b ≡ given (union (a .signals) (b .signals)) (union (without 0 (a .codes)) (b .codes))
   followed-counts e = rw e
 
-  -- or does not: the first's signals, and its codes, among which there is no 0
-  followed-not : a .codes 0 ≡ false → followed a b ≡ given (λ n. a .signals n || false) (λ n. a .codes n && not (eqb n 0) || false)
-  followed-not e = rw e
+  -- or it does not: the result is the first part's
+  followed-not : a .codes 0 ≡ false → followed a b ≡ a
+  followed-not e = λ i. given (same-signals i) (same-codes i)
+    where
+      same-signals : followed a b .signals ≡ a .signals
+      same-signals = ext (λ n. rw (e, or-false (a .signals n)))
+
+      other-than-0 : (n : ℕ) → (a .codes n && not (eqb n 0)) ≡ a .codes n
+      other-than-0 zero = rw e
+      other-than-0 (suc n) = rw (eqb·suc-zero n, and-true (a .codes (suc n)))
+
+      same-codes : followed a b .codes ≡ a .codes
+      same-codes = ext (λ n. rw (e, or-false (a .codes n && not (eqb n 0))) (other-than-0 n))
+
+  both-signals : both a b .signals n ≡ (a .signals n || b .signals n)
+  both-signals = refl
 
   hidden-signals : (s : ℕ) → hidden s a .signals n ≡ (a .signals n && not (eqb n s))
   hidden-signals s = refl
@@ -289,19 +312,24 @@ module _ (a b : Given) (n : ℕ) where
   hidden-codes : (s : ℕ) → hidden s a .codes n ≡ a .codes n
   hidden-codes s = refl
 
--- the larger of two codes, one of each side; no code on one side gives no code
+-- maxima: the larger of two codes, one of each side, for every such pair; no code on one side gives no code
 module _ (a b : Numbers) where
-  maxima-members : (n : ℕ) → maxima a b n ≡ (a n && some-to b n || b n && some-to a n)
-  unfolding maxima
-  maxima-members n = refl
+  maxima-has : (m n : ℕ) → T (a m) → T (b n) → T (maxima a b (max m n))
+  maxima-has = maxima-in a b
 
-  some-to-first : some-to a 0 ≡ a 0
-  unfolding some-to
-  some-to-first = refl
+  maxima-only : (k : ℕ) → T (maxima a b k) → (m : ℕ) × (n : ℕ) × T (a m) × T (b n) × (max m n ≡ k)
+  maxima-only = maxima-out a b
 
-  some-to-next : (n : ℕ) → some-to a (suc n) ≡ (some-to a n || a (suc n))
-  unfolding some-to
-  some-to-next n = refl
+  no-code-first : maxima empty b ≡ empty
+  no-code-first = maxima-empty-left b
+
+  no-code-second : maxima a empty ≡ empty
+  no-code-second = maxima-empty-right a
+
+-- must gives at most one code
+at-most-one-code : (w : Option Numbers) (p : Stmt) (E : Event) (c d : ℕ)
+    → T (gives must (doing w p) E .codes c) → T (gives must (doing w p) E .codes d) → c ≡ d
+at-most-one-code w p E = one-code (doing w p) E .equal
 
 -- down: 0 and 2 become 0, 1 stays 1, k above 2 becomes k - 1
 module _ (a : Numbers) where
@@ -317,43 +345,54 @@ module _ (a : Numbers) where
   unfolding downs
   downs-above k = refl
 
--- ROUNDS
+-- ROUNDS of a block from a state, with a set of present inputs; that there are at least 1 and at most outputs plus 1 of them is a theorem
+-- (`rounds-end` of the crate theorems)
 
-module _ (b : Block) (p : Step) (inputs-present : Numbers) where
+module _ (b : Block) (st : State) (ins : Numbers) where
+  abbrev whole : Step
+  whole = step (b .body) st
+
+  -- the event: an input is present when its bit is set, other inputs are absent; the i-th output is signal inputs + i
+  event-input : (outs : List Status) (n : ℕ) → ltb n (b .inputs) ≡ true → event b ins outs n ≡ known (ins n)
+  unfolding event
+  event-input outs n h = rw h
+
+  event-output : (outs : List Status) (n : ℕ) → ltb n (b .inputs) ≡ false → event b ins outs n ≡ getD outs (n - b .inputs) unknown
+  unfolding event
+  event-output outs n h = rw h
+
   -- all outputs begin unknown
-  rounds-begin : begin b ≡ replicate (b .outputs) unknown
+  rounds-begin : (i : ℕ) → getD (begin b) i unknown ≡ unknown
   unfolding begin
-  rounds-begin = refl
+  rounds-begin i = all-unknown (b .outputs) i
 
-  -- a round marks present the outputs in must and absent those not in can under plus
-  abbrev marking : ℕ → List Status → Status → Status
-  marking s outs v =
-      marked (gives must p (event b inputs-present outs) .signals s) (gives (can plus) p (event b inputs-present outs) .signals s) v
+  -- a round marks, with both taken from one event, each output
+  abbrev in-must-now : List Status → ℕ → Bool
+  in-must-now outs i = gives must whole (event b ins outs) .signals (b .inputs + i)
 
-  marking-must : (s : ℕ) (outs : List Status) (v : Status) → gives must p (event b inputs-present outs) .signals s ≡ true → marking s outs v ≡ present
-  marking-must s outs v m = rw m
+  abbrev in-can-now : List Status → ℕ → Bool
+  in-can-now outs i = gives (can plus) whole (event b ins outs) .signals (b .inputs + i)
 
-  marking-not-can : (s : ℕ) (outs : List Status) (v : Status) → gives must p (event b inputs-present outs) .signals s ≡ false
-      → gives (can plus) p (event b inputs-present outs) .signals s ≡ false → marking s outs v ≡ absent
-  marking-not-can s outs v m c = rw (m, c)
+  round-marks : (outs : List Status) (i : ℕ) → i < length outs
+      → getD (round b whole ins outs) i unknown ≡ marked (in-must-now outs i) (in-can-now outs i) (getD outs i unknown)
+  unfolding round
+  round-marks outs i h = marks-at (gives must whole (event b ins outs)) (gives (can plus) whole (event b ins outs)) (b .inputs) outs i h
 
-  marking-else : (s : ℕ) (outs : List Status) (v : Status) → gives must p (event b inputs-present outs) .signals s ≡ false
-      → gives (can plus) p (event b inputs-present outs) .signals s ≡ true → marking s outs v ≡ v
-  marking-else s outs v m c = rw (m, c)
+  -- present those in must, absent those not in can under plus; else a status stays
+  round-present : (outs : List Status) (i : ℕ) → i < length outs → in-must-now outs i ≡ true → getD (round b whole ins outs) i unknown ≡ present
+  round-present outs i h m = round-marks outs i h ∙ rw m
 
-  -- of one output, two and so on: the i-th output is signal inputs + i
-  round-none : round b p inputs-present [] ≡ []
-  unfolding round marks
-  round-none = refl
+  round-absent : (outs : List Status) (i : ℕ) → i < length outs → in-must-now outs i ≡ false → in-can-now outs i ≡ false
+      → getD (round b whole ins outs) i unknown ≡ absent
+  round-absent outs i h m c = round-marks outs i h ∙ rw (m, c)
 
-  round-first : (v : Status) (vs : List Status) → getD (round b p inputs-present (v ∷ vs)) 0 unknown ≡ marking (b .inputs) (v ∷ vs) v
-  unfolding round marks
-  round-first v vs = refl
+  round-stays : (outs : List Status) (i : ℕ) → i < length outs → in-must-now outs i ≡ false → in-can-now outs i ≡ true
+      → getD (round b whole ins outs) i unknown ≡ getD outs i unknown
+  round-stays outs i h m c = round-marks outs i h ∙ rw (m, c)
 
-  round-second : (v w : Status) (vs : List Status)
-      → getD (round b p inputs-present (v ∷ w ∷ vs)) 1 unknown ≡ marking (suc (b .inputs)) (v ∷ w ∷ vs) w
-  unfolding round marks
-  round-second v w vs = refl
+  -- a round changes nothing where the statuses are the same
+  changes-nothing : (vs ws : List Status) → T (all-same vs ws) ↔ (vs ≡ ws)
+  changes-nothing vs ws = (all-same-is vs ws, λ e. subst (λ (xs : List Status). T (all-same vs xs)) e (all-same-refl vs))
 
   -- the last round is the first that changes nothing; it is counted
   abbrev counted : ℕ → List Status → Bool → Settled
@@ -361,18 +400,23 @@ module _ (b : Block) (p : Step) (inputs-present : Numbers) where
   counted fuel outs unchanged =
       elim unchanged as (λ x. Settled) [
         | true ↦ record { statuses = outs; rounds = 1 }
-        | false ↦ one-more (settle b p inputs-present fuel (round b p inputs-present outs))
+        | false ↦ one-more (settle b whole ins fuel (round b whole ins outs))
       ]
 
-  rounds-last : (fuel : ℕ) (outs : List Status) → all-same (round b p inputs-present outs) outs ≡ true
-      → settle b p inputs-present (suc fuel) outs ≡ record { statuses = outs; rounds = 1 }
+  rounds-last : (fuel : ℕ) (outs : List Status) → all-same (round b whole ins outs) outs ≡ true
+      → settle b whole ins (suc fuel) outs ≡ record { statuses = outs; rounds = 1 }
   unfolding settle
   rounds-last fuel outs e = ap (counted fuel outs) e
 
-  rounds-more : (fuel : ℕ) (outs : List Status) → all-same (round b p inputs-present outs) outs ≡ false
-      → settle b p inputs-present (suc fuel) outs ≡ one-more (settle b p inputs-present fuel (round b p inputs-present outs))
+  rounds-more : (fuel : ℕ) (outs : List Status) → all-same (round b whole ins outs) outs ≡ false
+      → settle b whole ins (suc fuel) outs ≡ one-more (settle b whole ins fuel (round b whole ins outs))
   unfolding settle
   rounds-more fuel outs e = ap (counted fuel outs) e
+
+  -- for the whole block, from all outputs unknown
+  whole-block : final-of b st ins ≡ settle b whole ins (suc (b .outputs)) (begin b)
+  unfolding final-of
+  whole-block = refl
 
 -- finished runs as nothing
 finished-as-nothing : (p : Stmt) → step p finished ≡ step nothing fresh
@@ -454,7 +498,13 @@ module _ (E : Event) where
     trap-keeps none c = rw c
     trap-keeps (some A) c = rw c
 
-    -- a local's body is executed with the status that must settles for it
+    -- a local's body is executed with the status that must settles for it, as above
+    executed-with : (w : Option Numbers) → executed-as s (doing w p) E ≡ marked
+        (gives must (doing w p) (giving E s unknown) .signals s)
+        (gives (can plus) (doing w p) (giving E s unknown) .signals s)
+        unknown
+    executed-with w = refl
+
     local-keeps : (w : Option Numbers) → gives-1 (doing w (local s p))
         → kept (doing w (local s p)) E ≡ kept (doing w p) (giving E s (executed-as s (doing w p) E))
     unfolding gives kept started resumed
@@ -509,19 +559,19 @@ unfolding next
 root-0 A = refl
 
 -- an instant is answered with the code that must gives at the final statuses; without one it is NOT CONSTRUCTIVE
-module _ (b : Block) (st : State) (inputs-present : Numbers) where
+module _ (b : Block) (st : State) (ins : Numbers) where
   abbrev final : Settled
-  final = final-of b st inputs-present
+  final = final-of b st ins
 
   abbrev final-must : Given
-  final-must = gives must (step (b .body) st) (event b inputs-present (final .statuses))
+  final-must = gives must (step (b .body) st) (event b ins (final .statuses))
 
   answer-known : (c : ℕ) → lowest code-width (final-must .codes) ≡ some c
-      → react b st inputs-present ≡ answered
-      (final .statuses) c (next c (kept (step (b .body) st) (event b inputs-present (final .statuses)))) (final .rounds)
+      → react b st ins ≡ answered
+      (final .statuses) c (next c (kept (step (b .body) st) (event b ins (final .statuses)))) (final .rounds)
   unfolding react
   answer-known c e = rw (e, answer)
 
-  answer-unknown : lowest code-width (final-must .codes) ≡ none → react b st inputs-present ≡ not-constructive (final .statuses) (final .rounds)
+  answer-unknown : lowest code-width (final-must .codes) ≡ none → react b st ins ≡ not-constructive (final .statuses) (final .rounds)
   unfolding react
   answer-unknown e = rw (e, answer)

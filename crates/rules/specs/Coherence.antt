@@ -1,6 +1,6 @@
 -- The coherence law of demand 3. It knows only statuses present and absent, and execution. Assumes nothing.
 use mathlib.Core.Path.{_≡_}
-use mathlib.Core.Bool.{Bool, true, false, cond, _&&_}
+use mathlib.Core.Bool.{Bool, false, cond}
 use mathlib.Core.List.{List}
 use Prim.Native.Nat.{ℕ, _+_, _-_, _<_, max}
 use lib.Dec.{eqb, ltb}

@@ -1,5 +1,5 @@
 -- What a statement has to do in one instant, started or resumed. Every rule is then written once, for both. Assumes nothing.
-use mathlib.Core.Bool.{Bool, true, false, cond, _&&_, _||_}
+use mathlib.Core.Bool.{Bool, false, cond, _&&_, _||_}
 use mathlib.Core.List.{List, [], _∷_}
 use Prim.Native.Nat.{ℕ}
 use Rattle.sets.specs.Numbers.{Numbers, single, listed}

@@ -1,6 +1,5 @@
 -- The codes that the LOOP check looks at. Assumes nothing.
-use mathlib.Core.Bool.{Bool, true, false, not, _&&_}
-use Prim.Native.Nat.{ℕ}
+use mathlib.Core.Bool.{Bool, true, not, _&&_}
 use Rattle.sets.specs.Numbers.{Numbers, single, union, without, only-if, maxima, downs}
 use Rattle.rules.specs.Statements.{Stmt, nothing, pause, emit, present?_then_else_, suspend_on_, _⨾_, loop, _parallel_, trap, exit, local, code}
 

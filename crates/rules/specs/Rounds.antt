@@ -1,14 +1,14 @@
 -- The rounds of an instant, and the answer. Assumes nothing.
 use mathlib.Core.Path.{_≡_}
 use mathlib.Core.Logic.{_≢_}
-use mathlib.Core.Bool.{Bool, true, false, cond, _&&_}
+use mathlib.Core.Bool.{Bool, true, false, _&&_}
 use mathlib.Core.List.{List, [], _∷_}
 use mathlib.Core.Option.{Option, none, some}
-use Prim.Native.Nat.{ℕ, zero, suc, _+_}
+use Prim.Native.Nat.{ℕ, zero, suc}
 use lib.ListN.{replicate}
 use Rattle.sets.specs.Numbers.{Numbers, lowest}
 use Rattle.rules.specs.Statements.{Block}
-use Rattle.rules.specs.Events.{Status, present, absent, unknown, Event, event}
+use Rattle.rules.specs.Events.{Status, present, absent, unknown, event}
 use Rattle.rules.specs.Instant.{Step}
 use Rattle.rules.specs.MustCan.{plus, must, can, Given, marked, gives}
 use Rattle.rules.specs.States.{State, step, kept, next}

@@ -5,10 +5,10 @@ use Prim.Native.Nat.{ℕ, _<_}
 use lib.Dec.{T, eqb}
 use lib.ListN.{length}
 use Rattle.sets.specs.Numbers.{Numbers, empty, union, only-if, listed}
-use Rattle.rules.specs.Statements.{Block, Stmt, nothing, pause, emit, present?_then_else_, suspend_on_, _⨾_, loop, _parallel_, trap, exit, local, pauses}
+use Rattle.rules.specs.Statements.{Stmt, nothing, pause, emit, present?_then_else_, suspend_on_, _⨾_, loop, _parallel_, trap, exit, local, pauses}
 use Rattle.rules.specs.Events.{Status, present, absent, unknown, Event, giving}
 use Rattle.rules.specs.Instant.{Step, done, stay, say, leave, test, catch, scope, chain, beside, started, resumed}
-use Rattle.rules.specs.MustCan.{must, can, absence-asked, settled, gives}
+use Rattle.rules.specs.MustCan.{must, absence-asked, settled, gives}
 
 -- The phases; only a running state has active pauses.
 pub data State : Type 0 where

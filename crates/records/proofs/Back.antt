@@ -1,0 +1,150 @@
+-- Both ways: what is written is read back, and a state that is found without a clash is a legal one. Assumes nothing.
+use mathlib.Core.Path.{_≡_, refl, sym, ap, ap₂, _∙_, subst⁻¹}
+use mathlib.Core.Bool.{Bool, true, false, cond, _&&_, and-comm}
+use Prim.Native.Nat.{ℕ, _^_, _≤_, _<_}
+use native.Mathlib.Omega.{arith}
+use lib.Dec.{T, eqb, eqb→eq}
+use lib.ListN.{length}
+use Rattle.sets.specs.Numbers.{Numbers, empty, listed}
+use Rattle.sets.specs.Words.{word, two-words}
+use Rattle.sets.proofs.Members.{is-false, of-false, and-left, and-right}
+use Rattle.sets.proofs.Words.{word-lt, word-empty}
+use Rattle.rules.specs.Statements.{Stmt, nothing, pause, emit, present?_then_else_, suspend_on_, _⨾_, loop, _parallel_, trap, exit, local, pauses}
+use Rattle.rules.specs.States.{State, fresh, running, finished, holds-both, lowest-above, is-parallel, compatible}
+use Rattle.records.specs.Numerals.{in-bytes, number, field}
+use Rattle.records.specs.StateRecord.{state, phase-of, active-of, upper, state-record, beyond, in-phase, read-state}
+use Rattle.records.specs.LogRecord.{Logged, log-record}
+use Rattle.records.proofs.Bytes.{number-in-bytes}
+use Rattle.records.proofs.TwoWords.{set-of-words, set-of-none, beyond-out}
+use Rattle.records.proofs.Reading.{choose, in-phase-of, read-whole}
+
+-- The log record, field by field.
+module _ (l : Logged) where
+  pub log-length : length (log-record l) ≡ 24
+  unfolding log-record in-bytes
+  log-length = refl
+
+  pub log-sized : field (log-record l) 0 2 ≡ 24
+  unfolding log-record in-bytes field number
+  log-sized = refl
+
+  pub log-kind : field (log-record l) 2 2 ≡ 3
+  unfolding log-record in-bytes field number
+  log-kind = refl
+
+  pub log-inputs : l .inputs < 2 ^ 64 → field (log-record l) 4 8 ≡ l .inputs
+  unfolding log-record in-bytes field
+  log-inputs h = number-in-bytes 8 h
+
+  pub log-present : l .present < 2 ^ 64 → field (log-record l) 12 8 ≡ l .present
+  unfolding log-record in-bytes field
+  log-present h = number-in-bytes 8 h
+
+  pub log-code : l .code < 2 ^ 16 → field (log-record l) 20 2 ≡ l .code
+  unfolding log-record in-bytes field
+  log-code h = number-in-bytes 2 h
+
+  pub log-rounds : l .rounds < 2 ^ 16 → field (log-record l) 22 2 ≡ l .rounds
+  unfolding log-record in-bytes field
+  log-rounds h = number-in-bytes 2 h
+
+-- The state record, field by field.
+module _ (st : State) where
+  pub state-length : length (state-record st) ≡ 22
+  unfolding state-record in-bytes
+  state-length = refl
+
+  state-sized : field (state-record st) 0 2 ≡ 22
+  unfolding state-record in-bytes field number
+  state-sized = refl
+
+  state-kind : field (state-record st) 2 2 ≡ 2
+  unfolding state-record in-bytes field number
+  state-kind = refl
+
+  state-low : field (state-record st) 6 8 ≡ word 64 (active-of st)
+  unfolding state-record in-bytes field
+  state-low = number-in-bytes 8 (word-lt 64 (active-of st))
+
+  state-high : field (state-record st) 14 8 ≡ word 64 (upper (active-of st))
+  unfolding state-record in-bytes field
+  state-high = number-in-bytes 8 (word-lt 64 (upper (active-of st)))
+
+  state-phase : phase-of st < 256 ^ 2 → field (state-record st) 4 2 ≡ phase-of st
+  unfolding state-record in-bytes field
+  state-phase h = number-in-bytes 2 h
+
+  pub read-record : (n : ℕ) → read-state n (state-record st) ≡ in-phase (field (state-record st) 4 2) n (state-record st)
+  read-record n = sym (read-whole n (state-record st) state-length state-sized state-kind)
+
+-- What is written is read back.
+bare : (st : State) (p : ℕ) → phase-of st ≡ p → p < 256 ^ 2 → active-of st ≡ empty → (n : ℕ)
+    → read-state n (state-record st) ≡ choose p true (beyond n (two-words 64 0 0)) (two-words 64 0 0)
+bare st p e h a n =
+    let low : field (state-record st) 6 8 ≡ 0 = state-low st ∙ ap (word 64) a ∙ word-empty 64 in
+    let high : field (state-record st) 14 8 ≡ 0 = state-high st ∙ ap (λ (A : Numbers). word 64 (upper A)) a ∙ word-empty 64 in
+    read-record st n ∙ ap (λ (k : ℕ). in-phase k n (state-record st)) (state-phase st (subst⁻¹ (λ (k : ℕ). k < 256 ^ 2) e h) ∙ e)
+    ∙ in-phase-of p n (state-record st) low high
+
+pub fresh-back : (n : ℕ) → read-state n (state-record fresh) ≡ state fresh
+unfolding phase-of active-of
+fresh-back n = bare fresh 0 refl (omega arith) refl n
+
+pub finished-back : (n : ℕ) → read-state n (state-record finished) ≡ state finished
+unfolding phase-of active-of
+finished-back n = bare finished 2 refl (omega arith) refl n
+
+module _ (n : ℕ) (A : Numbers) (h : n ≤ 128) (f : (k : ℕ) → T (A k) → k < n) where
+  own : two-words 64 (word 64 A) (word 64 (upper A)) ≡ A
+  own = set-of-words A (λ k t. let l : k < n = f k t in omega arith)
+
+  not-far : beyond n (two-words 64 (word 64 A) (word 64 (upper A))) ≡ false
+  not-far =
+      ap (beyond n) own ∙ is-false (beyond n A) (λ t. let r = beyond-out n A t in let l : r .0 < n = f (r .0) (r .3) in omega (arith, r .2))
+
+  not-clear : (k : ℕ) × T (A k) → (eqb (word 64 A) 0 && eqb (word 64 (upper A)) 0) ≡ false
+  not-clear m =
+      is-false (eqb (word 64 A) 0 && eqb (word 64 (upper A)) 0)
+      (λ t. of-false
+      (ap (λ (B : Numbers). B (m .0)) (sym own)
+      ∙ ap₂ (λ (x y : ℕ). two-words 64 x y (m .0)) (eqb→eq (word 64 A) 0 (and-left (eqb (word 64 A) 0) (eqb (word 64 (upper A)) 0) t))
+      (eqb→eq (word 64 (upper A)) 0 (and-right (eqb (word 64 A) 0) (eqb (word 64 (upper A)) 0) t))
+      ∙ set-of-none (m .0)) (m .1))
+
+  pub running-back : (k : ℕ) × T (A k) → read-state n (state-record (running A)) ≡ state (running A)
+  unfolding phase-of active-of
+  running-back m =
+      read-record (running A) n ∙ ap (λ (k : ℕ). in-phase k n (state-record (running A))) (state-phase (running A) (omega arith))
+      ∙ in-phase-of 1 n (state-record (running A)) (state-low (running A)) (state-high (running A))
+      ∙ ap₂ (λ (x y : Bool). choose 1 x y (two-words 64 (word 64 A) (word 64 (upper A)))) (not-clear m) not-far
+      ∙ ap (λ (B : Numbers). state (running B)) own
+
+-- Compatibility goes both ways.
+holds-both-sym : (p : Stmt) (m n : ℕ) → holds-both p m n ≡ holds-both p n m
+unfolding holds-both
+holds-both-sym p m n = and-comm (listed (pauses p) m) (listed (pauses p) n)
+
+two-sym : (p q r : Stmt) (m n : ℕ) → lowest-above q m n ≡ lowest-above q n m → lowest-above r m n ≡ lowest-above r n m
+    → cond (holds-both q m n) (lowest-above q m n) (cond (holds-both r m n) (lowest-above r m n) p)
+    ≡ cond (holds-both q n m) (lowest-above q n m) (cond (holds-both r n m) (lowest-above r n m) p)
+two-sym p q r m n e f =
+    ap₂ (λ (x y : Bool). cond x (lowest-above q m n) (cond y (lowest-above r m n) p)) (holds-both-sym q m n) (holds-both-sym r m n)
+    ∙ ap₂ (λ (x y : Stmt). cond (holds-both q n m) x (cond (holds-both r n m) y p)) e f
+
+lowest-above-sym : (p : Stmt) (m n : ℕ) → lowest-above p m n ≡ lowest-above p n m
+unfolding lowest-above
+lowest-above-sym nothing m n = refl
+lowest-above-sym (pause k) m n = refl
+lowest-above-sym (emit s) m n = refl
+lowest-above-sym (exit d) m n = refl
+lowest-above-sym (suspend p on s) m n = lowest-above-sym p m n
+lowest-above-sym (loop p) m n = lowest-above-sym p m n
+lowest-above-sym (trap p) m n = lowest-above-sym p m n
+lowest-above-sym (local s p) m n = lowest-above-sym p m n
+lowest-above-sym (present? s then p else q) m n = two-sym (present? s then p else q) p q m n (lowest-above-sym p m n) (lowest-above-sym q m n)
+lowest-above-sym (p ⨾ q) m n = two-sym (p ⨾ q) p q m n (lowest-above-sym p m n) (lowest-above-sym q m n)
+lowest-above-sym (p parallel q) m n = two-sym (p parallel q) p q m n (lowest-above-sym p m n) (lowest-above-sym q m n)
+
+pub compatible-sym : (p : Stmt) (m n : ℕ) → compatible p m n ≡ compatible p n m
+unfolding compatible
+compatible-sym p m n = ap is-parallel (lowest-above-sym p m n)

@@ -1,0 +1,117 @@
+-- Pairs of pauses: what one test says, and what the search over all pairs has shown. Assumes nothing.
+use mathlib.Core.Path.{_≡_, refl, sym, ap, _∙_, subst}
+use mathlib.Core.Bool.{Bool, true, false, not, _&&_}
+use mathlib.Core.List.{List}
+use mathlib.Core.Option.{none, some}
+use Prim.Native.Nat.{ℕ, _+_, _≤_, _<_}
+use native.Mathlib.Omega.{arith}
+use lib.Dec.{T, eqb, ltb, ltb→lt, T-not}
+use lib.ListN.{length}
+use borrow.Author.Tests.{lt-ltb, eqb-true, eqb-false}
+use Rattle.sets.specs.Numbers.{Numbers, some-to}
+use Rattle.sets.proofs.Members.{is-true, is-false, of-false, and-left, and-right}
+use Rattle.sets.proofs.Maxima.{some-to-in, some-to-out}
+use Rattle.sets.proofs.Counts.{lowest-in, lowest-empty}
+use Rattle.rules.specs.Statements.{Stmt, pauses}
+use Rattle.rules.specs.States.{compatible}
+use Rattle.records.specs.StateRecord.{clashes, first-clash, with-second, paired}
+use Rattle.records.specs.Held.{set-of}
+use Rattle.records.specs.Clashing.{Searchable, before, Filled, Place}
+
+-- Two active pauses are in the tree, so that the walk may start at its root.
+pub root-place : (kinds sizes firsts active : List ℕ) (count m n : ℕ) (t : Stmt) → Searchable kinds sizes count active t → Filled kinds count firsts
+    → m < n → T (set-of active n) → Place kinds sizes firsts m n 0 t
+unfolding before
+root-place kinds sizes firsts active count m n t S f l h = record {
+  operands = S .operands;
+  count = count;
+  has = S .has;
+  numbered = S .numbered;
+  ends = omega (arith, S .counted);
+  few = S .few;
+  filled = f;
+  lower = l;
+  low = omega arith;
+  high = let w : n < length (pauses t) = S .in-block n h in omega arith;
+}
+
+-- One test.
+module _ (t : Stmt) (A : Numbers) (m n : ℕ) where
+  pub clash-tested : {b : Bool} → T (A m) → A n ≡ true → m < n → b ≡ compatible t m n → not b ≡ clashes t A m n
+  unfolding clashes
+  clash-tested h k l e =
+      ap not e
+      ∙ sym (ap (λ (x : Bool). x && A n && ltb m n && not (compatible t m n)) (is-true (A m) h)
+      ∙ ap (λ (x : Bool). true && x && ltb m n && not (compatible t m n)) k ∙ ap (λ (x : Bool). true && true && x && not (compatible t m n)) (lt-ltb m n l))
+
+  pub clash-first : T (clashes t A m n) → T (A m)
+  unfolding clashes
+  clash-first h = and-left (A m) (A n) (and-left (A m && A n) (ltb m n) (and-left (A m && A n && ltb m n) (not (compatible t m n)) h))
+
+  pub clash-second : T (clashes t A m n) → T (A n)
+  unfolding clashes
+  clash-second h = and-right (A m) (A n) (and-left (A m && A n) (ltb m n) (and-left (A m && A n && ltb m n) (not (compatible t m n)) h))
+
+  pub clash-lower : T (clashes t A m n) → m < n
+  unfolding clashes
+  clash-lower h = ltb→lt m n (and-right (A m && A n) (ltb m n) (and-left (A m && A n && ltb m n) (not (compatible t m n)) h))
+
+  pub clash-apart : T (clashes t A m n) → T (compatible t m n) → ⊥
+  unfolding clashes
+  clash-apart h = T-not (compatible t m n) (and-right (A m && A n && ltb m n) (not (compatible t m n)) h)
+
+  pub clash-inactive : A n ≡ false → false ≡ clashes t A m n
+  clash-inactive e = sym (is-false (clashes t A m n) (λ h. of-false e (clash-second h)))
+
+-- No clash has a first pause below m; none of m has a second below n.
+pub record Clear-first (t : Stmt) (A : Numbers) (m : ℕ) : Type 0 where
+  pub none-below : (i j : ℕ) → i < m → j < 128 → T (clashes t A i j) → ⊥
+
+pub record Clear-second (t : Stmt) (A : Numbers) (m n : ℕ) : Type 0 where
+  pub none-before : (j : ℕ) → j < n → T (clashes t A m j) → ⊥
+
+module _ (t : Stmt) (A : Numbers) where
+  pub first-begin : Clear-first t A 0
+  first-begin = record { none-below = λ i j h. absurd (omega arith) }
+
+  pub second-begin : (m : ℕ) → Clear-second t A m (m + 1)
+  second-begin m = record { none-before = λ j h c. let l : m < j = clash-lower t A m j c in omega arith }
+
+  pub second-more : (m n : ℕ) {b : Bool} → Clear-second t A m n → b ≡ clashes t A m n → b ≡ false → Clear-second t A m (n + 1)
+  second-more m n {b} C e f = record { none-before = λ j h. go j h (eqb j n) refl }
+    where
+      go : (j : ℕ) → j < n + 1 → (x : Bool) → eqb j n ≡ x → T (clashes t A m j) → ⊥
+      go j h true q c = of-false (sym e ∙ f) (subst (λ (k : ℕ). T (clashes t A m k)) (eqb-true j n q) c)
+      go j h false q c = let k : j ≡ n → ⊥ = eqb-false j n q in C .none-before j (omega arith) c
+
+  pub first-more : (m : ℕ) → Clear-first t A m → ((j : ℕ) → j < 128 → T (clashes t A m j) → ⊥) → Clear-first t A (m + 1)
+  first-more m C f = record { none-below = λ i j h l. go i j h l (eqb i m) refl }
+    where
+      go : (i j : ℕ) → i < m + 1 → j < 128 → (x : Bool) → eqb i m ≡ x → T (clashes t A i j) → ⊥
+      go i j h l true q c = f j l (subst (λ (k : ℕ). T (clashes t A k j)) (eqb-true i m q) c)
+      go i j h l false q c = let k : i ≡ m → ⊥ = eqb-false i m q in C .none-below i j (omega arith) l c
+
+  pub first-tested : (m n : ℕ) → Clear-first t A m → Clear-second t A m n → 128 ≤ n → Clear-first t A (m + 1)
+  first-tested m n C D h = first-more m C (λ j l. D .none-before j (omega arith))
+
+  pub first-passed : (m : ℕ) {b : Bool} → Clear-first t A m → b ≡ A m → b ≡ false → Clear-first t A (m + 1)
+  first-passed m C e f = first-more m C (λ j l c. of-false (sym e ∙ f) (clash-first t A m j c))
+
+  -- What the definition says of either end of the search.
+  some-second : (m : ℕ) → T (some-to (clashes t A m) 127) → (n : ℕ) × (n < 128) × T (clashes t A m n)
+  some-second m h = let r = some-to-out (clashes t A m) 127 h in (r .0, omega (arith, r .1), r .2)
+
+  pub none-found : (m : ℕ) → 128 ≤ m → Clear-first t A m → none ≡ first-clash t A
+  unfolding first-clash
+  none-found k l C =
+      sym (ap (with-second t A) (lowest-empty 128 (λ m. some-to (clashes t A m) 127)
+      (λ m h c. let r = some-second m c in C .none-below m (r .0) (omega arith) (r .1) (r .2))))
+
+  pub pair-found : (m n : ℕ) → m < 128 → n < 128 → Clear-first t A m → Clear-second t A m n → T (clashes t A m n)
+      → some (record { first = m; second = n }) ≡ first-clash t A
+  unfolding first-clash
+  pair-found m n h l C D c =
+      sym (ap (with-second t A)
+      (lowest-in 128 (λ i. some-to (clashes t A i) 127) h (some-to-in (clashes t A m) 127 (omega arith) c)
+      (λ i k s. let r = some-second i s in C .none-below i (r .0) k (r .1) (r .2)))
+      ∙ ap (paired m) (lowest-in 128 (clashes t A m) l c (D .none-before)))

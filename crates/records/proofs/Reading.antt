@@ -1,0 +1,136 @@
+-- Reading a state record: each way through the code has one law, from the tests on the way to what the record holds. Assumes nothing.
+use mathlib.Core.Path.{_≡_, refl, sym, ap, ap₂, _∙_}
+use mathlib.Core.Bool.{Bool, true, false, not, cond, _&&_}
+use mathlib.Core.List.{List, [], _∷_}
+use Prim.Native.Nat.{ℕ, _<_, _^_}
+use lib.Dec.{eqb}
+use lib.ListN.{length}
+use borrow.Author.Tests.{ne-eqb}
+use Rattle.sets.specs.Numbers.{Numbers}
+use Rattle.sets.specs.Words.{two-words}
+use Rattle.sets.proofs.Words.{word-empty}
+use Rattle.rules.specs.States.{fresh, running, finished}
+use Rattle.records.specs.Numerals.{field}
+use Rattle.records.specs.StateRecord.{Found, not-a-state, state, beyond, in-phase, read-state}
+use Rattle.records.specs.Held.{held-of}
+use Rattle.records.proofs.TwoWords.{words-low, words-high}
+
+-- The definition's choice, with the tests of the bits as Booleans.
+abbrev pub choose : ℕ → Bool → Bool → Numbers → Found
+choose phase clear far A =
+    cond (eqb phase 0 && clear) (state fresh)
+    (cond (eqb phase 1 && not clear && not far) (state (running A)) (cond (eqb phase 2 && clear) (state finished) not-a-state))
+
+pub in-phase-of : (phase pauses : ℕ) (bs : List ℕ) {low high : ℕ} → field bs 6 8 ≡ low → field bs 14 8 ≡ high
+    → in-phase phase pauses bs ≡ choose phase (eqb low 0 && eqb high 0) (beyond pauses (two-words 64 low high)) (two-words 64 low high)
+unfolding in-phase
+in-phase-of phase pauses bs e f =
+    ap₂ (λ (l h : ℕ). choose phase (eqb l 0 && eqb h 0) (beyond pauses (two-words 64 l h)) (two-words 64 l h)) e f
+
+-- Ways to no state: no bit set and neither phase of those; bits, and one of them beyond; bits, and another phase.
+clear-other : (a b c far : Bool) (A : Numbers) → a ≡ false → c ≡ false
+    → cond {A = Found} (a && true) (state fresh) (cond (b && not true && not far) (state (running A)) (cond (c && true) (state finished) not-a-state)) ≡ not-a-state
+clear-other a true c far A p q = ap₂ (λ (x y : Bool). cond {A = Found} (x && true) (state fresh) (cond (y && true) (state finished) not-a-state)) p q
+clear-other a false c far A p q = ap₂ (λ (x y : Bool). cond {A = Found} (x && true) (state fresh) (cond (y && true) (state finished) not-a-state)) p q
+
+set-other : (a b c far : Bool) (A : Numbers) → (b && not false && not far) ≡ false
+    → cond {A = Found} (a && false) (state fresh) (cond (b && not false && not far) (state (running A)) (cond (c && false) (state finished) not-a-state)) ≡ not-a-state
+set-other true b true far A e = ap (λ (x : Bool). cond {A = Found} x (state (running A)) not-a-state) e
+set-other true b false far A e = ap (λ (x : Bool). cond {A = Found} x (state (running A)) not-a-state) e
+set-other false b true far A e = ap (λ (x : Bool). cond {A = Found} x (state (running A)) not-a-state) e
+set-other false b false far A e = ap (λ (x : Bool). cond {A = Found} x (state (running A)) not-a-state) e
+
+far-refused : (b : Bool) {far : Bool} → far ≡ true → (b && not false && not far) ≡ false
+far-refused true e = ap not e
+far-refused false e = refl
+
+-- What each thing found is as words.
+held-fresh : held-of (state fresh) ≡ record { phase = 0; active = 0 ∷ 0 ∷ [] }
+unfolding held-of
+held-fresh = ap (λ (x : ℕ). record { phase = 0; active = x ∷ x ∷ [] }) (word-empty 64)
+
+held-finished : held-of (state finished) ≡ record { phase = 2; active = 0 ∷ 0 ∷ [] }
+unfolding held-of
+held-finished = ap (λ (x : ℕ). record { phase = 2; active = x ∷ x ∷ [] }) (word-empty 64)
+
+held-running : (low high : ℕ) → low < 2 ^ 64 → high < 2 ^ 64 → held-of (state (running (two-words 64 low high))) ≡ record { phase = 1; active = low ∷ high ∷ [] }
+unfolding held-of
+held-running low high l h =
+    ap₂ (λ (x y : ℕ). record { phase = 1; active = x ∷ y ∷ [] }) (words-low low high l h) (words-high low high l h)
+
+-- The ways through the phases.
+module _ (phase pauses low high : ℕ) (bs : List ℕ) (e : field bs 6 8 ≡ low) (f : field bs 14 8 ≡ high) where
+  module _ {clear : Bool} (n : clear ≡ (eqb low 0 && eqb high 0)) where
+    so : in-phase phase pauses bs ≡ choose phase clear (beyond pauses (two-words 64 low high)) (two-words 64 low high)
+    so =
+        in-phase-of phase pauses bs e f
+        ∙ ap (λ (b : Bool). choose phase b (beyond pauses (two-words 64 low high)) (two-words 64 low high)) (sym n)
+
+    pub by-fresh : clear ≡ true → phase ≡ 0 → record { phase = 0; active = 0 ∷ 0 ∷ [] } ≡ held-of (in-phase phase pauses bs)
+    by-fresh t z =
+        sym (ap held-of (so ∙ ap₂ (λ (b : Bool) (p : ℕ). choose p b (beyond pauses (two-words 64 low high)) (two-words 64 low high)) t z) ∙ held-fresh)
+
+    pub by-finished : clear ≡ true → phase ≡ 2 → record { phase = 2; active = 0 ∷ 0 ∷ [] } ≡ held-of (in-phase phase pauses bs)
+    by-finished t z =
+        sym (ap held-of (so ∙ ap₂ (λ (b : Bool) (p : ℕ). choose p b (beyond pauses (two-words 64 low high)) (two-words 64 low high)) t z) ∙ held-finished)
+
+    pub by-neither : clear ≡ true → (phase ≡ 0 → ⊥) → (phase ≡ 2 → ⊥) → not-a-state ≡ in-phase phase pauses bs
+    by-neither t p q =
+        sym (so ∙ ap (λ (b : Bool). choose phase b (beyond pauses (two-words 64 low high)) (two-words 64 low high)) t
+        ∙ clear-other (eqb phase 0) (eqb phase 1) (eqb phase 2) (beyond pauses (two-words 64 low high)) (two-words 64 low high) (ne-eqb phase 0 p) (ne-eqb phase 2 q))
+
+    module _ {far : Bool} (b : far ≡ beyond pauses (two-words 64 low high)) where
+      pub by-far : clear ≡ false → far ≡ true → not-a-state ≡ in-phase phase pauses bs
+      by-far t p =
+          sym (so ∙ ap (λ (x : Bool). choose phase x (beyond pauses (two-words 64 low high)) (two-words 64 low high)) t
+          ∙ set-other (eqb phase 0) (eqb phase 1) (eqb phase 2) (beyond pauses (two-words 64 low high)) (two-words 64 low high) (far-refused (eqb phase 1) (sym b ∙ p)))
+
+      pub by-running : low < 2 ^ 64 → high < 2 ^ 64 → clear ≡ false → far ≡ false → phase ≡ 1
+          → record { phase = 1; active = low ∷ high ∷ [] } ≡ held-of (in-phase phase pauses bs)
+      by-running l h t p z =
+          sym (ap held-of (so ∙ ap₂ (λ (x : Bool) (k : ℕ). choose k x (beyond pauses (two-words 64 low high)) (two-words 64 low high)) t z
+          ∙ ap (λ (x : Bool). choose 1 false x (two-words 64 low high)) (sym b ∙ p)) ∙ held-running low high l h)
+
+      pub by-other : clear ≡ false → (phase ≡ 1 → ⊥) → not-a-state ≡ in-phase phase pauses bs
+      by-other t p =
+          sym (so ∙ ap (λ (x : Bool). choose phase x (beyond pauses (two-words 64 low high)) (two-words 64 low high)) t
+          ∙ set-other (eqb phase 0) (eqb phase 1) (eqb phase 2) (beyond pauses (two-words 64 low high)) (two-words 64 low high)
+          (ap (λ (x : Bool). x && not false && not (beyond pauses (two-words 64 low high))) (ne-eqb phase 1 p)))
+
+-- The ways through the length, the kind and the size.
+abbrev pub headed : Bool → Bool → Bool → Found → Found
+headed a b c f = cond (a && b && c) f not-a-state
+
+not-sized : (a b c : Bool) (f : Found) → a ≡ false → headed a b c f ≡ not-a-state
+not-sized a b c f e = ap (λ (x : Bool). headed x b c f) e
+
+not-headed : (a b c : Bool) (f : Found) → b ≡ false → headed a b c f ≡ not-a-state
+not-headed true b c f e = ap (λ (x : Bool). headed true x c f) e
+not-headed false b c f e = refl
+
+not-kind : (a b c : Bool) (f : Found) → c ≡ false → headed a b c f ≡ not-a-state
+not-kind true true c f e = ap (λ (x : Bool). headed true true x f) e
+not-kind true false c f e = refl
+not-kind false b c f e = refl
+
+module _ (pauses : ℕ) (bs : List ℕ) where
+  pub read-sized : (length bs ≡ 22 → ⊥) → not-a-state ≡ read-state pauses bs
+  unfolding read-state
+  read-sized h =
+      sym (not-sized (eqb (length bs) 22) (eqb (field bs 0 2) 22) (eqb (field bs 2 2) 2) (in-phase (field bs 4 2) pauses bs) (ne-eqb (length bs) 22 h))
+
+  pub read-headed : {x : ℕ} → x ≡ field bs 0 2 → (x ≡ 22 → ⊥) → not-a-state ≡ read-state pauses bs
+  unfolding read-state
+  read-headed e h =
+      sym (not-headed (eqb (length bs) 22) (eqb (field bs 0 2) 22) (eqb (field bs 2 2) 2) (in-phase (field bs 4 2) pauses bs) (ne-eqb (field bs 0 2) 22 (λ z. h (e ∙ z))))
+
+  pub read-kind : {x : ℕ} → x ≡ field bs 2 2 → (x ≡ 2 → ⊥) → not-a-state ≡ read-state pauses bs
+  unfolding read-state
+  read-kind e h =
+      sym (not-kind (eqb (length bs) 22) (eqb (field bs 0 2) 22) (eqb (field bs 2 2) 2) (in-phase (field bs 4 2) pauses bs) (ne-eqb (field bs 2 2) 2 (λ z. h (e ∙ z))))
+
+  pub read-whole : length bs ≡ 22 → field bs 0 2 ≡ 22 → field bs 2 2 ≡ 2 → in-phase (field bs 4 2) pauses bs ≡ read-state pauses bs
+  unfolding read-state
+  read-whole l h k =
+      sym (ap (λ (n : ℕ). headed (eqb n 22) (eqb (field bs 0 2) 22) (eqb (field bs 2 2) 2) (in-phase (field bs 4 2) pauses bs)) l
+      ∙ ap₂ (λ (x y : ℕ). headed true (eqb x 22) (eqb y 2) (in-phase (field bs 4 2) pauses bs)) h k)

@@ -1,0 +1,43 @@
+-- `bits::has`: the bit of the word that has it. Assumes nothing.
+use mathlib.Core.Path.{sym}
+use lib.ListN.{getD}
+use borrow.Author.Needs.{needs}
+use Rattle.sets.specs.Words.{bits}
+use Rattle.records.proofs.TwoWords.{in-low, in-high}
+use Rattle.records.proofs.bits.has.Statement.{statement}
+use Rattle.records.proofs.bits.has.Tie as tie
+
+array-read-result : tie.Need-array-read-result
+array-read-result c = search needs
+
+shr-result : tie.Need-shr-result
+shr-result c = search needs
+
+array-read-result-2 : tie.Need-array-read-result-2
+array-read-result-2 c = search needs
+
+cast-result : tie.Need-cast-result
+cast-result c = search needs
+
+shr-result-2 : tie.Need-shr-result-2
+shr-result-2 c = search needs
+
+returns : tie.Need-returns
+unfolding bits
+returns c = let a = c .before .args in sym (in-low (getD (a .t1) 0 0) (getD (a .t1) 1 0) (c .if1 .taken))
+
+returns-2 : tie.Need-returns-2
+unfolding bits
+returns-2 c = let a = c .before .args in sym (in-high (getD (a .t1) 0 0) (getD (a .t1) 1 0) (c .if1 .left))
+
+pub has-spec : {M : Type 1} → statement M
+has-spec =
+    tie.close
+    (tie.spec
+    array-read-result
+    shr-result
+    array-read-result-2
+    cast-result
+    shr-result-2
+    returns
+    returns-2)

@@ -1,0 +1,27 @@
+-- `clash::clashing`: both active, and the lowest statement above them no parallel. Assumes nothing.
+use mathlib.Core.Path.{sym, _∙_}
+use denote.Ref.{now}
+use borrow.Author.Needs.{needs}
+use Rattle.sets.proofs.Members.{of-true}
+use Rattle.records.specs.Held.{set-of}
+use Rattle.records.proofs.Pairs.{root-place, clash-tested, clash-inactive}
+use Rattle.records.proofs.clash.clashing.Statement.{statement}
+use Rattle.records.proofs.clash.clashing.Tie as tie
+
+has-requires : tie.Need-has-requires
+has-requires c κs = search needs
+
+in-parallel-requires : tie.Need-in-parallel-requires
+in-parallel-requires c κs = let a = c .before .before .args in let p = c .before .before .pre in
+    (p .tree, root-place (now (a .kinds)) (now (a .sizes)) (now (a .firsts)) (a .active) (p .count) (a .m) (a .n) (p .tree) (p .searchable) (p .filled) (p .lower) (of-true (sym (c .before .has .ensures) ∙ c .if1 .taken)))
+
+returns : tie.Need-returns
+returns c = let a = c .before .before .before .args in let p = c .before .before .before .pre in λ count t S f.
+    clash-tested t (set-of (a .active)) (a .m) (a .n) (p .member) (sym (c .before .before .has .ensures) ∙ c .before .if1 .taken) (p .lower)
+    (c .in-parallel .ensures t (root-place (now (a .kinds)) (now (a .sizes)) (now (a .firsts)) (a .active) count (a .m) (a .n) t S f (p .lower) (of-true (sym (c .before .before .has .ensures) ∙ c .before .if1 .taken))))
+
+returns-2 : tie.Need-returns-2
+returns-2 c = let a = c .before .before .args in λ count t S f. clash-inactive t (set-of (a .active)) (a .m) (a .n) (sym (c .before .has .ensures) ∙ c .if1 .left)
+
+pub clashing-spec : {M : Type 1} → statement M
+clashing-spec = tie.close (tie.spec has-requires in-parallel-requires returns returns-2)

@@ -1,0 +1,124 @@
+-- `clash::first_clash`: no pair before the present one clashes, so that the pair at the label is the first. Assumes nothing.
+use borrow.Author.Needs.{needs}
+use mathlib.Core.Path.{_≡_, refl, sym, ap, _∙_}
+use mathlib.Core.Logic.{⊎-elim}
+use Prim.Native.Nat.{_-_, _<_}
+use Rattle.sets.proofs.Members.{of-true}
+use Rattle.rules.specs.Statements.{Stmt}
+use Rattle.records.specs.declared.clash.Clash.the-variants as clash
+use Rattle.records.specs.Held.{set-of}
+use Rattle.records.specs.Clashing.{Searchable, pair-of}
+use Rattle.records.proofs.Pairs.{Clear-first, Clear-second, first-begin, second-begin, second-more, first-tested, first-passed, none-found, pair-found}
+use Rattle.records.proofs.clash.first_clash.Statement.{statement}
+use Rattle.records.proofs.clash.first_clash.Tie as tie
+
+abbrev Inv-loop : tie.InvT-loop
+Inv-loop kinds sizes count active firsts found₀ m n₀ found n =
+    (found ≡ clash.None) × (m < n) × ((t : Stmt) → Searchable kinds sizes count active t → Clear-second t (set-of active) m n)
+
+abbrev μ-loop : tie.MeasureT-loop
+μ-loop kinds sizes count active firsts found₀ m n₀ found n = 128 - n
+
+abbrev Inv-pairs : tie.InvT-pairs
+Inv-pairs kinds sizes count active firsts found₀ m₀ found m =
+    (found ≡ clash.None) × ((t : Stmt) → Searchable kinds sizes count active t → Clear-first t (set-of active) m)
+
+abbrev μ-pairs : tie.MeasureT-pairs
+μ-pairs kinds sizes count active firsts found₀ m₀ found m = 128 - m
+
+pauses-before-requires : tie.Need-pauses-before-requires Inv-loop μ-loop Inv-pairs μ-pairs
+pauses-before-requires c κs = c .pre .1 .few
+
+pairs-holds : tie.Need-pairs-holds Inv-loop μ-loop Inv-pairs μ-pairs
+pairs-holds c = (refl, λ t S. first-begin t (set-of (c .before .args .active)))
+
+has-requires : tie.Need-has-requires Inv-loop μ-loop Inv-pairs μ-pairs
+has-requires c κs = search needs
+
+add-n : tie.Need-add-n Inv-loop μ-loop Inv-pairs μ-pairs
+add-n c = search needs
+
+loop-holds : tie.Need-loop-holds Inv-loop μ-loop Inv-pairs μ-pairs
+loop-holds c =
+    let o = c .before .before .before in let s = o .before .before in
+    (o .pairs .inv .0, search needs, λ t S. second-begin t (set-of (s .args .active)) (o .pairs .m))
+
+clashing-requires : tie.Need-clashing-requires Inv-loop μ-loop Inv-pairs μ-pairs
+clashing-requires c κs =
+    let l = c .before .before in let o = l .before .before .before .before in let s = o .before .before in
+    record {
+      count = s .args .count;
+      tree = s .pre .0;
+      searchable = s .pre .1;
+      filled = o .before .pauses-before .ensures;
+      member = of-true (sym (l .before .before .has .ensures) ∙ l .before .if1 .taken);
+      lower = l .loop .inv .1;
+      in-width = c .before .loop-test .taken;
+    }
+
+add-n-2 : tie.Need-add-n-2 Inv-loop μ-loop Inv-pairs μ-pairs
+add-n-2 c = search needs
+
+loop-less : tie.Need-loop-less Inv-loop μ-loop Inv-pairs μ-pairs
+loop-less c = search needs
+
+loop-again : tie.Need-loop-again Inv-loop μ-loop Inv-pairs μ-pairs
+loop-again c =
+    let l = c .before .before .before .before in let o = l .before .before .before .before in let s = o .before .before in (
+      l .loop .inv .0,
+      search needs,
+      λ t S. second-more t (set-of (s .args .active)) (o .pairs .m) (l .loop .n) (l .loop .inv .2 t S)
+          (c .before .clashing .ensures (s .args .count) t S (o .before .pauses-before .ensures)) (c .if2 .left),
+    )
+
+add-m : tie.Need-add-m Inv-loop μ-loop Inv-pairs μ-pairs
+add-m c = search needs
+
+pairs-less : tie.Need-pairs-less Inv-loop μ-loop Inv-pairs μ-pairs
+pairs-less c = search needs
+
+pairs-again : tie.Need-pairs-again Inv-loop μ-loop Inv-pairs μ-pairs
+pairs-again c =
+    let o = c .before .before .before in let s = o .before .before in (
+      ⊎-elim (λ w. w .3 ∙ w .1 .inv .0) (λ w. w .1 ∙ o .pairs .inv .0) (c .if1 .came),
+      λ t S. ⊎-elim
+          (λ w. first-tested t (set-of (s .args .active)) (o .pairs .m) (w .1 .n) (o .pairs .inv .1 t S) (w .1 .inv .2 t S) (w .2 .left))
+          (λ w. first-passed t (set-of (s .args .active)) (o .pairs .m) (o .pairs .inv .1 t S) (c .before .has .ensures) (w .0 .left)) (c .if1 .came),
+    )
+
+returns : tie.Need-returns Inv-loop μ-loop Inv-pairs μ-pairs
+unfolding pair-of
+returns c =
+    let o = c .before in let s = o .before .before in
+    λ t S. ap pair-of (o .pairs .inv .0) ∙ none-found t (set-of (s .args .active)) (o .pairs .m) (c .pairs-test .left) (o .pairs .inv .1 t S)
+
+returns-2 : tie.Need-returns-2 Inv-loop μ-loop Inv-pairs μ-pairs
+unfolding pair-of
+returns-2 c =
+    let l = c .before .before .before .before in let o = l .before .before .before .before in let s = o .before .before in
+    λ t S. pair-found t (set-of (s .args .active)) (o .pairs .m) (l .loop .n) (l .before .before .before .pairs-test .taken) (c .before .before .before .loop-test .taken)
+    (o .pairs .inv .1 t S) (l .loop .inv .2 t S)
+    (of-true (sym (c .before .clashing .ensures (s .args .count) t S (o .before .pauses-before .ensures)) ∙ c .if2 .taken))
+
+pub first-clash-spec : {M : Type 1} → statement M
+first-clash-spec =
+    tie.close
+    (tie.spec
+    Inv-loop
+    μ-loop
+    Inv-pairs
+    μ-pairs
+    pauses-before-requires
+    pairs-holds
+    has-requires
+    add-n
+    loop-holds
+    clashing-requires
+    add-n-2
+    loop-less
+    loop-again
+    add-m
+    pairs-less
+    pairs-again
+    returns
+    returns-2)

@@ -1,0 +1,41 @@
+-- `log::write_at_end`: the record is at the front of the part from the end on. Assumes nothing.
+use mathlib.Core.Path.{refl}
+use denote.Ref.{now}
+use borrow.Author.Needs.{needs}
+use Rattle.records.proofs.Writing.{lent-on}
+use Rattle.records.proofs.log.write_at_end.Statement.{statement}
+use Rattle.records.proofs.log.write_at_end.Tie as tie
+
+sub-write-record : tie.Need-sub-write-record
+sub-write-record c = search needs
+
+part-write-record-start : tie.Need-part-write-record-start
+part-write-record-start c = search needs
+
+part-write-record-end : tie.Need-part-write-record-end
+part-write-record-end c = search needs
+
+write-record-requires : tie.Need-write-record-requires
+write-record-requires c κs = search needs
+
+add-result : tie.Need-add-result
+add-result c = search needs
+
+same-length : tie.Need-same-length
+same-length c = search needs
+
+returns : tie.Need-returns
+returns c = let a = c .before .before .before .before .before .args in
+    (refl, lent-on (now (a .log)) (a .end) (record { inputs = a .inputs; present = a .present; code = a .code; rounds = a .rounds }) (c .before .before .write-record .ensures))
+
+pub write-at-end-spec : {M : Type 1} → statement M
+write-at-end-spec =
+    tie.close
+    (tie.spec
+    sub-write-record
+    part-write-record-start
+    part-write-record-end
+    write-record-requires
+    add-result
+    same-length
+    returns)

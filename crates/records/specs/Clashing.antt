@@ -1,0 +1,71 @@
+-- What the search for the first clash asks of its table, and what its steps say. Assumes nothing.
+use mathlib.Core.Path.{_≡_}
+use mathlib.Core.Logic.{_⊎_}
+use mathlib.Core.Bool.{Bool, cond, _||_}
+use mathlib.Core.List.{List}
+use mathlib.Core.Option.{Option, none, some}
+use Prim.Native.Nat.{ℕ, zero, suc, _+_, _≤_, _<_}
+use lib.Dec.{T, eqb}
+use lib.ListN.{length, getD}
+use Rattle.rules.specs.Statements.{Stmt, pauses, Numbered}
+use Rattle.rules.specs.States.{compatible}
+use Rattle.block.specs.Table.{Has, statements}
+use Rattle.records.specs.StateRecord.{Pair}
+use Rattle.records.specs.Held.{set-of}
+use Rattle.records.specs.declared.clash.Clash.{Clash}
+use Rattle.records.specs.declared.clash.Clash.the-variants as clash
+
+-- The answer's pair: the lowest first pause, then the lowest second.
+unfoldable pub pair-of : Clash → Option Pair
+pair-of clash.None = none
+pair-of (clash.Pair m n) = some (record { first = m; second = n })
+
+-- The table has the whole tree, with pauses numbered from 0, and each active pause is one of the tree's.
+pub record Searchable (kinds sizes : List ℕ) (count : ℕ) (active : List ℕ) (t : Stmt) : Type 0 where
+  pub operands : List ℕ
+  pub has : Has (record { kinds = kinds; operands = operands; sizes = sizes }) 0 t
+  pub numbered : Numbered 0 t
+  pub counted : statements t ≡ count
+  pub few : count ≤ 512
+  pub in-block : (n : ℕ) → T (set-of active n) → n < length (pauses t)
+
+-- How many pauses stand before statement i.
+unfoldable pub before : List ℕ → ℕ → ℕ
+before kinds zero = 0
+before kinds (suc i) = cond (eqb (getD kinds i 0) 17) 1 0 + before kinds i
+
+pub record Filled (kinds : List ℕ) (count : ℕ) (firsts : List ℕ) : Type 0 where
+  pub first : (i : ℕ) → i < count → getD firsts i 0 ≡ before kinds i
+
+-- A pair to be tested: the first pause is active and the lower one, in some table with its counts.
+pub record Pairable (kinds sizes firsts active : List ℕ) (m n : ℕ) : Type 0 where
+  pub count : ℕ
+  pub tree : Stmt
+  pub searchable : Searchable kinds sizes count active tree
+  pub filled : Filled kinds count firsts
+  pub member : T (set-of active m)
+  pub lower : m < n
+  pub in-width : n < 128
+
+-- The kinds of statements with two parts: present, sequence, parallel.
+unfoldable pub two-parts : ℕ → Bool
+two-parts kind = eqb kind 19 || (eqb kind 21 || eqb kind 23)
+
+-- The statement p is at i and holds both pauses, the first the lower one.
+pub record Place (kinds sizes firsts : List ℕ) (m n i : ℕ) (p : Stmt) : Type 0 where
+  pub operands : List ℕ
+  pub count : ℕ
+  pub has : Has (record { kinds = kinds; operands = operands; sizes = sizes }) i p
+  pub numbered : Numbered (before kinds i) p
+  pub ends : i + statements p ≤ count
+  pub few : count ≤ 512
+  pub filled : Filled kinds count firsts
+  pub lower : m < n
+  pub low : before kinds i ≤ m
+  pub high : n < before kinds i + length (pauses p)
+
+-- From p at i the search stays, where p is the lowest above both, or goes to the part of p that holds both.
+unfoldable pub Goes : List ℕ → List ℕ → List ℕ → ℕ → ℕ → ℕ → ℕ → Stmt → Type 0
+Goes kinds sizes firsts m n i r p =
+    ((r ≡ i) × (eqb (getD kinds i 0) 23 ≡ compatible p m n))
+    ⊎ ((q : Stmt) × (i < r) × Place kinds sizes firsts m n r q × (compatible q m n ≡ compatible p m n))

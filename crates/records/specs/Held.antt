@@ -1,0 +1,28 @@
+-- How the words that the code passes stand for the states and sets of the rules. Assumes nothing.
+use mathlib.Core.List.{List, [], _∷_, _++_}
+use Prim.Native.Nat.{ℕ}
+use lib.ListN.{getD}
+use Rattle.sets.specs.Numbers.{Numbers}
+use Rattle.sets.specs.Words.{word, two-words}
+use Rattle.records.specs.Numerals.{in-bytes}
+use Rattle.records.specs.StateRecord.{Found, not-a-state, state, phase-of, active-of, upper}
+use Rattle.records.specs.declared.state.Held.{Held}
+
+-- The set of an array of two words, and the two words of a set.
+abbrev pub set-of : List ℕ → Numbers
+set-of ws = two-words 64 (getD ws 0 0) (getD ws 1 0)
+
+abbrev pub words-of : Numbers → List ℕ
+words-of A = word 64 A ∷ word 64 (upper A) ∷ []
+
+-- What is found in a state record, as the code holds it: the phase's number and the two words, and phase 3 for no state.
+unfoldable pub held-of : Found → Held
+unfolding word phase-of active-of
+held-of not-a-state = record { phase = 3; active = 0 ∷ 0 ∷ [] }
+held-of (state st) = record { phase = phase-of st; active = words-of (active-of st) }
+
+-- The bytes of a state record, from the phase's number and the two words.
+unfoldable pub state-bytes : ℕ → List ℕ → List ℕ
+unfolding in-bytes
+state-bytes phase ws =
+    in-bytes 2 22 ++ (in-bytes 2 2 ++ (in-bytes 2 phase ++ (in-bytes 8 (getD ws 0 0) ++ in-bytes 8 (getD ws 1 0))))

@@ -1,0 +1,52 @@
+// Bits of a word and of the two words of an active set.
+ghost use mathlib.Core.Path.{_≡_};
+ghost use mathlib.Core.Bool.{not};
+ghost use Prim.Native.Nat.{_/_, _<_, _^_};
+ghost use lib.Dec.{eqb};
+ghost use Rattle.sets.specs.Words.{two-words};
+ghost use Rattle.records.specs.Held.{set-of};
+ghost use Rattle.records.specs.StateRecord.{beyond, undeclared-input};
+
+// A bit is set from a place on; from 64 on there is none, and no shift by the width.
+pub(crate) fn bit_from(word: u64, from: u16) -> bool
+    ensures { λ r. ⌜ r ≡ not (eqb (word / 2 ^ from) 0) ⌝ }
+{
+    if from < 64 {
+        (word >> from) != 0
+    } else {
+        false
+    }
+}
+
+// INPUT: a bit set at or above the number of inputs.
+pub fn input_over(inputs: u16, given: u64) -> bool
+    ensures { λ r. ⌜ r ≡ undeclared-input inputs given ⌝ }
+{
+    bit_from(given, inputs)
+}
+
+// A bit of the 128 is set at or above the pause count.
+pub(crate) fn bit_beyond(pauses: u16, low: u64, high: u64) -> bool
+    ensures { λ r. ⌜ r ≡ beyond pauses (two-words 64 low high) ⌝ }
+{
+    if pauses < 64 {
+        if bit_from(low, pauses) {
+            return true;
+        }
+        high != 0
+    } else {
+        bit_from(high, pauses - 64)
+    }
+}
+
+// The pause is active.
+pub(crate) fn has(active: [u64; 2], n: u16) -> bool
+    requires { ⌜ n < 128 ⌝ }
+    ensures { λ r. ⌜ r ≡ set-of active n ⌝ }
+{
+    if n < 64 {
+        (active[0] >> n) % 2 == 1
+    } else {
+        (active[1] >> (n - 64)) % 2 == 1
+    }
+}

@@ -1,0 +1,37 @@
+-- How events compare, and what is given at them. Assumes nothing.
+use mathlib.Core.Path.{_≡_}
+use Prim.Native.Nat.{ℕ}
+use Rattle.sets.specs.Numbers.{Numbers, single}
+use Rattle.sets.proofs.Members.{Within}
+use Rattle.rules.specs.Events.{Status, present, absent, unknown, Event, known}
+use Rattle.rules.specs.MustCan.{Given}
+use Rattle.rules.specs.Coherence.{Execution}
+
+-- A known status is the same in the second.
+abbrev pub Below : Status → Status → Type 0
+Below present w = w ≡ present
+Below absent w = w ≡ absent
+Below unknown w = Unit {0}
+
+infix 4 _⊑_
+-- Every known status of the first event is the same in the second.
+pub record _⊑_ (E F : Event) : Type 0 where
+  pub at : (n : ℕ) → Below (E n) (F n)
+
+-- The event in which every status is known: present for the members.
+abbrev pub whole : Numbers → Event
+whole W n = known (W n)
+
+-- All that the first gives, the second gives.
+pub record Inside (a b : Given) : Type 0 where
+  pub of-signals : Within (a .signals) (b .signals)
+  pub of-codes : Within (a .codes) (b .codes)
+
+-- An execution as something given: the signals emitted and the one code.
+abbrev pub outcome : Execution → Given
+outcome r = record { signals = r .emitted; codes = single (r .completes) }
+
+-- An execution lies between what must be and what can be.
+pub record Between (least most : Given) (r : Execution) : Type 0 where
+  pub lower : Inside least (outcome r)
+  pub upper : Inside (outcome r) most

@@ -1,0 +1,203 @@
+//! Calls with all that is lent to them, and lines that give the complete answer and every lent byte after.
+
+use crate::block::Block;
+use crate::chance::Chance;
+use crate::edge_calls::edge_calls;
+use crate::edges::edge_blocks;
+use crate::fault::Fault;
+use crate::generate::{some_active, some_block, some_inputs, some_phase, Wish};
+use crate::mutate::some_mixed_block;
+use crate::reaction::Phase;
+use crate::state::{check, excerpt, fresh, instant, instant_with_log, state_record, Answer};
+
+#[derive(Clone, Debug)]
+pub enum Call {
+    Check,
+    Fresh { state: Vec<u8> },
+    Instant { state: Vec<u8>, inputs: u64 },
+    Logged { state: Vec<u8>, inputs: u64, log: Vec<u8>, end: u64 },
+    Excerpt { index: u64 },
+}
+
+#[derive(Clone, Debug)]
+pub struct Case {
+    pub block: Vec<u8>,
+    pub call: Call,
+}
+
+/// Two hex digits a byte; `-` for none.
+fn hex(bytes: &[u8]) -> String {
+    if bytes.is_empty() {
+        return "-".to_string();
+    }
+    bytes.iter().map(|byte| format!("{byte:02x}")).collect()
+}
+
+/// Number, place, pair, present, absent, undecided, code, rounds, active.
+fn fields(a: &Answer) -> String {
+    format!(
+        "{:x} {:x} {:x} {:x} {:x} {:x} {:x} {:x} {:x} {:x}",
+        a.number, a.place, a.first, a.second, a.present, a.absent, a.undecided, a.code, a.rounds, a.active
+    )
+}
+
+impl Case {
+    /// What is lent.
+    pub fn given(&self) -> String {
+        let block = hex(&self.block);
+        match &self.call {
+            Call::Check => format!("check {block}"),
+            Call::Fresh { state } => format!("fresh {block} {}", hex(state)),
+            Call::Instant { state, inputs } => format!("instant {block} {} {inputs:x}", hex(state)),
+            Call::Logged { state, inputs, log, end } => {
+                format!("logged {block} {} {inputs:x} {} {end:x}", hex(state), hex(log))
+            }
+            Call::Excerpt { index } => format!("excerpt {block} {index:x}"),
+        }
+    }
+
+    /// What comes back, with every lent byte that could be written.
+    pub fn answer(&self, fault: Fault) -> String {
+        match &self.call {
+            Call::Check => {
+                let a = check(&self.block, fault);
+                format!("{:x} {:x}", a.number, a.place)
+            }
+            Call::Fresh { state } => {
+                let mut state = state.clone();
+                let a = fresh(&self.block, &mut state, fault);
+                format!("{:x} {:x} {}", a.number, a.place, hex(&state))
+            }
+            Call::Instant { state, inputs } => {
+                let mut state = state.clone();
+                let a = instant(&self.block, &mut state, *inputs, fault);
+                format!("{} {}", fields(&a), hex(&state))
+            }
+            Call::Logged { state, inputs, log, end } => {
+                let (mut state, mut log) = (state.clone(), log.clone());
+                let a = instant_with_log(&self.block, &mut state, *inputs, &mut log, *end, fault);
+                format!("{} {:x} {} {}", fields(&a), a.end, hex(&state), hex(&log))
+            }
+            Call::Excerpt { index } => {
+                let (a, part) = excerpt(&self.block, *index, fault);
+                let whole = self.block.as_ptr() as usize;
+                let from = if part.is_empty() { 0 } else { part.as_ptr() as usize - whole };
+                format!("{:x} {:x} {from:x} {}", a.number, a.place, hex(part))
+            }
+        }
+    }
+
+    pub fn line(&self) -> String {
+        format!("{} = {}", self.given(), self.answer(Fault::None))
+    }
+}
+
+/// All edges first, then random cases.
+pub fn cases(count: usize, seed: u64) -> Vec<Case> {
+    let blocks = edge_blocks().into_iter().map(|edge| Case { block: edge.bytes, call: Call::Check });
+    let calls = edge_calls().into_iter().map(|edge| edge.0);
+    let mut chance = Chance::new(seed);
+    let random = (0..count).map(|_| some_case(&mut chance));
+    blocks.chain(calls).chain(random).take(count).collect()
+}
+
+/// A random call on a good, a changed or an edge block.
+pub fn some_case(chance: &mut Chance) -> Case {
+    let (mut bytes, block) = match chance.weighed(&[50, 45, 5]) {
+        0 => some_mixed_block(chance, 1, 20),
+        1 => {
+            let wish = Wish::some(chance, 5, 60);
+            some_block(chance, wish)
+        }
+        _ => {
+            let wish = Wish { inputs: chance.below(20) as u16, outputs: 20, ..Wish::some(chance, 60, 480) };
+            some_block(chance, wish)
+        }
+    };
+    let call = some_call(&block, chance);
+    if chance.percent(12) {
+        spoil(&mut bytes, chance);
+    }
+    Case { block: bytes, call }
+}
+
+fn some_call(block: &Block, chance: &mut Chance) -> Call {
+    match chance.weighed(&[2, 1, 12, 4, 2]) {
+        0 => Call::Check,
+        1 => Call::Fresh { state: some_bytes(chance.pick(&[22, 22, 22, 21, 23, 0]), chance) },
+        2 => Call::Instant { state: some_state(block, chance), inputs: maybe_bad_inputs(block, chance) },
+        3 => {
+            let size = chance.pick(&[0, 24, 24, 24, 24]) + chance.below(60);
+            let last = (size as u64).saturating_sub(24);
+            let free = chance.below(size + 1) as u64;
+            let whole = size as u64;
+            let near = [last, last, last, last / 2, last / 3, 0, last + 1, free, whole, whole + 1, u64::MAX];
+            let end = chance.pick(&near);
+            let (state, inputs) = (some_state(block, chance), maybe_bad_inputs(block, chance));
+            Call::Logged { state, inputs, log: some_bytes(size, chance), end }
+        }
+        _ => Call::Excerpt { index: chance.below(block.statements + 2) as u64 },
+    }
+}
+
+fn some_bytes(count: usize, chance: &mut Chance) -> Vec<u8> {
+    (0..count).map(|_| chance.number() as u8).collect()
+}
+
+/// Legal inputs, but now and then with a bit too many.
+fn maybe_bad_inputs(block: &Block, chance: &mut Chance) -> u64 {
+    let good = some_inputs(block, chance);
+    match (block.header.inputs, chance.below(32)) {
+        (count, 0) if count < 64 => good | 1 << count,
+        (_, 1) => good | 1 << 63,
+        _ => good,
+    }
+}
+
+/// A state record: mostly legal, else clashing or spoilt.
+fn some_state(block: &Block, chance: &mut Chance) -> Vec<u8> {
+    let mut state = state_record(some_phase(block, chance));
+    match chance.below(40) {
+        0 | 1 => {
+            let some = (chance.number() as u128) << 64 | chance.number() as u128;
+            state = state_record(Phase::Running(some & block.root.pauses));
+        }
+        2 => state[chance.below(6)] ^= 1 << chance.below(8),
+        3 => state[6 + chance.below(16)] ^= 1 << chance.below(8),
+        4 => state.truncate(chance.below(22)),
+        5 => state.push(0),
+        6 => state[4] = chance.below(4) as u8,
+        7 => {
+            let active = some_active(&block.root, chance) | 1u128.checked_shl(block.pauses as u32).unwrap_or(0);
+            state = state_record(Phase::Running(active));
+        }
+        _ => {}
+    }
+    state
+}
+
+/// Bytes flipped, cut, appended, a word set to something near, or pauses turned to nothing.
+fn spoil(bytes: &mut Vec<u8>, chance: &mut Chance) {
+    let at = chance.below(bytes.len());
+    match chance.below(7) {
+        0 => bytes[at] ^= 1 << chance.below(8),
+        1 => bytes.truncate(at),
+        2 => bytes.extend(some_bytes(1 + chance.below(7), chance)),
+        3 => bytes[at & !1] = chance.below(28) as u8,
+        4 => bytes[at & !1] = bytes[at & !1].wrapping_add(1),
+        5 => (14..bytes.len()).filter(|at| at % 2 == 0).for_each(|at| {
+            if bytes[at..].starts_with(&[4, 0, 17, 0]) {
+                bytes[at + 2] = 16;
+            }
+        }),
+        _ => {
+            let again = bytes[at & !1..].to_vec();
+            bytes.extend(again);
+        }
+    }
+}
+
+/// Prints the lines of the cases.
+pub fn print_cases(count: usize, seed: u64) {
+    cases(count, seed).iter().for_each(|case| println!("{}", case.line()));
+}

@@ -1,0 +1,102 @@
+//! The refusals 9 to 14 at their boundaries, with answers worked out by hand.
+
+use crate::cases::{Call, Case};
+use crate::edges::{block_of, set, with_more};
+use crate::reaction::Phase;
+use crate::state::state_record;
+
+/// A call and the first words of its answer, in hex: number, place and, for a CLASH, the pair.
+pub type EdgeCall = (Case, &'static str);
+
+/// Calls with 9 to 14 at their boundaries, and their order.
+pub fn edge_calls() -> Vec<EdgeCall> {
+    // Pauses 0 and 1 are compatible with each other, 2 with neither.
+    let block = block_of(1, 1, "(seq (par pause pause) (seq pause (emit 1)))");
+    let stuck = block_of(1, 1, "(seq pause (present 1 (emit 1) nothing))");
+    let mut calls = state_calls(&block);
+    calls.extend(log_calls(&block, &stuck));
+    let parts = [(0, "0 0 e"), (1, "0 0 12"), (3, "0 0 1a"), (6, "0 0 26"), (7, "e 0 0 -"), (u64::MAX, "e 0 0 -")];
+    for (index, wanted) in parts {
+        calls.push((Case { block: block.clone(), call: Call::Excerpt { index } }, wanted));
+    }
+    calls.push((Case { block: block[..20].to_vec(), call: Call::Excerpt { index: 99 } }, "1 12 0 -"));
+    for (size, wanted) in [(22, "0 0"), (0, "9 0"), (21, "9 0"), (23, "9 0"), (44, "9 0")] {
+        calls.push((Case { block: block.clone(), call: Call::Fresh { state: vec![0xA5; size] } }, wanted));
+    }
+    calls.push((Case { block: block[..20].to_vec(), call: Call::Fresh { state: Vec::new() } }, "1 12"));
+    calls
+}
+
+/// State records with inputs: what each gets on a block of three pauses and one input.
+fn states() -> Vec<(Vec<u8>, u64, &'static str)> {
+    let running = |active: u128| state_record(Phase::Running(active));
+    let fresh = state_record(Phase::Fresh);
+    let finished = set(&fresh, 4, 2);
+    let mut states = vec![
+        (fresh.clone(), 0, "0 0"),
+        (fresh.clone(), 1, "0 0"),
+        (fresh.clone(), 2, "b 0"),
+        (fresh.clone(), 1 << 63, "b 0"),
+        (finished.clone(), 0, "0 0"),
+        (running(1), 0, "0 0"),
+        (running(2), 1, "0 0"),
+        (running(3), 0, "0 0"),
+        (running(4), 0, "0 0"),
+        (running(5), 0, "a 0 0 2"),
+        (running(6), 0, "a 0 1 2"),
+        (running(7), 0, "a 0 0 2"),
+        (running(6), 2, "a 0 1 2"),
+        (running(8), 2, "9 0"),
+    ];
+    // Sizes, lengths, kinds, phases and bits that are each one off.
+    let mut bad = vec![Vec::new(), fresh[..21].to_vec(), with_more(&fresh, &[0])];
+    let words = [(0, 21), (0, 23), (2, 1), (2, 3), (4, 1), (4, 3), (4, 256), (6, 1)];
+    bad.extend(words.iter().map(|&(at, word)| set(&fresh, at, word)));
+    bad.push(set(&finished, 6, 1));
+    bad.extend([8, 12, 13, 1 << 64, 1 << 127].iter().map(|&active| running(active)));
+    states.extend(bad.into_iter().map(|state| (state, 0, "9 0")));
+    states
+}
+
+/// STATE, CLASH and INPUT.
+fn state_calls(block: &[u8]) -> Vec<EdgeCall> {
+    let running = |active: u128| state_record(Phase::Running(active));
+    let mut calls: Vec<EdgeCall> = Vec::new();
+    for (state, inputs, wanted) in states() {
+        calls.push((Case { block: block.to_vec(), call: Call::Instant { state, inputs } }, wanted));
+    }
+    // The lowest first pause decides before the lowest second: 0 with 3, not 1 with 2.
+    let pair = block_of(0, 0, "(seq (par pause (seq pause pause)) pause)");
+    calls.push((Case { block: pair, call: Call::Instant { state: running(15), inputs: 0 } }, "a 0 0 3"));
+    let branches = block_of(1, 0, "(present 0 pause pause)");
+    calls.push((Case { block: branches, call: Call::Instant { state: running(3), inputs: 0 } }, "a 0 0 1"));
+    calls
+}
+
+/// ROOM at both its ends, NOT CONSTRUCTIVE with a log, and the order of the tests.
+fn log_calls(block: &[u8], stuck: &[u8]) -> Vec<EdgeCall> {
+    let fresh = state_record(Phase::Fresh);
+    let logged = |block: &[u8], state: &[u8], inputs: u64, size: usize, end: u64| Case {
+        block: block.to_vec(),
+        call: Call::Logged { state: state.to_vec(), inputs, log: vec![0x5A; size], end },
+    };
+    let mut calls = Vec::new();
+    for (size, end) in [(24, 0), (25, 0), (25, 1), (48, 24), (60, 17)] {
+        calls.push((logged(block, &fresh, 1, size, end), "0 0"));
+    }
+    for (size, end) in [
+        (23, 0), (25, 2), (48, 25), (48, 48), (48, 49), (0, 0), (0, 1),
+        (48, 1 << 32), (48, u64::MAX - 23), (48, u64::MAX),
+    ] {
+        calls.push((logged(block, &fresh, 1, size, end), "c 0"));
+    }
+    let going = state_record(Phase::Running(1));
+    calls.push((logged(block, &fresh, 2, 23, 0), "b 0"));
+    calls.push((logged(block, &state_record(Phase::Running(5)), 2, 23, 0), "a 0 0 2"));
+    calls.push((logged(block, &fresh[..21], 2, 23, 0), "9 0"));
+    calls.push((logged(stuck, &going, 0, 30, 3), "d 0 0 0 0 0 1 0 1 0 0"));
+    calls.push((logged(stuck, &going, 0, 26, 3), "c 0 0 0 0 0 0 0 0 0 0"));
+    calls.push((logged(stuck, &fresh, 1, 30, 3), "0 0 0 0 0 0 0 1 2 1 1b"));
+    calls.push((logged(&block[..20], &fresh[..21], 2, 0, 9), "1 12"));
+    calls
+}

@@ -1,0 +1,66 @@
+//! Everything that can fail, in under a minute.
+
+use crate::bite::print_bites;
+use crate::block::{decode, encode};
+use crate::chance::Chance;
+use crate::edge_calls::edge_calls;
+use crate::edges::edge_blocks;
+use crate::fault::Fault;
+use crate::generate::{some_inputs, some_phase};
+use crate::mutate::some_mixed_block;
+use crate::sweep::{sweep, Counts};
+use crate::worked::print_worked;
+
+/// Worked cases, edges, coherence over all small and some random blocks, and the faults.
+pub fn selftest() -> bool {
+    let worked = print_worked();
+    let edges = print_edges();
+    let coherent = sweep(5).print();
+    let random = random_coherence(20_000, 1).print();
+    let bites = print_bites(20_000, 1, false);
+    worked && edges && coherent && random && bites
+}
+
+/// Compares every edge with the number and place worked out by hand.
+pub fn print_edges() -> bool {
+    let mut failures = Vec::new();
+    let (blocks, calls) = (edge_blocks(), edge_calls());
+    for edge in &blocks {
+        let got = decode(&edge.bytes, Fault::None).map_or_else(|r| (r.number, r.place), |_| (0, 0));
+        if got != (edge.number, edge.place) {
+            failures.push(format!("{}: {got:?}, not {:?}", edge.name, (edge.number, edge.place)));
+        }
+    }
+    for (case, wanted) in &calls {
+        let answer = case.answer(Fault::None);
+        if !(answer + " ").starts_with(&format!("{wanted} ")) {
+            failures.push(format!("{} does not begin with {wanted}", case.line()));
+        }
+    }
+    failures.iter().for_each(|failure| println!("failed edge: {failure}"));
+    println!("{} edges, {} failed", blocks.len() + calls.len(), failures.len());
+    failures.is_empty()
+}
+
+/// The coherence law on random blocks, larger than all small ones and with more locals.
+pub fn random_coherence(count: usize, seed: u64) -> Counts {
+    let mut chance = Chance::new(seed);
+    let mut counts = Counts::default();
+    while counts.instants < count {
+        let (bytes, block) = some_mixed_block(&mut chance, 4, 16);
+        assert_eq!(encode(block.header, &block.root), bytes, "what is read is written back");
+        counts.shapes += 1;
+        counts.blocks += 1;
+        for _ in 0..4 {
+            let phase = some_phase(&block, &mut chance);
+            let given = some_inputs(&block, &mut chance);
+            counts.instant(&block, phase, given);
+        }
+    }
+    counts
+}
+
+#[test]
+fn all_of_it() {
+    assert!(selftest());
+}

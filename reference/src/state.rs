@@ -1,0 +1,282 @@
+//! The state record, the log record and the calls with all they give back; a refused call changes no byte.
+
+use crate::block::{decode, Block, Form, Refusal, Statement};
+use crate::fault::Fault;
+use crate::reaction::{active_of, Phase, Reaction};
+use crate::rules::Rules;
+use crate::values::signal_bits;
+
+pub const STATE: u16 = 9;
+pub const CLASH: u16 = 10;
+pub const INPUT: u16 = 11;
+pub const ROOM: u16 = 12;
+pub const NOT_CONSTRUCTIVE: u16 = 13;
+pub const INDEX: u16 = 14;
+
+pub const STATE_SIZE: usize = 22;
+pub const LOG_SIZE: usize = 24;
+
+/// What a call gives back; number 0 is an answer, and every field not named is 0.
+#[derive(Clone, Copy, PartialEq, Eq, Debug, Default)]
+pub struct Answer {
+    pub number: u16,
+    pub place: usize,
+    pub first: usize,
+    pub second: usize,
+    pub present: u64,
+    pub absent: u64,
+    pub undecided: u32,
+    pub code: u32,
+    pub rounds: u32,
+    pub active: u32,
+    pub end: u64,
+}
+
+impl Answer {
+    fn refused(number: u16) -> Answer {
+        Answer { number, ..Answer::default() }
+    }
+
+    fn of_block(refusal: Refusal) -> Answer {
+        Answer { place: refusal.place, ..Answer::refused(refusal.number) }
+    }
+}
+
+/// The 22 bytes of a state.
+pub fn state_record(phase: Phase) -> Vec<u8> {
+    let number: u16 = match phase {
+        Phase::Fresh => 0,
+        Phase::Running(_) => 1,
+        Phase::Finished => 2,
+    };
+    let mut bytes = Vec::with_capacity(STATE_SIZE);
+    [STATE_SIZE as u16, 2, number].iter().for_each(|word| bytes.extend(word.to_le_bytes()));
+    bytes.extend(active_of(phase).to_le_bytes());
+    bytes
+}
+
+/// Tests a block.
+pub fn check(block: &[u8], fault: Fault) -> Answer {
+    decode(block, fault).map_or_else(Answer::of_block, |_| Answer::default())
+}
+
+/// Writes a fresh state; after 1 to 8, a size other than 22 gets 9.
+pub fn fresh(block: &[u8], state: &mut [u8], fault: Fault) -> Answer {
+    let answer = check(block, fault);
+    let larger = state.len() > STATE_SIZE && fault == Fault::FreshOfAnySize;
+    if answer.number != 0 {
+        return answer;
+    }
+    if state.len() != STATE_SIZE && !larger {
+        return Answer::refused(STATE);
+    }
+    state[..STATE_SIZE].copy_from_slice(&state_record(Phase::Fresh));
+    answer
+}
+
+/// The part of the lent block that holds a statement and all below it.
+pub fn excerpt(block: &[u8], number: u64, fault: Fault) -> (Answer, &[u8]) {
+    let read = match decode(block, fault) {
+        Ok(read) => read,
+        Err(refusal) => return (Answer::of_block(refusal), &[]),
+    };
+    if number == read.statements as u64 && fault == Fault::IndexAtCount {
+        return (Answer::default(), &[]);
+    }
+    if number >= read.statements as u64 {
+        return (Answer::refused(INDEX), &[]);
+    }
+    let found = read.root.find(number as usize).expect("each number below the count is in the tree");
+    let end = match fault {
+        Fault::ExcerptOneRecord => found.offset + found.form.length(),
+        Fault::ExcerptByTail => block.len(),
+        _ => found.end,
+    };
+    (Answer::default(), &block[found.offset..end])
+}
+
+/// One instant over the lent state.
+pub fn instant(block: &[u8], state: &mut [u8], inputs: u64, fault: Fault) -> Answer {
+    match prepare(block, state, inputs, None, fault) {
+        Err(answer) => answer,
+        Ok((block, phase)) => {
+            let reaction = Rules { fault }.react(&block, phase, inputs);
+            settle(state, reaction, fault)
+        }
+    }
+}
+
+/// One instant that also writes its record into the log from its present end on.
+pub fn instant_with_log(
+    block: &[u8], state: &mut [u8], inputs: u64, log: &mut [u8], end: u64, fault: Fault,
+) -> Answer {
+    let (block, phase) = match prepare(block, state, inputs, Some((log.len(), end)), fault) {
+        Err(answer) => return answer,
+        Ok(both) => both,
+    };
+    let reaction = Rules { fault }.react(&block, phase, inputs);
+    let answer = settle(state, reaction, fault);
+    if answer.number != 0 && fault != Fault::LogWrittenOnRefusal {
+        return answer;
+    }
+    let shift = if fault == Fault::OutputsFromZero { block.header.inputs.min(63) } else { 0 };
+    let given = if fault == Fault::LogWithoutInputs { 0 } else { inputs };
+    let record = log_record(given, reaction.present >> shift, reaction);
+    let at = if fault == Fault::RecordAtFront { 0 } else { log.len().min(end as usize) };
+    let room = LOG_SIZE.min(log.len() - at);
+    log[at..at + room].copy_from_slice(&record[..room]);
+    let moved = answer.number == 0 && fault != Fault::EndNotMoved;
+    Answer { end: if moved { end.wrapping_add(LOG_SIZE as u64) } else { 0 }, ..answer }
+}
+
+/// The 24 bytes of a log record.
+fn log_record(inputs: u64, present: u64, reaction: Reaction) -> Vec<u8> {
+    let mut bytes = Vec::with_capacity(LOG_SIZE);
+    [LOG_SIZE as u16, 3].iter().for_each(|word| bytes.extend(word.to_le_bytes()));
+    bytes.extend(inputs.to_le_bytes());
+    bytes.extend(present.to_le_bytes());
+    bytes.extend((reaction.code.unwrap_or(0) as u16).to_le_bytes());
+    bytes.extend((reaction.rounds as u16).to_le_bytes());
+    bytes
+}
+
+/// Gives the answer of a reaction and writes the next state over the lent one.
+fn settle(state: &mut [u8], reaction: Reaction, fault: Fault) -> Answer {
+    let answer = Answer { present: reaction.present, rounds: reaction.rounds, ..Answer::default() };
+    if reaction.code.is_none() {
+        if fault == Fault::StateWrittenOnRefusal {
+            state.copy_from_slice(&state_record(Phase::Finished));
+        }
+        let undecided = if fault == Fault::UndecidedNotGiven { 0 } else { reaction.undecided };
+        return Answer { number: NOT_CONSTRUCTIVE, absent: reaction.absent, undecided, ..answer };
+    }
+    state[..STATE_SIZE].copy_from_slice(&state_record(reaction.next));
+    let active = active_of(reaction.next).count_ones();
+    Answer {
+        code: reaction.code.unwrap_or(0),
+        active: if fault == Fault::ActiveNotGiven { 0 } else { active },
+        absent: if fault == Fault::AbsentGiven { reaction.absent } else { 0 },
+        ..answer
+    }
+}
+
+/// The block and the state of an instant, tested in order: 1 to 8, then 9, 10, 11 and, with a log, 12.
+fn prepare(
+    block: &[u8], state: &[u8], inputs: u64, log: Option<(usize, u64)>, fault: Fault,
+) -> Result<(Block, Phase), Answer> {
+    let block = decode(block, fault).map_err(Answer::of_block)?;
+    let input_bad = inputs & !signal_bits(0, input_count(&block, fault)) != 0;
+    let room_bad = log.map_or(false, |(size, end)| no_room(size, end, fault));
+    let phase = read_state(state, &block, fault);
+    let clash = first_clash(state, &block, fault);
+    if fault == Fault::ClashBeforeState && clash.is_some() {
+        return Err(clash_answer(clash));
+    }
+    let phase = phase.ok_or_else(|| Answer::refused(STATE))?;
+    if fault == Fault::InputBeforeClash && input_bad {
+        return Err(Answer::refused(INPUT));
+    }
+    if clash.is_some() {
+        return Err(clash_answer(clash));
+    }
+    if fault == Fault::RoomBeforeInput && room_bad {
+        return Err(Answer::refused(ROOM));
+    }
+    if input_bad {
+        return Err(Answer::refused(INPUT));
+    }
+    if room_bad {
+        return Err(Answer::refused(ROOM));
+    }
+    Ok((block, phase))
+}
+
+fn clash_answer(clash: Option<(usize, usize)>) -> Answer {
+    let (first, second) = clash.unwrap_or((0, 0));
+    Answer { first, second, ..Answer::refused(CLASH) }
+}
+
+fn input_count(block: &Block, fault: Fault) -> u16 {
+    block.header.inputs + (fault == Fault::InputBitAtCount) as u16
+}
+
+/// ROOM: the end beyond the log, or fewer than 24 bytes after it.
+fn no_room(size: usize, end: u64, fault: Fault) -> bool {
+    let needed = match fault {
+        Fault::RoomOneLess => LOG_SIZE - 1,
+        Fault::RoomOneMore => LOG_SIZE + 1,
+        _ => LOG_SIZE,
+    };
+    match (size as u64).checked_sub(end) {
+        Some(left) => left < needed as u64,
+        None => fault != Fault::EndUnread,
+    }
+}
+
+fn word(bytes: &[u8], at: usize) -> u16 {
+    u16::from_le_bytes([bytes[at], bytes[at + 1]])
+}
+
+fn bits(state: &[u8]) -> u128 {
+    let mut sixteen = [0; 16];
+    sixteen.copy_from_slice(&state[6..STATE_SIZE]);
+    u128::from_le_bytes(sixteen)
+}
+
+/// STATE: anything but 22 bytes of a good phase with the bits it may have.
+fn read_state(state: &[u8], block: &Block, fault: Fault) -> Option<Phase> {
+    let size_good = state.len() == STATE_SIZE || fault == Fault::StateOfAnySize && state.len() > STATE_SIZE;
+    if !size_good {
+        return None;
+    }
+    let length_good = word(state, 0) == STATE_SIZE as u16 || fault == Fault::StateLengthUnread;
+    let kind_good = word(state, 2) == 2 || fault == Fault::StateKindUnread;
+    let allowed = block.pauses + (fault == Fault::PauseBitAtCount) as usize;
+    let active = bits(state);
+    let bits_good = (allowed..128).all(|pause| active >> pause & 1 == 0);
+    if !length_good || !kind_good || !bits_good {
+        return None;
+    }
+    match word(state, 4) {
+        0 if active == 0 || fault == Fault::BitsWhileFresh => Some(Phase::Fresh),
+        1 if active != 0 => Some(Phase::Running(active)),
+        1 if fault == Fault::RunningWithoutPauses => Some(Phase::Finished),
+        2 if active == 0 || fault == Fault::BitsWhileFinished => Some(Phase::Finished),
+        3 if fault == Fault::PhaseThreeAllowed => Some(Phase::Finished),
+        _ => None,
+    }
+}
+
+/// The first pair of active pauses that are not compatible: lowest first pause, then lowest second.
+fn first_clash(state: &[u8], block: &Block, fault: Fault) -> Option<(usize, usize)> {
+    if state.len() < STATE_SIZE {
+        return None;
+    }
+    let active = bits(state);
+    let on: Vec<usize> = (0..block.pauses.min(128)).filter(|&pause| active >> pause & 1 == 1).collect();
+    let mut pairs = Vec::new();
+    for (n, &first) in on.iter().enumerate() {
+        for &second in &on[n + 1..] {
+            if !compatible(&block.root, first, second, fault) {
+                pairs.push((first, second));
+            }
+        }
+    }
+    if fault == Fault::ClashBySecond {
+        pairs.sort_by_key(|&(first, second)| (second, first));
+    }
+    pairs.first().copied()
+}
+
+/// Two pauses are compatible when the lowest statement above both is a parallel.
+fn compatible(p: &Statement, first: usize, second: usize, fault: Fault) -> bool {
+    let both = 1u128 << first | 1u128 << second;
+    match p.parts.iter().find(|part| part.pauses & both == both) {
+        Some(part) => compatible(part, first, second, fault),
+        None => match fault {
+            Fault::EveryPairCompatible => true,
+            Fault::BranchesCompatible => p.form == Form::Parallel || p.form == Form::Present,
+            _ => p.form == Form::Parallel,
+        },
+    }
+}
