@@ -1,1 +1,4 @@
 pub mod Examples
+pub mod Shapes
+pub mod Tests
+pub mod Scopes
