@@ -2,3 +2,8 @@ pub mod Examples
 pub mod Shapes
 pub mod Tests
 pub mod Scopes
+pub mod Views
+pub mod Passes
+pub mod Parse
+pub mod Built
+pub mod Trees

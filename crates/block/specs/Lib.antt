@@ -1,3 +1,4 @@
 pub mod Table
 pub mod Format
 pub mod Told
+pub mod Good
