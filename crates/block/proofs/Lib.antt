@@ -7,3 +7,5 @@ pub mod Passes
 pub mod Parse
 pub mod Built
 pub mod Trees
+pub mod Tables
+pub mod Ways

@@ -54,14 +54,14 @@ module _ (b : List ℕ) (h : Header) where
 -- A good reading as a relation: the statement of a record that passes, with its children's readings.
 pub data Parsed (b : List ℕ) (h : Header) : ℕ → Around → Sofar → Stmt → Sofar → Type 0 where
   at-leaf : {room : ℕ} {a : Around} {r : Sofar} → statement-fault (suc room) b h a r ≡ 0 → Leaf (kind-at b (r .place))
-    → Parsed b h (suc room) a r (leaf (kind-at b (r .place)) (operand-at b (r .place)) (r .pauses)) (past (kind-at b (r .place)) r)
+      → Parsed b h (suc room) a r (leaf (kind-at b (r .place)) (operand-at b (r .place)) (r .pauses)) (past (kind-at b (r .place)) r)
   at-above : {room : ℕ} {a : Around} {r : Sofar} {p : Stmt} {r₁ : Sofar} → statement-fault (suc room) b h a r ≡ 0 → Above (kind-at b (r .place))
-    → Parsed b h room (inside (kind-at b (r .place)) (operand-at b (r .place)) a) (past (kind-at b (r .place)) r) p r₁
-    → Parsed b h (suc room) a r (above (kind-at b (r .place)) (operand-at b (r .place)) p) r₁
+      → Parsed b h room (inside (kind-at b (r .place)) (operand-at b (r .place)) a) (past (kind-at b (r .place)) r) p r₁
+      → Parsed b h (suc room) a r (above (kind-at b (r .place)) (operand-at b (r .place)) p) r₁
   at-joined : {room : ℕ} {a : Around} {r : Sofar} {p q : Stmt} {r₁ r₂ : Sofar} → statement-fault (suc room) b h a r ≡ 0 → Joined (kind-at b (r .place))
-    → Parsed b h room (inside (kind-at b (r .place)) (operand-at b (r .place)) a) (past (kind-at b (r .place)) r) p r₁
-    → Parsed b h room (inside (kind-at b (r .place)) (operand-at b (r .place)) a) r₁ q r₂
-    → Parsed b h (suc room) a r (joined (kind-at b (r .place)) (operand-at b (r .place)) p q) r₂
+      → Parsed b h room (inside (kind-at b (r .place)) (operand-at b (r .place)) a) (past (kind-at b (r .place)) r) p r₁
+      → Parsed b h room (inside (kind-at b (r .place)) (operand-at b (r .place)) a) r₁ q r₂
+      → Parsed b h (suc room) a r (joined (kind-at b (r .place)) (operand-at b (r .place)) p q) r₂
 
 not-got : {P : Type 0} {n at : ℕ} {p : Stmt} {r : Sofar} → refused n at ≡ got p r → P
 not-got e = let z : _≡_ {A = ℕ} 0 1 = cc in absurd (omega arith)
@@ -88,10 +88,12 @@ parsed b h (suc room) a r p r₁ e =
   where
     k : ℕ
     k = kind-at b (r .place)
+
     x : ℕ
     x = operand-at b (r .place)
+
     by-kind : ((r′ : Sofar) (p′ : Stmt) (r″ : Sofar) → read room b h (inside k x a) r′ ≡ got p′ r″ → Parsed b h room (inside k x a) r′ p′ r″)
-      → statement-fault (suc room) b h a r ≡ 0 → Kind k → Parsed b h (suc room) a r p r₁
+        → statement-fault (suc room) b h a r ≡ 0 → Kind k → Parsed b h (suc room) a r p r₁
     by-kind child good (leafs v) =
         same-got (Parsed b h (suc room) a r) (sym (read-leaf b h room a r good (leaf-children v)) ∙ e) (at-leaf good v)
     by-kind child good (aboves v) =
@@ -101,3 +103,10 @@ parsed b h (suc room) a r p r₁ e =
         let t = then-got _ _ (sym (read-joined b h room a r good (joined-children v)) ∙ e) in
         let u = then-got _ _ (t .3) in
         same-got (Parsed b h (suc room) a r) (u .3) (at-joined good v (child _ _ _ (t .2)) (child _ _ _ (u .2)))
+
+-- A record at fault, whatever room there is.
+pub read-stop : (b : List ℕ) (h : Header) (room : ℕ) (a : Around) (r : Sofar) → (statement-fault room b h a r ≡ 0 → ⊥)
+    → read room b h a r ≡ refused (statement-fault room b h a r) (r .place)
+unfolding read
+read-stop b h zero a r n = refl
+read-stop b h (suc room) a r n = read-fault b h room a r n

@@ -128,14 +128,14 @@ signals h a r k x e =
     let e₂ = or-right c₁ (c₂ || c₃) e in
     record {
       emitting = λ i.
-        let both = and-both (leb (h .inputs) x) here (and-then-not (eqb k 18) n₁ (or-left c₁ (c₂ || c₃) e) (eq-eqb k 18 i)) in
-        (leb-true (h .inputs) x (both .0), of-true (both .1));
+          let both = and-both (leb (h .inputs) x) here (and-then-not (eqb k 18) n₁ (or-left c₁ (c₂ || c₃) e) (eq-eqb k 18 i)) in
+          (leb-true (h .inputs) x (both .0), of-true (both .1));
       testing = λ i.
-        of-true (not-false here (and-then-not (eqb k 19 || eqb k 20) (not here) (or-left c₂ c₃ e₂)
-        (either-true (eqb k 19) (eqb k 20) (⊎-elim (λ j. inl (eq-eqb k 19 j)) (λ j. inr (eq-eqb k 20 j)) i))));
+          of-true (not-false here (and-then-not (eqb k 19 || eqb k 20) (not here) (or-left c₂ c₃ e₂)
+          (either-true (eqb k 19) (eqb k 20) (⊎-elim (λ j. inl (eq-eqb k 19 j)) (λ j. inr (eq-eqb k 20 j)) i))));
       declaring = λ i.
-        let both = and-both (ltb (r .locals) (h .locals)) (eqb x (h .inputs + h .outputs + r .locals)) (and-then-not (eqb k 26) (not next) (or-right c₂ c₃ e₂) (eq-eqb k 26 i)) in
-        (ltb-true _ _ (both .0), eqb-true _ _ (both .1));
+          let both = and-both (ltb (r .locals) (h .locals)) (eqb x (h .inputs + h .outputs + r .locals)) (and-then-not (eqb k 26) (not next) (or-right c₂ c₃ e₂) (eq-eqb k 26 i)) in
+          (ltb-true _ _ (both .0), eqb-true _ _ (both .1));
     }
 
 exit-below : (a : Around) (k x : ℕ) → wrong-exit a k x ≡ false → k ≡ 25 → x < a .traps

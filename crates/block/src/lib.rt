@@ -1,6 +1,7 @@
 // The reading of a block: its records, its table and the check of its loops.
 mod faults;
 mod kinds;
+mod reader;
 mod records;
 mod steps;
 
