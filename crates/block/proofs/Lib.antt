@@ -9,3 +9,5 @@ pub mod Built
 pub mod Trees
 pub mod Tables
 pub mod Ways
+pub mod CodeLaws
+pub mod Places

@@ -2,3 +2,4 @@ pub mod Table
 pub mod Format
 pub mod Told
 pub mod Good
+pub mod Codes

@@ -1,7 +1,8 @@
 // The reading of a block: its records, its table and the check of its loops.
+pub mod codes;
 mod faults;
-mod kinds;
-mod reader;
+pub mod kinds;
+pub mod reader;
 mod records;
 mod steps;
 
