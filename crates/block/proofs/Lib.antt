@@ -11,3 +11,4 @@ pub mod Tables
 pub mod Ways
 pub mod CodeLaws
 pub mod Places
+pub mod LoopWalk

@@ -11,7 +11,7 @@ use native.Mathlib.Omega.{arith}
 use lib.Dec.{eqb}
 use lib.ListN.{length, getD, length-append, List·getD-append}
 use lib.Seq.{getD-append-add}
-use Rattle.sets.specs.Numbers.{Numbers}
+use Rattle.sets.specs.Numbers.{Numbers, union, without, only-if, maxima, downs}
 use Rattle.sets.specs.Words.{bits}
 use Rattle.rules.specs.Statements.{depth, code, Stmt, nothing, pause, emit, present?_then_else_, suspend_on_, _⨾_, loop, _parallel_, trap, exit, local}
 use Rattle.rules.specs.Loops.{codes-of}
@@ -107,8 +107,8 @@ module _ {tab : Table} where
         has = subst (Has tab (base + (d + i))) (sym e) (subst (λ (j : ℕ). Has tab j (numbered p i)) (add-assoc base d i) (a .has));
         small = subst Small (sym e) (a .small);
         below = λ m l.
-          let l₁ : m < statements (numbered p i) = subst (λ (q : Stmt). m < statements q) e l in
-          ap (λ (j : ℕ). numbered t j) (add-assoc d i m) ∙ same (i + m) (omega (arith, a .within)) ∙ a .below m l₁ ∙ ap (λ (q : Stmt). numbered q m) (sym e);
+            let l₁ : m < statements (numbered p i) = subst (λ (q : Stmt). m < statements q) e l in
+            ap (λ (j : ℕ). numbered t j) (add-assoc d i m) ∙ same (i + m) (omega (arith, a .within)) ∙ a .below m l₁ ∙ ap (λ (q : Stmt). numbered q m) (sym e);
       }
 
   -- A statement with one child, and with two.
@@ -164,3 +164,82 @@ module _ {tab : Table} where
   at-number base (trap p) h s = at-one (trap p) p refl refl h s (at-number (base + 1) p (h .1) s)
   at-number base (exit d) h s = at-leaf (exit d) refl h s
   at-number base (local n p) h s = at-one (local n p) p refl refl h s (at-number (base + 1) p (h .1) (s .1))
+
+-- Words by statement number give each statement the codes of its children, which stand directly after it.
+abbrev pub Below : (ℕ → ℕ) → ℕ → Stmt → Type 0
+Below word i p = (m : ℕ) → 0 < m → m < statements p → bits (word (i + m)) ≡ codes-of (numbered p m)
+
+module _ (tab : Table) (i : ℕ) (word : ℕ → ℕ) where
+  fed-one : (t p : Stmt) → preorder t ≡ t ∷ preorder p → statements t ≡ 1 + statements p → Below word i t → bits (word (i + 1)) ≡ codes-of p
+  fed-one t p e n w =
+      w 1 (omega arith) (omega (arith, n, some-statement p)) ∙ ap codes-of (ap (λ (ps : List Stmt). getD ps 1 nothing) e ∙ first-is p)
+
+  fed-two : (t p q : Stmt) → preorder t ≡ t ∷ preorder p ++ preorder q → statements t ≡ 1 + statements p + statements q → Has tab (i + 1) p → Below word i t
+      → (bits (word (i + 1)) ≡ codes-of p) × (bits (word (i + 1 + getD (tab .sizes) (i + 1) 0)) ≡ codes-of q)
+  fed-two t p q e n h w = (
+    w 1 (omega arith) (omega (arith, n, some-statement p))
+        ∙ ap codes-of (ap (λ (ps : List Stmt). getD ps 1 nothing) e ∙ List·getD-append (preorder p) (preorder q) nothing 0 (omega (arith, all-counted p, some-statement p)) ∙ first-is p),
+    ap (λ (j : ℕ). bits (word j)) (ap (λ (j : ℕ). i + 1 + j) (has-row p h .its-size) ∙ add-assoc i 1 (statements p))
+        ∙ w (1 + statements p) (omega arith) (omega (arith, n, some-statement q))
+        ∙ ap codes-of (ap (λ (j : ℕ). numbered t j) (one-add (statements p)) ∙ ap (λ (ps : List Stmt). getD ps (suc (statements p)) nothing) e
+        ∙ ap (λ (j : ℕ). getD (preorder p ++ preorder q) j nothing) (sym (all-counted p) ∙ sym (add-zero (length (preorder p)))) ∙ getD-append-add (preorder p) (preorder q) 0 nothing ∙ first-is q),
+  )
+
+  pub fed : (p : Stmt) → Has tab i p → Below word i p → Fed p (word (i + 1)) (word (i + 1 + getD (tab .sizes) (i + 1) 0))
+  unfolding Fed Has preorder statements
+  fed nothing h w = tt
+  fed (pause n) h w = tt
+  fed (emit s) h w = tt
+  fed (present? s then p else q) h w = fed-two (present? s then p else q) p q refl refl (h .1) w
+  fed (suspend p on s) h w = fed-one (suspend p on s) p refl refl w
+  fed (p ⨾ q) h w = fed-two (p ⨾ q) p q refl refl (h .1) w
+  fed (loop p) h w = fed-one (loop p) p refl refl w
+  fed (p parallel q) h w = fed-two (p parallel q) p q refl refl (h .1) w
+  fed (trap p) h w = fed-one (trap p) p refl refl w
+  fed (exit d) h w = tt
+  fed (local s p) h w = fed-one (local s p) p refl refl w
+
+-- The rule of each kind gives the statement's codes.
+pub codes-right : (p : Stmt) (v w : ℕ) → Fed p v w → codes-for (kind-of p) (operand-of p) (bits v) (bits w) ≡ codes-of p
+unfolding codes-for Fed codes-of kind-of operand-of code
+codes-right nothing v w f = refl
+codes-right (pause n) v w f = refl
+codes-right (emit s) v w f = refl
+codes-right (present? s then p else q) v w f = λ i. union (f .0 i) (f .1 i)
+codes-right (suspend p on s) v w f = f
+codes-right (p ⨾ q) v w f = λ i. union (without 0 (f .0 i)) (only-if (f .0 i 0) (f .1 i))
+codes-right (loop p) v w f = λ i. without 0 (f i)
+codes-right (p parallel q) v w f = λ i. maxima (f .0 i) (f .1 i)
+codes-right (trap p) v w f = λ i. downs (f i)
+codes-right (exit (depth d)) v w f = refl
+codes-right (local s p) v w f = f
+
+-- A loop is endless where 0 is among its body's codes.
+pub endless-right : (p : Stmt) (v w : ℕ) → Fed p v w → (eqb (kind-of p) 22 && bits v 0) ≡ endless p
+unfolding endless Fed kind-of
+endless-right nothing v w f = refl
+endless-right (pause n) v w f = refl
+endless-right (emit s) v w f = refl
+endless-right (present? s then p else q) v w f = refl
+endless-right (suspend p on s) v w f = refl
+endless-right (p ⨾ q) v w f = refl
+endless-right (loop p) v w f = ap (λ (c : Numbers). c 0) f
+endless-right (p parallel q) v w f = refl
+endless-right (trap p) v w f = refl
+endless-right (exit d) v w f = refl
+endless-right (local s p) v w f = refl
+
+-- An exit's operand is a small depth.
+pub exit-small : (p : Stmt) → Small p → kind-of p ≡ 25 → operand-of p < 16
+unfolding Small kind-of operand-of
+exit-small nothing s e = absurd (omega arith)
+exit-small (pause n) s e = absurd (omega arith)
+exit-small (emit n) s e = absurd (omega arith)
+exit-small (present? n then p else q) s e = absurd (omega arith)
+exit-small (suspend p on n) s e = absurd (omega arith)
+exit-small (p ⨾ q) s e = absurd (omega arith)
+exit-small (loop p) s e = absurd (omega arith)
+exit-small (p parallel q) s e = absurd (omega arith)
+exit-small (trap p) s e = absurd (omega arith)
+exit-small (exit (depth d)) s e = s
+exit-small (local n p) s e = absurd (omega arith)

@@ -8,6 +8,7 @@ use Rattle.sets.specs.Numbers.{Numbers, single, union, without, only-if, some-t
 use Rattle.sets.specs.Words.{bits}
 use Rattle.rules.specs.Statements.{depth, code, Stmt, nothing, pause, emit, present?_then_else_, suspend_on_, _⨾_, loop, _parallel_, trap, exit, local}
 use Rattle.rules.specs.Loops.{codes-of}
+use Rattle.block.specs.Table.{Table, Has, Small, statements}
 
 -- The codes of a statement of kind k and operand x whose children have the codes P and Q.
 unfoldable pub codes-for : ℕ → ℕ → Numbers → Numbers → Numbers
@@ -46,3 +47,9 @@ some-below a (suc n) = some-to a n
 abbrev pub number-or : ℕ → Option ℕ → ℕ
 number-or n none = n
 number-or n (some k) = k
+
+-- The table has the small tree t, and nothing else, in its first rows.
+pub record Tabled (tab : Table) (count : ℕ) (t : Stmt) : Type 0 where
+  pub has : Has tab 0 t
+  pub small : Small t
+  pub counted : statements t ≡ count
