@@ -12,3 +12,4 @@ pub mod Ways
 pub mod CodeLaws
 pub mod Places
 pub mod LoopWalk
+pub mod Whole

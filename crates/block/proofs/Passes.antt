@@ -26,7 +26,7 @@ pub record Passes (room end : ℕ) (h : Header) (a : Around) (r : Sofar) (k x : 
   pub declaring : k ≡ 26 → (r .locals < h .locals) × (x ≡ h .inputs + h .outputs + r .locals)
   pub exiting : k ≡ 25 → x < a .traps
 
-none-of : (t : Bool) (n m : ℕ) → cond t (suc n) m ≡ 0 → (t ≡ false) × (m ≡ 0)
+pub none-of : (t : Bool) (n m : ℕ) → cond t (suc n) m ≡ 0 → (t ≡ false) × (m ≡ 0)
 none-of true n m e = absurd (omega arith)
 none-of false n m e = (refl, e)
 

@@ -268,10 +268,7 @@ begun = record { place = 14; statements = 0; pauses = 0; locals = 0 }
 -- The size test, before all else; the header; the statements, at most 64 on a path from the root; the end.
 unfoldable pub reading : List ℕ → Reading
 reading b =
-    elim (ltb 3086 (length b)) [
-      | true ↦ turned-down LIMIT 0
-      | false ↦ elim (eqb (header-fault b) 0) [
-        | true ↦ ended b (header b) (read 64 b (header b) outermost begun)
-        | false ↦ turned-down (header-fault b) 0
-      ]
-    ]
+    let statements-read = ended b (header b) (read 64 b (header b) outermost begun) in
+    cond (ltb 3086 (length b)) (turned-down LIMIT 0)
+    (cond (eqb (header-fault b) 0) statements-read
+    (turned-down (header-fault b) 0))
