@@ -12,4 +12,6 @@ pub mod Ways
 pub mod CodeLaws
 pub mod Places
 pub mod LoopWalk
-pub mod Whole
+pub mod GoodReadings
+pub mod Offsets
+pub mod Ends

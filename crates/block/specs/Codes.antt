@@ -2,13 +2,16 @@
 use mathlib.Core.Path.{_≡_}
 use mathlib.Core.Bool.{Bool, true, false, cond, _&&_, _||_}
 use mathlib.Core.Option.{Option, none, some}
-use Prim.Native.Nat.{ℕ, zero, suc}
+use mathlib.Core.List.{List}
+use Prim.Native.Nat.{ℕ, zero, suc, _<_}
+use lib.ListN.{getD}
 use lib.Dec.{eqb}
 use Rattle.sets.specs.Numbers.{Numbers, single, union, without, only-if, some-to, maxima, downs}
 use Rattle.sets.specs.Words.{bits}
 use Rattle.rules.specs.Statements.{depth, code, Stmt, nothing, pause, emit, present?_then_else_, suspend_on_, _⨾_, loop, _parallel_, trap, exit, local}
 use Rattle.rules.specs.Loops.{codes-of}
-use Rattle.block.specs.Table.{Table, Has, Small, statements}
+use Rattle.block.specs.Table.{Table, Has, Small, kind-of, statements}
+use Rattle.block.specs.Format.{numbered}
 
 -- The codes of a statement of kind k and operand x whose children have the codes P and Q.
 unfoldable pub codes-for : ℕ → ℕ → Numbers → Numbers → Numbers
@@ -53,3 +56,7 @@ pub record Tabled (tab : Table) (count : ℕ) (t : Stmt) : Type 0 where
   pub has : Has tab 0 t
   pub small : Small t
   pub counted : statements t ≡ count
+
+-- The table's kinds are those of the tree's statements.
+unfoldable pub Listed : List ℕ → Stmt → Type 0
+Listed ks t = (i : ℕ) → i < statements t → getD ks i 0 ≡ kind-of (numbered t i)

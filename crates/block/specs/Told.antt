@@ -7,10 +7,13 @@ use lib.Dec.{T, eqb}
 use lib.ListN.{getD, length}
 use Rattle.sets.specs.Words.{bits}
 use Rattle.block.specs.Table.{Table, Has}
-use Rattle.block.specs.Format.{Header, Sofar, Around, Got, got, refused, length-of}
+use Rattle.block.specs.Format.{Header, Sofar, Around, Got, got, refused, Good, Reading, good, turned-down, length-of}
 use Rattle.block.specs.declared.Declared.{Declared}
 use Rattle.block.specs.declared.Cursor.{Cursor}
 use Rattle.block.specs.declared.Context.{Context}
+use Rattle.block.specs.declared.whole.Summary.{Summary}
+use Rattle.block.specs.declared.whole.Answer.{Answer}
+use Rattle.block.specs.declared.whole.Answer.the-variants.{Good as GoodBlock, Refused as RefusedBlock}
 use Rattle.block.specs.declared.reader.Read.{Read}
 use Rattle.block.specs.declared.reader.Read.the-variants.{Got as GotTo, Refused}
 
@@ -73,3 +76,29 @@ pub record Reads (g : Got) (i : ℕ) (before after : Table) (answer : Read) : Ty
   pub built : Built g i after
   pub kept : (j : ℕ) → j < i → Same before after j
   pub full : Full after
+
+-- What the code says of a good reading, and its answer to the reading of a whole block.
+abbrev pub summary-of : Good → Summary
+summary-of g = record {
+  version = g .header .version;
+  inputs = g .header .inputs;
+  outputs = g .header .outputs;
+  locals = g .header .locals;
+  statements = g .statements;
+  pauses = g .pauses;
+}
+
+unfoldable pub answer-to : Reading → Answer
+answer-to (good g) = GoodBlock (summary-of g)
+answer-to (turned-down n at) = RefusedBlock n at
+
+-- The tree of a good reading stands in the table, from its first row on.
+unfoldable pub Stands : Reading → Table → Type 0
+Stands (good g) tab = Has tab 0 (g .body)
+Stands (turned-down n at) tab = Unit {0}
+
+-- A whole block is read: the answer, and on a good reading the table.
+pub record ReadWhole (x : Reading) (tab : Table) (answer : Answer) : Type 0 where
+  pub answered : answer ≡ answer-to x
+  pub stands : Stands x tab
+  pub full : Full tab

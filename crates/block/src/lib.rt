@@ -6,6 +6,7 @@ mod loops;
 pub mod reader;
 mod records;
 mod steps;
+pub mod whole;
 
 // What the header declares.
 pub struct Declared {
