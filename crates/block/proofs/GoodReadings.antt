@@ -8,17 +8,17 @@ use Prim.Native.Nat.{ℕ, zero, suc, _+_, _≤_, _<_}
 use native.Mathlib.Nat.{zero-add, pos-of-ne-zero}
 use native.Mathlib.Decide.{decLt}
 use native.Mathlib.Omega.{arith}
-use lib.Dec.{T, eqb, ltb}
+use lib.Dec.{T, eqb, ltb, leb, lit≤}
 use lib.ListN.{length, getD, List·getD-append, List·getD-eq-default}
 use lib.Seq.{getD-append-add}
-use borrow.Author.Tests.{eqb-true, ltb-false}
+use borrow.Author.Tests.{eqb-true, ltb-false, eq-eqb, ne-eqb}
 use Rattle.sets.specs.Numbers.{empty}
 use Rattle.sets.proofs.Members.{is-false}
 use Rattle.sets.proofs.Counts.{lowest-none}
 use Rattle.rules.specs.Statements.{Stmt, nothing, pause, emit, present?_then_else_, suspend_on_, _⨾_, loop, _parallel_, trap, exit, local, pauses, Numbered, Trapped}
 use Rattle.rules.specs.Loops.{codes-of, loops-pass}
 use Rattle.block.specs.Table.{statements, Small}
-use Rattle.block.specs.Format.{LIMIT, Header, Around, Sofar, Got, got, refused, and-then, Good, Reading, good, turned-down, reading, header, header-fault, is-broken, two-bytes, kind-at, length-at, operand-at, statement-fault, past, inside, read, ended, loops-checked, preorder, numbered, bytes, endless, lowest-endless, outermost, begun, leaf, above, joined}
+use Rattle.block.specs.Format.{LIMIT, length-of, over-limit, wrong-signal, wrong-exit, Header, Around, Sofar, Got, got, refused, and-then, Good, Reading, good, turned-down, reading, header, header-fault, is-broken, two-bytes, kind-at, length-at, operand-at, statement-fault, past, inside, read, ended, loops-checked, preorder, numbered, bytes, endless, lowest-endless, outermost, begun, leaf, above, joined}
 use Rattle.block.specs.Good.{Scoped}
 use Rattle.block.proofs.Views.{is?, Kind, leafs, aboves, joins, leaf-children, above-children, joined-children}
 use Rattle.block.proofs.Passes.{passes, none-of}
@@ -182,3 +182,98 @@ sound b g e =
       scoped = subst (λ (h : Header). Scoped (h .inputs) (h .outputs) empty (g .body)) (sym eh) (t .scoped);
       whole = sym (t .ends-at);
     }
+
+-- A refusal's number is one of document 01's 1 to 8.
+abbrev pub In-range : ℕ → Type 0
+In-range n = (1 ≤ n) × (n ≤ 8)
+
+chosen-small : (t : Bool) (m n : ℕ) → m ≤ 8 → n ≤ 8 → cond t m n ≤ 8
+chosen-small true m n h g = h
+chosen-small false m n h g = g
+
+fault-small : (room : ℕ) (b : List ℕ) (h : Header) (a : Around) (r : Sofar) → statement-fault room b h a r ≤ 8
+unfolding statement-fault
+fault-small room b h a r =
+    let k = kind-at b (r .place) in
+    let x = operand-at b (r .place) in
+    chosen-small (leb (length b) (r .place)) 7 _ (lit≤ tt)
+    (chosen-small (is-broken b (r .place)) 1 _ (lit≤ tt)
+    (chosen-small (not (eqb (length-of k) (length-at b (r .place)))) 2 _ (lit≤ tt)
+    (chosen-small (over-limit room a r k) 4 _ (lit≤ tt)
+    (chosen-small (wrong-signal h a r k x) 5 _ (lit≤ tt)
+    (chosen-small (wrong-exit a k x) 6 0 (lit≤ tt) (lit≤ tt))))))
+
+header-fault-small : (b : List ℕ) → header-fault b ≤ 8
+unfolding header-fault
+header-fault-small b =
+    chosen-small (is-broken b 0) 1 _ (lit≤ tt)
+    (chosen-small (not (eqb (kind-at b 0) 1 && eqb (length-at b 0) 14)) 2 _ (lit≤ tt)
+    (chosen-small (not (eqb (two-bytes b 4) 1)) 3 _ (lit≤ tt)
+    (chosen-small (ltb 64 (header b .inputs + header b .outputs + header b .locals)) 4 0 (lit≤ tt) (lit≤ tt))))
+
+in-range : (n : ℕ) → (n ≡ 0 → ⊥) → n ≤ 8 → In-range n
+in-range n z l = (pos-of-ne-zero z, l)
+
+same-number : {m n at place : ℕ} → refused m at ≡ refused n place → In-range m → In-range n
+same-number {m} {n} e r = let q : m ≡ n = cc in subst In-range q r
+
+then-range : (x : Got) (f : Stmt → Sofar → Got) {n at : ℕ} → and-then x f ≡ refused n at → ((m place : ℕ) → x ≡ refused m place → In-range m)
+    → ((p : Stmt) (r : Sofar) → f p r ≡ refused n at → In-range n) → In-range n
+then-range (got p r) f e first rest = rest p r e
+then-range (refused m place) f e first rest = same-number e (first m place refl)
+
+not-refused : {P : Type 0} {n at : ℕ} {p : Stmt} {r : Sofar} → got p r ≡ refused n at → P
+not-refused e = let z : _≡_ {A = ℕ} 0 1 = cc in absurd (omega arith)
+
+refused-range : (b : List ℕ) (h : Header) (room : ℕ) (a : Around) (r : Sofar) (n at : ℕ) → read room b h a r ≡ refused n at → In-range n
+unfolding read
+refused-range b h zero a r n at e =
+    same-number e (in-range (statement-fault zero b h a r) (λ z. passes zero b h a r z .roomy refl) (fault-small zero b h a r))
+refused-range b h (suc room) a r n at e =
+    ⊎-elim (λ passed. by-kind (refused-range b h room (inside k x a)) passed (passes (suc room) b h a r passed .its-kind))
+    (λ z. same-number (sym (read-fault b h room a r z) ∙ e) (in-range _ z (fault-small (suc room) b h a r))) (is? (statement-fault (suc room) b h a r) 0)
+  where
+    k : ℕ
+    k = kind-at b (r .place)
+
+    x : ℕ
+    x = operand-at b (r .place)
+
+    by-kind : ((r′ : Sofar) (m place : ℕ) → read room b h (inside k x a) r′ ≡ refused m place → In-range m)
+      → statement-fault (suc room) b h a r ≡ 0 → Kind k → In-range n
+    by-kind child passed (leafs v) = not-refused (sym (read-leaf b h room a r passed (leaf-children v)) ∙ e)
+    by-kind child passed (aboves v) =
+        then-range (read room b h (inside k x a) (past k r)) _ (sym (read-above b h room a r passed (above-children v)) ∙ e) (child (past k r)) (λ p r₁. not-refused)
+    by-kind child passed (joins v) =
+        then-range (read room b h (inside k x a) (past k r)) _ (sym (read-joined b h room a r passed (joined-children v)) ∙ e) (child (past k r))
+        (λ p r₁ f. then-range (read room b h (inside k x a) r₁) _ f (child r₁) (λ q r₂. not-refused))
+
+good-not : {P : Type 0} {g : Good} {n at : ℕ} → good g ≡ turned-down n at → P
+good-not e = let z : _≡_ {A = ℕ} 0 1 = cc in absurd (omega arith)
+
+same-turned : {m n at place : ℕ} → turned-down m at ≡ turned-down n place → In-range m → In-range n
+same-turned {m} {n} e r = let q : m ≡ n = cc in subst In-range q r
+
+checked-range : (g : Good) (o : Option ℕ) {n at : ℕ} → loops-checked g o ≡ turned-down n at → In-range n
+unfolding loops-checked
+checked-range g none e = good-not e
+checked-range g (some k) e = same-turned e (lit≤ tt, lit≤ tt)
+
+ended-range : (b : List ℕ) (h : Header) (x : Got) {n at : ℕ} → ended b h x ≡ turned-down n at → ((m place : ℕ) → x ≡ refused m place → In-range m) → In-range n
+unfolding ended
+ended-range b h (refused m place) e f = same-turned e (f m place refl)
+ended-range b h (got p r) {n} {at} e f = go (eqb (r .place) (length b) && eqb (r .locals) (h .locals)) e
+  where
+    go : (z : Bool) → cond z (loops-checked (record { header = h; body = p; statements = r .statements; pauses = r .pauses }) (lowest-endless p)) (turned-down 7 (r .place)) ≡ turned-down n at → In-range n
+    go true q = checked-range _ (lowest-endless p) q
+    go false q = same-turned q (lit≤ tt, lit≤ tt)
+
+pub numbers : (b : List ℕ) (n at : ℕ) → reading b ≡ turned-down n at → In-range n
+numbers b n at e = go (ltb 3086 (length b)) (is? (header-fault b) 0) (sym (reading-is b) ∙ e)
+  where
+    go : (z : Bool) → (header-fault b ≡ 0) ⊎ (header-fault b ≡ 0 → ⊥)
+      → cond z (turned-down LIMIT 0) (cond (eqb (header-fault b) 0) (statements-read b) (turned-down (header-fault b) 0)) ≡ turned-down n at → In-range n
+    go true d q = same-turned q (lit≤ tt, lit≤ tt)
+    go false (inl d) q =
+        ended-range b (header b) (read 64 b (header b) outermost begun) (simp (eq-eqb (header-fault b) 0 d) at q) (refused-range b (header b) 64 outermost begun)
+    go false (inr d) q = same-turned (simp (ne-eqb (header-fault b) 0 d) at q) (in-range _ d (header-fault-small b))
