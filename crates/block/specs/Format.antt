@@ -175,23 +175,21 @@ abbrev pub and-then : Got → (Stmt → Sofar → Got) → Got
 and-then (got p r) f = f p r
 and-then (refused n at) f = refused n at
 
--- The statements follow in preorder, a statement directly followed by its children.
+-- A statement directly followed by its children, which `child` reads one after the other.
+abbrev pub with-children : ℕ → (Sofar → Got) → ℕ → ℕ → ℕ → Sofar → Got
+with-children zero child k x before r = got (leaf k x before) r
+with-children (suc zero) child k x before r = and-then (child r) λ p r₁. got (above k x p) r₁
+with-children (suc (suc more)) child k x before r = and-then (child r) λ p r₁. and-then (child r₁) λ q r₂. got (joined k x p q) r₂
+
+-- The statements follow in preorder: a record at fault, or its statement.
 unfoldable pub read : ℕ → List ℕ → Header → Around → Sofar → Got
 read zero b h a r = refused (statement-fault zero b h a r) (r .place)
 read (suc room) b h a r =
+    let n = statement-fault (suc room) b h a r in
     let k = kind-at b (r .place) in
     let x = operand-at b (r .place) in
-    elim (eqb (statement-fault (suc room) b h a r) 0) [
-      | false ↦ refused (statement-fault (suc room) b h a r) (r .place)
-      | true ↦ elim (children-of k) [
-        | zero ↦ got (leaf k x (r .pauses)) (past k r)
-        | suc more ↦ elim (eqb more 0) [
-          | true ↦ and-then (read room b h (inside k x a) (past k r)) λ p r₁. got (above k x p) r₁
-          | false ↦ and-then (read room b h (inside k x a) (past k r)) λ p r₁.
-              and-then (read room b h (inside k x a) r₁) λ q r₂. got (joined k x p q) r₂
-        ]
-      ]
-    ]
+    let whole = with-children (children-of k) (read room b h (inside k x a)) k x (r .pauses) (past k r) in
+    cond (eqb n 0) whole (refused n (r .place))
 
 -- The statements of a tree in preorder: the statement number n with all below it.
 unfoldable pub preorder : Stmt → List Stmt
@@ -256,10 +254,9 @@ loops-checked g (some n) = turned-down LOOP (offset (g .body) n)
 unfoldable pub ended : List ℕ → Header → Got → Reading
 ended b h (refused n at) = turned-down n at
 ended b h (got p r) =
-    elim (eqb (r .place) (length b) && eqb (r .locals) (h .locals)) [
-      | true ↦ loops-checked (record { header = h; body = p; statements = r .statements; pauses = r .pauses }) (lowest-endless p)
-      | false ↦ turned-down SHAPE (r .place)
-    ]
+    cond (eqb (r .place) (length b) && eqb (r .locals) (h .locals))
+    (loops-checked (record { header = h; body = p; statements = r .statements; pauses = r .pauses }) (lowest-endless p))
+    (turned-down SHAPE (r .place))
 
 -- Nothing stands around the first statement, which comes after the header.
 abbrev pub outermost : Around
@@ -271,10 +268,7 @@ begun = record { place = 14; statements = 0; pauses = 0; locals = 0 }
 -- The size test, before all else; the header; the statements, at most 64 on a path from the root; the end.
 unfoldable pub reading : List ℕ → Reading
 reading b =
-    elim (ltb 3086 (length b)) [
-      | true ↦ turned-down LIMIT 0
-      | false ↦ elim (eqb (header-fault b) 0) [
-        | true ↦ ended b (header b) (read 64 b (header b) outermost begun)
-        | false ↦ turned-down (header-fault b) 0
-      ]
-    ]
+    let statements-read = ended b (header b) (read 64 b (header b) outermost begun) in
+    cond (ltb 3086 (length b)) (turned-down LIMIT 0)
+    (cond (eqb (header-fault b) 0) statements-read
+    (turned-down (header-fault b) 0))
