@@ -1,0 +1,4 @@
+pub mod Members
+pub mod Maxima
+pub mod Counts
+pub mod Words
