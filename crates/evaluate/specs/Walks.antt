@@ -1,0 +1,49 @@
+-- What the walks over the table give. Assumes nothing.
+use mathlib.Core.Path.{_≡_}
+use mathlib.Core.Bool.{Bool}
+use mathlib.Core.List.{List}
+use Prim.Native.Nat.{ℕ}
+use Rattle.sets.specs.Numbers.{Numbers}
+use Rattle.rules.specs.Events.{Event}
+use Rattle.rules.specs.Instant.{Step}
+use Rattle.rules.specs.MustCan.{plus, opened, must, can, nothing-known, either, caught, both, followed, hidden, gives}
+use Rattle.block.specs.Table.{Table}
+use Rattle.evaluate.specs.declared.words.Heard.{Heard}
+use Rattle.evaluate.specs.declared.words.Told.{Told}
+use Rattle.evaluate.specs.declared.words.MustCan.{MustCan}
+use Rattle.evaluate.specs.declared.form.Part.{Part}
+use Rattle.evaluate.specs.Words.{event-of, given-of}
+use Rattle.evaluate.specs.Forms.{Live, Does}
+
+-- Each rule, for must and for can.
+pub record Doubted (r : MustCan) (p q : Told) : Type 0 where
+  pub in-must : given-of (r .must) ≡ nothing-known
+  pub in-can : given-of (r .can) ≡ either (given-of p) (given-of q)
+
+pub record Caught (r a : MustCan) : Type 0 where
+  pub in-must : given-of (r .must) ≡ caught (given-of (a .must))
+  pub in-can : given-of (r .can) ≡ caught (given-of (a .can))
+
+pub record Beside (r a b : MustCan) : Type 0 where
+  pub in-must : given-of (r .must) ≡ both (given-of (a .must)) (given-of (b .must))
+  pub in-can : given-of (r .can) ≡ both (given-of (a .can)) (given-of (b .can))
+
+pub record Followed (r a : MustCan) (m c : Told) : Type 0 where
+  pub in-must : given-of (r .must) ≡ followed (given-of (a .must)) (given-of m)
+  pub in-can : given-of (r .can) ≡ followed (given-of (a .can)) (given-of c)
+
+pub record Hidden (r : MustCan) (s : ℕ) (a : MustCan) : Type 0 where
+  pub in-must : given-of (r .must) ≡ hidden s (given-of (a .must))
+  pub in-can : given-of (r .can) ≡ hidden s (given-of (a .can))
+
+-- Must and can under plus, of a step at an event.
+pub record Tells (r : MustCan) (p : Step) (E : Event) : Type 0 where
+  pub in-must : given-of (r .must) ≡ gives must p E
+  pub in-can : given-of (r .can) ≡ gives (can plus) p E
+
+-- A walk's answer, for whatever the part has to do.
+pub record Walked (tab : Table) (live : List Bool) (c : Part) (e : Heard) (r : MustCan) : Type 0 where
+  pub tells : (A : Numbers) → Live tab A live → (p : Step) → Does tab A c p → Tells r p (event-of e)
+
+pub record Opened (tab : Table) (live : List Bool) (c : Part) (e : Heard) (r : Told) : Type 0 where
+  pub tells : (A : Numbers) → Live tab A live → (p : Step) → Does tab A c p → given-of r ≡ gives (can opened) p (event-of e)
