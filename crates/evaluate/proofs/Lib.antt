@@ -1,3 +1,4 @@
 pub mod WordLaws
 pub mod PauseLaws
 pub mod FormLaws
+pub mod Steps

@@ -4,9 +4,8 @@ use mathlib.Core.Bool.{Bool}
 use mathlib.Core.List.{List}
 use Prim.Native.Nat.{ℕ}
 use Rattle.sets.specs.Numbers.{Numbers}
-use Rattle.rules.specs.Events.{Event}
 use Rattle.rules.specs.Instant.{Step}
-use Rattle.rules.specs.MustCan.{plus, opened, must, can, nothing-known, either, caught, both, followed, hidden, gives}
+use Rattle.rules.specs.MustCan.{plus, must, can, Question, nothing-known, either, caught, both, followed, hidden, gives}
 use Rattle.block.specs.Table.{Table}
 use Rattle.evaluate.specs.declared.words.Heard.{Heard}
 use Rattle.evaluate.specs.declared.words.Told.{Told}
@@ -36,14 +35,11 @@ pub record Hidden (r : MustCan) (s : ℕ) (a : MustCan) : Type 0 where
   pub in-must : given-of (r .must) ≡ hidden s (given-of (a .must))
   pub in-can : given-of (r .can) ≡ hidden s (given-of (a .can))
 
--- Must and can under plus, of a step at an event.
-pub record Tells (r : MustCan) (p : Step) (E : Event) : Type 0 where
-  pub in-must : given-of (r .must) ≡ gives must p E
-  pub in-can : given-of (r .can) ≡ gives (can plus) p E
+-- The words are what the question gives, for whatever the part has to do.
+pub record Gives (k : Question) (tab : Table) (live : List Bool) (c : Part) (e : Heard) (x : Told) : Type 0 where
+  pub at : (A : Numbers) → Live tab A live → (p : Step) → Does tab A c p → given-of x ≡ gives k p (event-of e)
 
--- A walk's answer, for whatever the part has to do.
+-- Must and can under plus.
 pub record Walked (tab : Table) (live : List Bool) (c : Part) (e : Heard) (r : MustCan) : Type 0 where
-  pub tells : (A : Numbers) → Live tab A live → (p : Step) → Does tab A c p → Tells r p (event-of e)
-
-pub record Opened (tab : Table) (live : List Bool) (c : Part) (e : Heard) (r : Told) : Type 0 where
-  pub tells : (A : Numbers) → Live tab A live → (p : Step) → Does tab A c p → given-of r ≡ gives (can opened) p (event-of e)
+  pub in-must : Gives must tab live c e (r .must)
+  pub in-can : Gives (can plus) tab live c e (r .can)

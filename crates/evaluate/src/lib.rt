@@ -1,4 +1,5 @@
 // One instant of a block over its table: must and can, the rounds, the next state ("Must and can in one instant").
 pub mod form;
 pub mod pauses;
+pub mod walk;
 pub mod words;
