@@ -8,15 +8,15 @@ use lib.Dec.{eqb}
 use lib.ListN.{getD}
 use Rattle.sets.specs.Numbers.{Numbers}
 use Rattle.rules.specs.Statements.{depth, Stmt, nothing, pause, emit, present?_then_else_, suspend_on_, _⨾_, loop, _parallel_, trap, exit, local}
-use Rattle.rules.specs.Instant.{Step, done, active, started, resumed}
+use Rattle.rules.specs.Instant.{Step, done, stay, chain, active, held, started, resumed}
 use Rattle.block.specs.Table.{Table, kind-of, operand-of, statements, Row, Has, Small}
 use Rattle.evaluate.specs.declared.words.Depth.{Depth}
 use Rattle.evaluate.specs.declared.form.Going.{Going}
-use Rattle.evaluate.specs.declared.form.Going.the-variants.{Started, Resumed, Idle}
+use Rattle.evaluate.specs.declared.form.Going.the-variants.{Started, Resumed, Held, Idle}
 use Rattle.evaluate.specs.declared.form.Part.{Part}
 use Rattle.evaluate.specs.declared.form.Form.{Form}
-use Rattle.evaluate.specs.declared.form.Form.the-variants.{Done, Stay, Say, Leave, Test, Suspended, Catch, Scope, Chain, Beside, Same}
-use Rattle.evaluate.specs.Forms.{At, Placed, Live, step-of, Does, One, Two, Suspends, Shows, Under, Below, Formed}
+use Rattle.evaluate.specs.declared.form.Form.the-variants.{Done, Stay, Keep, Say, Leave, Test, Catch, Scope, Chain, Beside, Same}
+use Rattle.evaluate.specs.Forms.{At, Placed, Live, step-of, Does, One, Two, Shows, Under, Below, Formed}
 
 -- A statement's own row.
 pub row : {tab : Table} {i : ℕ} (t : Stmt) → Has tab i t → Row tab i t
@@ -69,6 +69,7 @@ in-table {i = i} h = omega (arith, h .there .room, statements-pos (h .tree))
 pub record Kid (tab : Table) (i j : ℕ) (t : Stmt) : Type 0 where
   pub there : At tab j t
   pub smaller : getD (tab .sizes) j 0 < getD (tab .sizes) i 0
+  pub after : i < j
 
 pub kid-under : {tab : Table} {i j : ℕ} {t : Stmt} (g : Going) → Kid tab i j t → Under tab i (record { at = j; going = g })
 kid-under {t = t} g k = record { placed = record { tree = t; there = k .there }; smaller = k .smaller }
@@ -84,6 +85,7 @@ first-kid : {tab : Table} {i : ℕ} (m : ℕ) (p : Stmt) → getD (tab .sizes) i
 first-kid {tab} {i} m p e l h k s = record {
   there = record { has = k; small = s; room = omega arith };
   smaller = omega (arith, row p k .its-size);
+  after = omega arith;
 }
 
 second-kid : {tab : Table} {i n : ℕ} (m : ℕ) (p q : Stmt) → Second tab i n → getD (tab .sizes) i 0 ≡ m → m ≡ 1 + statements p + statements q → i + m ≤ 512
@@ -92,6 +94,7 @@ second-kid {tab} {i} {n} m p q f e l h k g s =
     subst (λ (j : ℕ). Kid tab i j q) (sym place) (record {
       there = record { has = g; small = s; room = omega arith };
       smaller = omega (arith, row q g .its-size);
+      after = omega arith;
     })
   where
     place : n ≡ i + 1 + statements p
@@ -195,7 +198,7 @@ arm-part b j = record { at = j; going = cond b Resumed Idle }
 abbrev pub resumed-form : ℕ → ℕ → ℕ → ℕ → Bool → Bool → Form
 resumed-form k o i n lp lq =
     cond (eqb k 19) (Same (cond lp (record { at = i + 1; going = Resumed }) (record { at = n; going = Resumed })))
-    (cond (eqb k 20) (Suspended o (record { at = i + 1; going = Resumed }))
+    (cond (eqb k 20) (Test o (record { at = i + 1; going = Held }) (record { at = i + 1; going = Resumed }))
     (cond (eqb k 21) (cond lp (Chain (record { at = i + 1; going = Resumed }) (record { at = n; going = Started })) (Same (record { at = n; going = Resumed })))
     (cond (eqb k 22) (Chain (record { at = i + 1; going = Resumed }) (record { at = i + 1; going = Started }))
     (cond (eqb k 23) (Beside (arm-part lp (i + 1)) (arm-part lq n))
@@ -204,7 +207,7 @@ resumed-form k o i n lp lq =
 -- What the code's two flags say of the children.
 pub record Flags (tab : Table) (A : Numbers) (i n : ℕ) (lp lq : Bool) : Type 0 where
   pub on-first : (p : Stmt) → At tab (i + 1) p → lp ≡ active A p
-  pub on-next : (q : Stmt) → At tab n q → lq ≡ active A q
+  pub on-next : (q : Stmt) → i < n → At tab n q → lq ≡ active A q
 
 module _ (tab : Table) (i n : ℕ) where
   either-does : (A : Numbers) (b : Bool) {p q : Stmt} → Kid tab i (i + 1) p → Kid tab i n q
@@ -215,7 +218,7 @@ module _ (tab : Table) (i n : ℕ) where
 
   either-chain : (A : Numbers) (b : Bool) (p q : Stmt) → Kid tab i (i + 1) p → Kid tab i n q
       → Shows tab A (cond b (Chain (record { at = i + 1; going = Resumed }) (record { at = n; going = Started })) (Same (record { at = n; going = Resumed })))
-      (cond b (Rattle.rules.specs.Instant.chain (resumed A p) (started q)) (resumed A q))
+      (cond b (chain (resumed A p) (started q)) (resumed A q))
   unfolding Shows step-of
   either-chain A true p q k l = record { first = resumed A p; later = started q; made = refl; left = kid-does A Resumed k; right = kid-does A Started l }
   either-chain A false p q k l = kid-does A Resumed l
@@ -226,16 +229,17 @@ module _ (tab : Table) (i n : ℕ) where
   arm-does A false k = kid-does A Idle k
 
   pub resumed-shows : (A : Numbers) (lp lq : Bool) → Flags tab A i n lp lq → (t : Stmt) → Kids tab i n t → Shows tab A (resumed-form (kind-of t) (operand-of t) i n lp lq) (resumed A t)
-  unfolding Kids Shows kind-of operand-of resumed step-of kid-does
+  unfolding Kids Shows kind-of operand-of resumed step-of
   resumed-shows A lp lq f nothing k = refl
   resumed-shows A lp lq f (pause m) k = refl
   resumed-shows A lp lq f (emit s) k = refl
   resumed-shows A lp lq f (present? s then p else q) k =
       subst (λ (b : Bool). Does tab A (cond lp (record { at = i + 1; going = Resumed }) (record { at = n; going = Resumed })) (cond b (resumed A p) (resumed A q)))
       (f .on-first p (k .1 .there)) (either-does A lp (k .1) (k .2))
-  resumed-shows A lp lq f (suspend p on s) k = (k .0, record { inner = resumed A p; does = kid-does A Resumed (k .1); made = refl })
+  resumed-shows A lp lq f (suspend p on s) k =
+      (k .0, record { first = stay (held A p); later = resumed A p; made = refl; left = kid-does A Held (k .1); right = kid-does A Resumed (k .1) })
   resumed-shows A lp lq f (p ⨾ q) k =
-      subst (λ (b : Bool). Shows tab A (resumed-form 21 0 i n lp lq) (cond b (Rattle.rules.specs.Instant.chain (resumed A p) (started q)) (resumed A q)))
+      subst (λ (b : Bool). Shows tab A (resumed-form 21 0 i n lp lq) (cond b (chain (resumed A p) (started q)) (resumed A q)))
       (f .on-first p (k .0 .there)) (either-chain A lp p q (k .0) (k .1))
   resumed-shows A lp lq f (loop p) k = record { first = resumed A p; later = started p; made = refl; left = kid-does A Resumed k; right = kid-does A Started k }
   resumed-shows A lp lq f (p parallel q) k = record {
@@ -243,7 +247,7 @@ module _ (tab : Table) (i n : ℕ) where
     later = cond (active A q) (resumed A q) done;
     made = refl;
     left = subst (λ (b : Bool). Does tab A (arm-part lp (i + 1)) (cond b (resumed A p) done)) (f .on-first p (k .0 .there)) (arm-does A lp (k .0));
-    right = subst (λ (b : Bool). Does tab A (arm-part lq n) (cond b (resumed A q) done)) (f .on-next q (k .1 .there)) (arm-does A lq (k .1));
+    right = subst (λ (b : Bool). Does tab A (arm-part lq n) (cond b (resumed A q) done)) (f .on-next q (k .1 .after) (k .1 .there)) (arm-does A lq (k .1));
   }
   resumed-shows A lp lq f (trap p) k = record { inner = resumed A p; made = refl; does = kid-does A Resumed k }
   resumed-shows A lp lq f (exit (depth d)) k = refl
@@ -265,7 +269,7 @@ module _ (tab : Table) (i n : ℕ) where
   resumed-below lp lq (pause m) k = tt
   resumed-below lp lq (emit s) k = tt
   resumed-below lp lq (present? s then p else q) k = either-under lp (k .1) (k .2)
-  resumed-below lp lq (suspend p on s) k = kid-under Resumed (k .1)
+  resumed-below lp lq (suspend p on s) k = (kid-under Held (k .1), kid-under Resumed (k .1))
   resumed-below lp lq (p ⨾ q) k = chain-below lp (k .0) (k .1)
   resumed-below lp lq (loop p) k = (kid-under Resumed k, kid-under Started k)
   resumed-below lp lq (p parallel q) k = (kid-under (cond lp Resumed Idle) (k .0), kid-under (cond lq Resumed Idle) (k .1))
@@ -288,7 +292,7 @@ module _ (tab : Table) (i n : ℕ) where
       flags : (A : Numbers) → Live tab A live → Flags tab A i n lp lq
       flags A l = record {
         on-first = λ p a. g (in-table (record { tree = p; there = a })) ∙ l .says (i + 1) p a;
-        on-next = λ q a. h (in-table (record { tree = q; there = a })) ∙ l .says n q a;
+        on-next = λ q b a. h (in-table (record { tree = q; there = a })) ∙ l .says n q a;
       }
 
 -- The kinds that have nothing to do when resumed.
@@ -316,3 +320,10 @@ idle-formed c e = done-formed (λ A t h. ap (λ (g : Going). step-of g A t) e)
 
 pub going-formed : {tab : Table} {live : List Bool} (c : Part) (g : Going) (f : Form) → c .going ≡ g → Formed tab live (record { at = c .at; going = g }) f → Formed tab live c f
 going-formed {tab} {live} c g f e h = subst (λ (x : Going). Formed tab live (record { at = c .at; going = x }) f) (sym e) h
+
+pub keep-formed : {tab : Table} {live : List Bool} (c : Part) → Placed tab (c .at) → c .going ≡ Held → Formed tab live c (Keep (c .at))
+unfolding Below Shows step-of
+keep-formed c pl e = record {
+  below = pl;
+  shows = λ A l p d. record { tree = d .tree; there = d .there; made = d .its-step ∙ ap (λ (g : Going). step-of g A (d .tree)) e };
+}

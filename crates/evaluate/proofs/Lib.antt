@@ -2,3 +2,5 @@ pub mod WordLaws
 pub mod PauseLaws
 pub mod FormLaws
 pub mod Steps
+pub mod ActiveLaws
+pub mod KeptSteps

@@ -58,11 +58,18 @@ joined-is a b =
     pauses-eq (bitOr (getD a 0 0) (getD b 0 0) ∷ bitOr (getD a 1 0) (getD b 1 0) ∷ []) (λ n h. bits-or (getD a 0 0) (getD b 0 0) n ∙ ap₂ (λ (x y : Bool). x || y) (sym (low-pause a n h)) (sym (low-pause b n h)))
     (λ n h. bits-or (getD a 1 0) (getD b 1 0) (n - 64) ∙ ap₂ (λ (x y : Bool). x || y) (sym (high-pause a n h)) (sym (high-pause b n h)))
 
-pub low-test : (a : List ℕ) (n : ℕ) → n < 64 → not (eqb (bitAnd (getD a 0 0) ((1 * 2 ^ n) % 2 ^ 64)) 0) ≡ pauses-of a n
-low-test a n h = test-bit (getD a 0 0) ((1 * 2 ^ n) % 2 ^ 64) n (shifted 64 h) ∙ sym (low-pause a n h)
+pub low-test : (a : List ℕ) (n : ℕ) → n < 64 → not (eqb (bitAnd (getD a 0 0) ((1 * 2 ^ n) % 2 ^ 64)) 0) ≡ (ltb n 128 && pauses-of a n)
+low-test a n h =
+    test-bit (getD a 0 0) ((1 * 2 ^ n) % 2 ^ 64) n (shifted 64 h) ∙ sym (low-pause a n h)
+    ∙ ap (λ (b : Bool). b && pauses-of a n) (sym (is-true (ltb n 128) (lt→ltb n 128 (omega arith))))
 
-pub high-test : (a : List ℕ) (n : ℕ) → 64 ≤ n → n < 128 → not (eqb (bitAnd (getD a 1 0) ((1 * 2 ^ (n - 64)) % 2 ^ 64)) 0) ≡ pauses-of a n
-high-test a n h l = test-bit (getD a 1 0) ((1 * 2 ^ (n - 64)) % 2 ^ 64) (n - 64) (shifted 64 (omega arith)) ∙ sym (high-pause a n h)
+pub high-test : (a : List ℕ) (n : ℕ) → 64 ≤ n → n < 128 → not (eqb (bitAnd (getD a 1 0) ((1 * 2 ^ (n - 64)) % 2 ^ 64)) 0) ≡ (ltb n 128 && pauses-of a n)
+high-test a n h l =
+    test-bit (getD a 1 0) ((1 * 2 ^ (n - 64)) % 2 ^ 64) (n - 64) (shifted 64 (omega arith)) ∙ sym (high-pause a n h)
+    ∙ ap (λ (b : Bool). b && pauses-of a n) (sym (is-true (ltb n 128) (lt→ltb n 128 l)))
+
+pub no-test : (a : List ℕ) (n : ℕ) → 128 ≤ n → false ≡ (ltb n 128 && pauses-of a n)
+no-test a n h = ap (λ (b : Bool). b && pauses-of a n) (sym (is-false (ltb n 128) (λ t. let l = ltb→lt n 128 t in omega arith)))
 
 second-bit : (c : ℕ) → bits c 1 ≡ eqb (c / 2 % 2) 1
 second-bit c = bits-suc c 0 ∙ bits-first (c / 2)

@@ -7,10 +7,12 @@ ghost use Prim.Native.Nat.{ℕ, _+_, _<_};
 ghost use lib.ListN.{getD};
 ghost use Rattle.evaluate.specs.Forms.{table, Placed, Formed};
 
-// How a statement is taken: started, resumed, or not at all (an arm of a parallel without an active pause, a finished block).
+// How a statement is taken: started, resumed, held as it is (a suspended body), or not at all (an arm of a parallel without an
+// active pause, a finished block).
 pub enum Going {
     Started,
     Resumed,
+    Held,
     Idle,
 }
 
@@ -24,10 +26,10 @@ pub struct Part {
 pub enum Form {
     Done,
     Stay(u16),
+    Keep(usize),
     Say(u16),
     Leave(Depth),
     Test(u16, Part, Part),
-    Suspended(u16, Part),
     Catch(Part),
     Scope(u16, Part),
     Chain(Part, Part),
@@ -139,7 +141,14 @@ fn resumed_form(
     };
     match kind {
         19 => Form::Same(chosen(first_live, p, q)),
-        20 => Form::Suspended(operand, p),
+        20 => Form::Test(
+            operand,
+            Part {
+                at: at + 1,
+                going: Going::Held,
+            },
+            p,
+        ),
         21 => {
             if first_live {
                 Form::Chain(
@@ -182,6 +191,7 @@ pub fn form_of(
     match going {
         Going::Started => started_form(kinds, operands, sizes, at),
         Going::Resumed => resumed_form(kinds, operands, sizes, live, at),
+        Going::Held => Form::Keep(at),
         Going::Idle => Form::Done,
     }
 }

@@ -85,12 +85,13 @@ pub fn must_can(
     e: Heard,
 ) -> MustCan
     requires { ⌜ Placed (table (now kinds) (now operands) (now sizes)) (part .at) ⌝ }
-    ensures { λ r. ⌜ Walked (table (now (kinds .entry)) (now (operands .entry)) (now (sizes .entry))) (now (live .entry)) part e r ⌝ }
+    ensures { λ r. ⌜ Walked (table (now (kinds .entry)) (now (operands .entry)) (now (sizes .entry))) (now (live .entry)) (Form.Same part) e r ⌝ }
 {
     let form = form_of(kinds, operands, sizes, live, part);
     match form {
         Form::Done => sure(silent(Code(0))),
         Form::Stay(_) => sure(silent(Code(1))),
+        Form::Keep(_) => sure(silent(Code(1))),
         Form::Say(s) => sure(saying(s)),
         Form::Leave(d) => sure(silent(code_of(d))),
         Form::Test(s, p, q) => match status_at(e, s) {
@@ -101,65 +102,64 @@ pub fn must_can(
                 doubted(a, can_open(kinds, operands, sizes, live, q, e))
             }
         },
-        Form::Suspended(s, p) => match status_at(e, s) {
-            Seen::Present => sure(silent(Code(1))),
-            Seen::Absent => must_can(kinds, operands, sizes, live, p, e),
-            Seen::Unknown => doubted(
-                silent(Code(1)),
-                can_open(kinds, operands, sizes, live, p, e),
-            ),
-        },
         Form::Catch(p) => caught(must_can(kinds, operands, sizes, live, p, e)),
-        Form::Scope(s, p) => {
-            let doubt = heard_with(e, s, Seen::Unknown);
-            let a = must_can(kinds, operands, sizes, live, p, doubt);
-            match settled_sure(s, a) {
-                Seen::Unknown => hidden(s, a),
-                Seen::Present => hidden(
-                    s,
-                    must_can(
-                        kinds,
-                        operands,
-                        sizes,
-                        live,
-                        p,
-                        heard_with(e, s, Seen::Present),
-                    ),
-                ),
-                Seen::Absent => hidden(
-                    s,
-                    must_can(
-                        kinds,
-                        operands,
-                        sizes,
-                        live,
-                        p,
-                        heard_with(e, s, Seen::Absent),
-                    ),
-                ),
-            }
-        }
-        Form::Chain(p, q) => {
-            let a = must_can(kinds, operands, sizes, live, p, e);
-            if gives_zero(a.must.codes) {
-                let b = must_can(kinds, operands, sizes, live, q, e);
-                return followed(a, b.must, b.can);
-            }
-            if gives_zero(a.can.codes) {
-                return followed(
-                    a,
-                    nothing_told(),
-                    can_open(kinds, operands, sizes, live, q, e),
-                );
-            }
-            followed(a, nothing_told(), nothing_told())
-        }
+        Form::Scope(s, p) => must_can_local(kinds, operands, sizes, live, s, p, e),
+        Form::Chain(p, q) => must_can_chain(kinds, operands, sizes, live, p, q, e),
         Form::Beside(p, q) => {
             let a = must_can(kinds, operands, sizes, live, p, e);
             beside(a, must_can(kinds, operands, sizes, live, q, e))
         }
         Form::Same(p) => must_can(kinds, operands, sizes, live, p, e),
     }
+}
+
+// A local: its body with the signal unknown, and once more if that settled the signal.
+fn must_can_local(
+    kinds: &[u16; 512],
+    operands: &[u16; 512],
+    sizes: &[u16; 512],
+    live: &[bool; 512],
+    s: u16,
+    p: Part,
+    e: Heard,
+) -> MustCan
+    requires { ⌜ Placed (table (now kinds) (now operands) (now sizes)) (p .at) ⌝ }
+    ensures { λ r. ⌜ Walked (table (now (kinds .entry)) (now (operands .entry)) (now (sizes .entry))) (now (live .entry)) (Form.Scope s p) e r ⌝ }
+{
+    let doubt = heard_with(e, s, Seen::Unknown);
+    let a = must_can(kinds, operands, sizes, live, p, doubt);
+    let v = settled_sure(s, a);
+    if let Seen::Unknown = v {
+        return hidden(s, a);
+    }
+    let known = heard_with(e, s, v);
+    hidden(s, must_can(kinds, operands, sizes, live, p, known))
+}
+
+// A sequence: the second part is asked under plus only if the first must give 0, and not at all if the first cannot.
+fn must_can_chain(
+    kinds: &[u16; 512],
+    operands: &[u16; 512],
+    sizes: &[u16; 512],
+    live: &[bool; 512],
+    p: Part,
+    q: Part,
+    e: Heard,
+) -> MustCan
+    requires { ⌜ Placed (table (now kinds) (now operands) (now sizes)) (p .at) × Placed (table (now kinds) (now operands) (now sizes)) (q .at) ⌝ }
+    ensures { λ r. ⌜ Walked (table (now (kinds .entry)) (now (operands .entry)) (now (sizes .entry))) (now (live .entry)) (Form.Chain p q) e r ⌝ }
+{
+    let a = must_can(kinds, operands, sizes, live, p, e);
+    if gives_zero(a.must.codes) {
+        let b = must_can(kinds, operands, sizes, live, q, e);
+        return followed(a, b.must, b.can);
+    }
+    let nothing = nothing_told();
+    if gives_zero(a.can.codes) {
+        let b = can_open(kinds, operands, sizes, live, q, e);
+        return followed(a, nothing, b);
+    }
+    followed(a, nothing, nothing)
 }
 
 // Can under open.
@@ -172,12 +172,13 @@ pub fn can_open(
     e: Heard,
 ) -> Told
     requires { ⌜ Placed (table (now kinds) (now operands) (now sizes)) (part .at) ⌝ }
-    ensures { λ r. ⌜ Gives (can opened) (table (now (kinds .entry)) (now (operands .entry)) (now (sizes .entry))) (now (live .entry)) part e r ⌝ }
+    ensures { λ r. ⌜ Gives (can opened) (table (now (kinds .entry)) (now (operands .entry)) (now (sizes .entry))) (now (live .entry)) (Form.Same part) e r ⌝ }
 {
     let form = form_of(kinds, operands, sizes, live, part);
     match form {
         Form::Done => silent(Code(0)),
         Form::Stay(_) => silent(Code(1)),
+        Form::Keep(_) => silent(Code(1)),
         Form::Say(s) => saying(s),
         Form::Leave(d) => silent(code_of(d)),
         Form::Test(s, p, q) => match status_at(e, s) {
@@ -188,29 +189,12 @@ pub fn can_open(
                 either_told(a, can_open(kinds, operands, sizes, live, q, e))
             }
         },
-        Form::Suspended(s, p) => match status_at(e, s) {
-            Seen::Present => silent(Code(1)),
-            Seen::Absent => can_open(kinds, operands, sizes, live, p, e),
-            Seen::Unknown => either_told(
-                silent(Code(1)),
-                can_open(kinds, operands, sizes, live, p, e),
-            ),
-        },
         Form::Catch(p) => caught_told(can_open(kinds, operands, sizes, live, p, e)),
         Form::Scope(s, p) => {
-            let a = must_can(
-                kinds,
-                operands,
-                sizes,
-                live,
-                p,
-                heard_with(e, s, Seen::Unknown),
-            );
-            let v = settled_open(s, a);
-            hidden_told(
-                s,
-                can_open(kinds, operands, sizes, live, p, heard_with(e, s, v)),
-            )
+            let doubt = heard_with(e, s, Seen::Unknown);
+            let v = settled_open(s, must_can(kinds, operands, sizes, live, p, doubt));
+            let known = heard_with(e, s, v);
+            hidden_told(s, can_open(kinds, operands, sizes, live, p, known))
         }
         Form::Chain(p, q) => {
             let a = can_open(kinds, operands, sizes, live, p, e);

@@ -45,8 +45,11 @@ add-t13 c = search needs
 chosen-requires : tie.Need-chosen-requires
 chosen-requires c κs = search needs
 
-add-t26 : tie.Need-add-t26
-add-t26 c = search needs
+add-t22 : tie.Need-add-t22
+add-t22 c = search needs
+
+add-t29 : tie.Need-add-t29
+add-t29 c = search needs
 
 add-arm : tie.Need-add-arm
 add-arm c = search needs
@@ -99,7 +102,8 @@ resumed-form-spec =
     live-at-requires-2
     add-t13
     chosen-requires
-    add-t26
+    add-t22
+    add-t29
     add-arm
     arm-requires
     arm-requires-2

@@ -1,5 +1,4 @@
-use Rattle.evaluate.proofs.PauseLaws.{low-test, high-test}
-use native.Mathlib.Omega.{arith}
+use Rattle.evaluate.proofs.PauseLaws.{low-test, high-test, no-test}
 use borrow.Author.Needs.{needs}
 use Rattle.evaluate.proofs.pauses.has_pause.Statement.{statement}
 use Rattle.evaluate.proofs.pauses.has_pause.Tie as tie
@@ -13,7 +12,7 @@ shl-result : tie.Need-shl-result
 shl-result c = search needs
 
 returns : tie.Need-returns
-returns c = λ h. low-test (c .before .args .t1) (c .before .args .n) (c .if1 .taken)
+returns c = low-test (c .before .args .t1) (c .before .args .n) (c .if1 .taken)
 
 array-read-result-2 : tie.Need-array-read-result-2
 array-read-result-2 c = search needs
@@ -25,10 +24,10 @@ shl-result-2 : tie.Need-shl-result-2
 shl-result-2 c = search needs
 
 returns-2 : tie.Need-returns-2
-returns-2 c = λ h. high-test (c .before .before .args .t1) (c .before .before .args .n) (c .before .if1 .left) h
+returns-2 c = high-test (c .before .before .args .t1) (c .before .before .args .n) (c .before .if1 .left) (c .if2 .taken)
 
 returns-3 : tie.Need-returns-3
-returns-3 c = λ h. absurd (omega arith)
+returns-3 c = no-test (c .before .before .args .t1) (c .before .before .args .n) (c .if2 .left)
 
 pub has-pause-spec : {M : Type 1} → statement M
 has-pause-spec =
