@@ -1,0 +1,6 @@
+pub mod WordLaws
+pub mod PauseLaws
+pub mod FormLaws
+pub mod Steps
+pub mod ActiveLaws
+pub mod KeptSteps
