@@ -52,9 +52,13 @@ unfoldable pub try-clash : Good → State → ℕ → Bool → Option Pair → V
 try-clash g st given roomless (some pair) = clash pair
 try-clash g st given roomless none = try-inputs g st given roomless
 
+-- CLASH, for a state that was found.
+abbrev pub clash-tried : Good → State → ℕ → Bool → Verdict
+clash-tried g st given roomless = try-clash g st given roomless (first-clash (g .body) (active-of st))
+
 unfoldable pub try-state : Good → ℕ → Bool → Found → Verdict
 try-state g given roomless not-a-state = refused STATE 0
-try-state g given roomless (state st) = try-clash g st given roomless (first-clash (g .body) (active-of st))
+try-state g given roomless (state st) = clash-tried g st given roomless
 
 unfoldable pub try-block : List ℕ → ℕ → Bool → Reading → Verdict
 try-block s given roomless (turned-down n at) = refused n at

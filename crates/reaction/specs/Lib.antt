@@ -1,1 +1,2 @@
 pub mod Instants
+pub mod Outcomes
