@@ -1,1 +1,5 @@
 pub mod Table
+pub mod Format
+pub mod Told
+pub mod Good
+pub mod Codes

@@ -1,0 +1,17 @@
+pub mod Examples
+pub mod Shapes
+pub mod Tests
+pub mod Scopes
+pub mod Views
+pub mod Passes
+pub mod Parse
+pub mod Built
+pub mod Trees
+pub mod Tables
+pub mod Ways
+pub mod CodeLaws
+pub mod Places
+pub mod LoopWalk
+pub mod GoodReadings
+pub mod Offsets
+pub mod Ends

@@ -1,0 +1,13 @@
+-- `codes::without_zero` meets its contract: bit 0 is cleared.
+-- Assumes nothing.
+use Rattle.block.proofs.CodeLaws.{without-zero-is}
+use Rattle.block.proofs.codes.without_zero.Statement.{statement}
+use Rattle.block.proofs.codes.without_zero.Tie as tie
+use Rattle.block.proofs.codes.without_zero.Reads as reads
+use Rattle.block.proofs.codes.without_zero.Lts as lts
+
+returns : tie.Need-returns
+returns c = without-zero-is (c .args .codes)
+
+pub without-zero-spec : {M : Type 1} → statement M
+without-zero-spec = tie.close (tie.spec returns)

@@ -1,0 +1,25 @@
+-- `faults::declared_here` meets its contract: the two tests one after the other.
+-- Assumes nothing.
+use mathlib.Core.Path.{_≡_, refl, sym, _∙_, ap}
+use borrow.Author.Tests.{lt-ltb, le-ltb}
+use borrow.Author.Needs.{needs}
+use Rattle.block.proofs.faults.declared_here.Statement.{statement}
+use Rattle.block.proofs.faults.declared_here.Tie as tie
+use Rattle.block.proofs.faults.declared_here.Reads as reads
+use Rattle.block.proofs.faults.declared_here.Lts as lts
+use Rattle.block.proofs.faults.in_scope.Reads as in-scope-reads
+
+add-if1 : tie.Need-add-if1
+add-if1 c = search needs
+
+returns : tie.Need-returns
+returns c = sym (simp (lt-ltb _ _ (c .if1 .taken)))
+
+in-scope-requires : tie.Need-in-scope-requires
+in-scope-requires c κs = search needs
+
+returns-2 : tie.Need-returns-2
+returns-2 c = c .in-scope .ensures ∙ sym (simp (le-ltb _ _ (c .before .if1 .left)))
+
+pub declared-here-spec : {M : Type 1} → statement M
+declared-here-spec = tie.close (tie.spec add-if1 returns in-scope-requires returns-2)

@@ -1,0 +1,23 @@
+-- `faults::in_scope` meets its contract: the code reads the bit, and a word has none at or above 64.
+-- Assumes nothing.
+use mathlib.Core.Path.{_≡_, refl, sym, _∙_, ap}
+use Rattle.sets.specs.Words.{bits}
+use Rattle.sets.proofs.Words.{bits-high}
+use borrow.Author.Needs.{needs}
+use Rattle.block.proofs.faults.in_scope.Statement.{statement}
+use Rattle.block.proofs.faults.in_scope.Tie as tie
+use Rattle.block.proofs.faults.in_scope.Reads as reads
+use Rattle.block.proofs.faults.in_scope.Lts as lts
+
+shr-result : tie.Need-shr-result
+shr-result c = search needs
+
+returns : tie.Need-returns
+unfolding bits
+returns c = refl
+
+returns-2 : tie.Need-returns-2
+returns-2 c = sym (bits-high 64 (c .before .fits .scope .fits) (c .if1 .left))
+
+pub in-scope-spec : {M : Type 1} → statement M
+in-scope-spec = tie.close (tie.spec shr-result returns returns-2)

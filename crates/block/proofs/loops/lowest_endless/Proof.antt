@@ -1,0 +1,110 @@
+-- `loops::lowest_endless` meets its contract. The invariant is `Walked`: the codes from statement i on are known, and the lowest
+-- endless loop from there on. The measure is i.
+-- Assumes nothing.
+use mathlib.Core.Path.{_≡_, refl, subst}
+use native.Mathlib.Omega.{arith}
+use Prim.Native.Nat.{ℕ, _+_, _-_}
+use lib.ListN.{length-replicate}
+use denote.Ref.{now}
+use Rattle.block.specs.Told.{table-of}
+use Rattle.block.proofs.LoopWalk.{Walked, walk-start, Step, second-word, walk-step, walk-end}
+use Rattle.block.proofs.loops.lowest_endless.Statement.{statement}
+use Rattle.block.proofs.loops.lowest_endless.Tie as tie
+use Rattle.block.proofs.loops.lowest_endless.Reads as reads
+use Rattle.block.proofs.loops.lowest_endless.Lts as lts
+use Rattle.block.proofs.codes.codes_for.Reads as codes-for-reads
+use Rattle.block.proofs.loops.lower.Reads as lower-reads
+use Rattle.block.proofs.loops.second_at.Reads as second-at-reads
+use Rattle.block.proofs.loops.word_at.Reads as word-at-reads
+
+abbrev Inv-loop : tie.InvT-loop
+Inv-loop kinds operands sizes count codes₀ found₀ i₀ codes found i = Walked (table-of kinds operands sizes) count codes found i
+
+abbrev μ-loop : tie.MeasureT-loop
+μ-loop kinds operands sizes count codes₀ found₀ i₀ codes found i = i
+
+loop-holds : tie.Need-loop-holds Inv-loop μ-loop
+loop-holds c = walk-start _ _ _ (length-replicate {A = ℕ} 512 0)
+
+sub-i : tie.Need-sub-i Inv-loop μ-loop
+sub-i c = omega (arith, c .loop-test .taken)
+
+add-word-at : tie.Need-add-word-at Inv-loop μ-loop
+add-word-at c = omega (arith, c .before .before .loop .inv .in-count, c .before .loop-test .taken, c .before .before .before .pre)
+
+word-at-requires : tie.Need-word-at-requires Inv-loop μ-loop
+word-at-requires c κs = c .before .before .loop .inv .wide
+
+second-at-requires : tie.Need-second-at-requires Inv-loop μ-loop
+second-at-requires c κs = omega (arith, c .before .before .before .before .loop .inv .in-count, c .before .before .before .loop-test .taken, c .before .before .before .before .before .pre)
+
+word-at-requires-2 : tie.Need-word-at-requires-2 Inv-loop μ-loop
+word-at-requires-2 c κs = c .before .before .before .before .before .loop .inv .wide
+
+mul-kind : tie.Need-mul-kind Inv-loop μ-loop
+mul-kind c = omega (arith, c .before .before .before .before .before .before .loop .inv .in-count, c .before .before .before .before .before .loop-test .taken, c .before .before .before .before .before .before .before .pre)
+
+element-copy-out-kind : tie.Need-element-copy-out-kind Inv-loop μ-loop
+element-copy-out-kind c = omega (arith, c .before .before .before .before .before .before .loop .inv .in-count, c .before .before .before .before .before .loop-test .taken, c .before .before .before .before .before .before .before .pre)
+
+mul-codes-for : tie.Need-mul-codes-for Inv-loop μ-loop
+mul-codes-for c = omega (arith, c .before .before .before .before .before .before .before .loop .inv .in-count, c .before .before .before .before .before .before .loop-test .taken, c .before .before .before .before .before .before .before .before .pre)
+
+element-copy-out-codes-for : tie.Need-element-copy-out-codes-for Inv-loop μ-loop
+element-copy-out-codes-for c = omega (arith, c .before .before .before .before .before .before .before .loop .inv .in-count, c .before .before .before .before .before .before .loop-test .taken, c .before .before .before .before .before .before .before .before .pre)
+
+codes-for-requires : tie.Need-codes-for-requires Inv-loop μ-loop
+codes-for-requires c κs = tt
+
+mul-codes : tie.Need-mul-codes Inv-loop μ-loop
+mul-codes c = omega (arith, c .before .before .before .before .before .before .before .before .before .loop .inv .in-count, c .before .before .before .before .before .before .before .before .loop-test .taken, c .before .before .before .before .before .before .before .before .before .before .pre)
+
+array-write-codes : tie.Need-array-write-codes Inv-loop μ-loop
+array-write-codes c = omega (arith, c .before .before .before .before .before .before .before .before .before .loop .inv .in-count, c .before .before .before .before .before .before .before .before .loop-test .taken, c .before .before .before .before .before .before .before .before .before .before .pre)
+
+lower-requires : tie.Need-lower-requires Inv-loop μ-loop
+lower-requires c κs = tt
+
+loop-less : tie.Need-loop-less Inv-loop μ-loop
+loop-less c = omega (arith, c .before .before .before .before .before .before .before .before .before .loop-test .taken)
+
+loop-again : tie.Need-loop-again Inv-loop μ-loop
+loop-again c =
+    let e : c .before .before .before .before .before .before .before .before .before .before .loop .i ≡ c .before .before .before .before .before .before .before .before .before .before .loop .i - 1 + 1 = omega (arith, c .before .before .before .before .before .before .before .before .before .loop-test .taken) in
+    walk-step (subst (Walked _ _ _ _) e (c .before .before .before .before .before .before .before .before .before .before .loop .inv))
+    (record {
+      first = c .before .before .before .before .before .before .before .word-at .ensures;
+      second = second-word (c .before .before .before .before .before .before .before .before .before .before .loop .codes) (now (c .before .before .before .before .before .before .before .before .before .before .before .args .sizes)) (c .before .before .before .before .before .before .before .before .before .before .loop .i - 1) (c .before .before .before .before .before .second-at .result) _ (c .before .before .before .before .before .before .before .before .before .before .loop .inv .wide) (c .before .before .before .before .before .second-at .ensures .0) (c .before .before .before .before .before .second-at .ensures .1) (c .before .before .before .before .word-at2 .ensures);
+      kind = refl;
+      operand = refl;
+      its-codes = c .before .codes-for .ensures;
+      now-found = c .lower .ensures;
+    })
+    (c .before .before .before .before .before .before .before .before .before .before .before .pre)
+
+returns : tie.Need-returns Inv-loop μ-loop
+returns c = walk-end (c .before .loop .inv) (c .loop-test .left)
+
+pub lowest-endless-spec : {M : Type 1} → statement M
+lowest-endless-spec =
+    tie.close
+    (tie.spec
+    Inv-loop
+    μ-loop
+    loop-holds
+    sub-i
+    add-word-at
+    word-at-requires
+    second-at-requires
+    word-at-requires-2
+    mul-kind
+    element-copy-out-kind
+    mul-codes-for
+    element-copy-out-codes-for
+    codes-for-requires
+    mul-codes
+    array-write-codes
+    lower-requires
+    loop-less
+    loop-again
+    returns)

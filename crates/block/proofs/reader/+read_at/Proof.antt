@@ -1,0 +1,222 @@
+-- `reader::read_at` meets its contract. Each return is one way through the reading, and its lemma stands in Ways. The measure is
+-- the room on the path.
+-- Assumes nothing.
+use borrow.Author.Needs.{needs}
+use native.Mathlib.Omega.{arith}
+use native.Mathlib.Nat.{pos-of-ne-zero}
+use mathlib.Core.Path.{_≡_, refl, sym, _∙_}
+use lib.ListN.{length}
+use denote.Ref.{now}
+use Rattle.block.specs.Format.{kind-at, operand-at}
+use Rattle.block.specs.Told.{header-of, sofar-of, around-of}
+use Rattle.block.proofs.Passes.{Passes}
+use Rattle.block.proofs.Ways.{passes-at, Hand, end-fault, end-leaf, end-first, end-above, end-second, end-joined, ready-first, ready-second, begun-full, first-got, size₁, few₁, size₂, few₂}
+use Prim.Native.Nat.{ℕ, _<_}
+use borrow.Fn.Kinds.{In}
+use borrow.Fn.PlainCycle.{Measures, is, falls, and}
+use Rattle.block.proofs.reader.read_at.Reads as read-at
+use Rattle.block.proofs.reader.read_at.Kinds as read-at-kinds
+use Rattle.block.proofs.reader.+read_at.Lts-read_at as read-at-lts
+use Rattle.block.proofs.faults.statement_fault.Reads as statement-fault-reads
+use Rattle.block.proofs.kinds.shape_of.Reads as shape-of-reads
+use Rattle.block.proofs.records.two_bytes.Reads as two-bytes-reads
+use Rattle.block.proofs.steps.inner.Reads as inner-reads
+use Rattle.block.proofs.steps.kept.Reads as kept-reads
+use Rattle.block.proofs.steps.passed.Reads as passed-reads
+use Rattle.block.proofs.reader.+read_at.{statement}
+use Rattle.block.proofs.reader.+read_at.Tie.{close}
+
+abbrev μ-read-at : Measures 4 read-at-kinds.ps ℕ
+μ-read-at κs a = a .1 .1 .0 .room
+
+abbrev read-at-at : ℕ → In 4 read-at-kinds.ps
+read-at-at t = and 4 read-at-kinds.ps (is 4 read-at-kinds.ps μ-read-at t) read-at.Pre
+
+abbrev read-at-below : ℕ → In 4 read-at-kinds.ps
+read-at-below t = and 4 read-at-kinds.ps (falls 4 read-at-kinds.ps _<_ μ-read-at t) read-at.Pre
+
+abbrev read-at-claims : ℕ → read-at-lts.Claims
+read-at-claims t = (statement-fault-reads.Asked, statement-fault-reads.Learnt, two-bytes-reads.Asked, two-bytes-reads.Learnt, shape-of-reads.Asked, shape-of-reads.Learnt, kept-reads.Asked, kept-reads.Learnt, inner-reads.Asked, inner-reads.Learnt, passed-reads.Asked, passed-reads.Learnt, read-at-below t, read-at.Post)
+
+-- What the tests showed of the record, by the block's own kind and operand, and by the code's.
+passed-test : (t : ℕ) (c : read-at-lts.Else1 (read-at-claims t) (read-at-at t) read-at.Post)
+    → Passes (c .before .before .before .args .c .room) (length (now (c .before .before .before .args .b))) (header-of (c .before .before .before .args .d))
+    (around-of (c .before .before .before .args .c)) (sofar-of (c .before .before .before .args .r))
+    (kind-at (now (c .before .before .before .args .b)) (c .before .before .before .args .r .at))
+    (operand-at (now (c .before .before .before .args .b)) (c .before .before .before .args .r .at))
+passed-test t c = passes-at _ _ _ _ _ _ refl refl (sym (c .before .statement-fault .ensures) ∙ c .if1 .left)
+
+by-its-own : (t : ℕ) (c : read-at-lts.After-shape-of (read-at-claims t) (read-at-at t) read-at.Post)
+    → let s = c .before .before .before .before .before .before in
+    Passes (s .args .c .room) (length (now (s .args .b))) (header-of (s .args .d)) (around-of (s .args .c)) (sofar-of (s .args .r))
+    (c .before .before .two-bytes .result) (c .before .two-bytes2 .result)
+by-its-own t c =
+    passes-at _ _ _ _ _ _ (c .before .before .two-bytes .ensures) (c .before .two-bytes2 .ensures)
+    (sym (c .before .before .before .before .statement-fault .ensures) ∙ c .before .before .before .if1 .left)
+
+hand : (t : ℕ) (c : read-at-lts.After-passed (read-at-claims t) (read-at-at t) read-at.Post)
+    → let k = c .before .before .before .before .before in
+    let s = k .before .before .before .before in
+    Hand (now (s .args .b)) (s .args .d) (s .args .c) (s .args .r) (k .two-bytes .result) (c .before .before .before .before .two-bytes2 .result) (c .before .inner .result) (c .passed .result)
+hand t c =
+    let k = c .before .before .before .before .before in
+    let s = k .before .before .before .before in
+    record {
+      ready = s .pre .1 .0;
+      good = sym (k .before .before .statement-fault .ensures) ∙ k .before .if1 .left;
+      k-is = k .two-bytes .ensures;
+      x-is = c .before .before .before .before .two-bytes2 .ensures;
+      around = c .before .inner .ensures .0;
+      room = c .before .inner .ensures .1;
+      next = c .passed .ensures;
+    }
+
+read-at-statement-fault-requires : (t : ℕ) → read-at-lts.Need-statement-fault-requires (read-at-claims t) (read-at-at t) read-at.Post
+read-at-statement-fault-requires t c κs = (c .before .pre .1 .0 .fits, c .before .pre .1 .0 .signals)
+
+read-at-returns : (t : ℕ) → read-at-lts.Need-returns (read-at-claims t) (read-at-at t) read-at.Post
+read-at-returns t c = end-fault _ _ _ _ _ _ (c .before .before .before .pre .1 .1) (c .before .statement-fault .ensures) (c .if1 .taken)
+
+read-at-add-two-bytes : (t : ℕ) → read-at-lts.Need-add-two-bytes (read-at-claims t) (read-at-at t) read-at.Post
+read-at-add-two-bytes t c = omega (arith, passed-test t c .ends, c .before .before .before .pre .1 .0 .fits)
+
+read-at-two-bytes-requires : (t : ℕ) → read-at-lts.Need-two-bytes-requires (read-at-claims t) (read-at-at t) read-at.Post
+read-at-two-bytes-requires t c κs = omega (arith, passed-test t c .ends, c .before .before .before .pre .1 .0 .fits)
+
+read-at-add-two-bytes-2 : (t : ℕ) → read-at-lts.Need-add-two-bytes-2 (read-at-claims t) (read-at-at t) read-at.Post
+read-at-add-two-bytes-2 t c = omega (arith, passed-test t (c .before) .ends, c .before .before .before .before .pre .1 .0 .fits)
+
+read-at-two-bytes-requires-2 : (t : ℕ) → read-at-lts.Need-two-bytes-requires-2 (read-at-claims t) (read-at-at t) read-at.Post
+read-at-two-bytes-requires-2 t c κs = omega (arith, passed-test t (c .before) .ends, c .before .before .before .before .pre .1 .0 .fits)
+
+read-at-shape-of-requires : (t : ℕ) → read-at-lts.Need-shape-of-requires (read-at-claims t) (read-at-at t) read-at.Post
+read-at-shape-of-requires t c κs = tt
+
+read-at-mul-kinds : (t : ℕ) → read-at-lts.Need-mul-kinds (read-at-claims t) (read-at-at t) read-at.Post
+read-at-mul-kinds t c = omega (arith, (passed-test t (c .before .before .before)) .counted)
+
+read-at-element-write-kinds : (t : ℕ) → read-at-lts.Need-element-write-kinds (read-at-claims t) (read-at-at t) read-at.Post
+read-at-element-write-kinds t c = omega (arith, (passed-test t (c .before .before .before)) .counted)
+
+read-at-kept-requires : (t : ℕ) → read-at-lts.Need-kept-requires (read-at-claims t) (read-at-at t) read-at.Post
+read-at-kept-requires t c κs = c .shape-of .ensures .2
+
+read-at-mul-operands : (t : ℕ) → read-at-lts.Need-mul-operands (read-at-claims t) (read-at-at t) read-at.Post
+read-at-mul-operands t c = omega (arith, (passed-test t (c .before .before .before .before)) .counted)
+
+read-at-element-write-operands : (t : ℕ) → read-at-lts.Need-element-write-operands (read-at-claims t) (read-at-at t) read-at.Post
+read-at-element-write-operands t c = omega (arith, (passed-test t (c .before .before .before .before)) .counted)
+
+read-at-inner-requires : (t : ℕ) → read-at-lts.Need-inner-requires (read-at-claims t) (read-at-at t) read-at.Post
+read-at-inner-requires t c κs =
+    let g = by-its-own t (c .before) in
+    let y = c .before .before .before .before .before .before .before .pre .1 .0 in
+    (omega (arith, pos-of-ne-zero (g .roomy)), omega (arith, y .few-traps), omega (arith, y .few-nested), λ e. omega (arith, g .declaring e .0, g .declaring e .1, y .signals))
+
+read-at-passed-requires : (t : ℕ) → read-at-lts.Need-passed-requires (read-at-claims t) (read-at-at t) read-at.Post
+read-at-passed-requires t c κs =
+    let y = c .before .before .before .before .before .before .before .before .pre .1 .0 in
+    (c .before .before .shape-of .ensures .0, omega (arith, (passed-test t (c .before .before .before .before .before)) .ends, y .fits), omega (arith, (passed-test t (c .before .before .before .before .before)) .counted), omega (arith, y .few-pauses), omega (arith, y .few-locals, y .signals))
+
+read-at-mul-sizes : (t : ℕ) → read-at-lts.Need-mul-sizes (read-at-claims t) (read-at-at t) read-at.Post
+read-at-mul-sizes t c = omega (arith, (passed-test t (c .before .before .before .before .before .before .before)) .counted)
+
+read-at-element-write-sizes : (t : ℕ) → read-at-lts.Need-element-write-sizes (read-at-claims t) (read-at-at t) read-at.Post
+read-at-element-write-sizes t c = omega (arith, (passed-test t (c .before .before .before .before .before .before .before)) .counted)
+
+read-at-returns-2 : (t : ℕ) → read-at-lts.Need-returns-2 (read-at-claims t) (read-at-at t) read-at.Post
+read-at-returns-2 t c = end-leaf (hand t (c .before)) (c .before .before .before .before .before .before .before .before .before .before .pre .1 .1) (c .before .before .before .kept .ensures) (sym (c .before .before .before .before .shape-of .ensures .1) ∙ c .if2 .taken)
+
+read-at-read-at-requires : (t : ℕ) → read-at-lts.Need-read-at-requires (read-at-claims t) (read-at-at t) read-at.Post
+read-at-read-at-requires t c κs = (omega (arith, hand t (c .before .before .before .before) .room, c .before .before .before .before .before .before .before .before .before .before .before .before .before .pre .0), (ready-first (hand t (c .before .before .before .before)), begun-full (hand t (c .before .before .before .before)) (c .before .before .before .before .before .before .before .before .before .before .before .before .before .pre .1 .1) (c .before .before .before .before .before .before .kept .ensures)))
+
+read-at-enum-known-first : (t : ℕ) → read-at-lts.Need-enum-known-first (read-at-claims t) (read-at-at t) read-at.Post
+read-at-enum-known-first t c = search needs
+
+read-at-enum-known-first-2 : (t : ℕ) → read-at-lts.Need-enum-known-first-2 (read-at-claims t) (read-at-at t) read-at.Post
+read-at-enum-known-first-2 t c = search needs
+
+read-at-sub-sizes : (t : ℕ) → read-at-lts.Need-sub-sizes (read-at-claims t) (read-at-at t) read-at.Post
+read-at-sub-sizes t c = omega (arith, size₁ (hand t (c .before .before .before .before .before .before .before .before .before .before)) (c .before .before .before .before .before .before .before .before .before .before .before .before .before .before .before .before .before .before .before .pre .1 .1) (c .before .before .before .before .before .before .before .before .before .before .before .before .kept .ensures) (c .before .before .before .before .before .read-at .ensures) (c .before .before .before .first2 .given .1))
+
+read-at-cast-sizes : (t : ℕ) → read-at-lts.Need-cast-sizes (read-at-claims t) (read-at-at t) read-at.Post
+read-at-cast-sizes t c = omega (arith, few₁ (hand t (c .before .before .before .before .before .before .before .before .before .before)) (c .before .before .before .before .before .before .before .before .before .before .before .before .before .before .before .before .before .before .before .pre .1 .1) (c .before .before .before .before .before .before .before .before .before .before .before .before .kept .ensures) (c .before .before .before .before .before .read-at .ensures) (c .before .before .before .first2 .given .1))
+
+read-at-mul-sizes-2 : (t : ℕ) → read-at-lts.Need-mul-sizes-2 (read-at-claims t) (read-at-at t) read-at.Post
+read-at-mul-sizes-2 t c = omega (arith, (passed-test t (c .before .before .before .before .before .before .before .before .before .before .before .before .before .before .before .before)) .counted)
+
+read-at-element-write-sizes-2 : (t : ℕ) → read-at-lts.Need-element-write-sizes-2 (read-at-claims t) (read-at-at t) read-at.Post
+read-at-element-write-sizes-2 t c = omega (arith, (passed-test t (c .before .before .before .before .before .before .before .before .before .before .before .before .before .before .before .before)) .counted)
+
+read-at-returns-3 : (t : ℕ) → read-at-lts.Need-returns-3 (read-at-claims t) (read-at-at t) read-at.Post
+read-at-returns-3 t c = end-above (hand t (c .before .before .before .before .before .before .before .before .before .before)) (c .before .before .before .before .before .before .before .before .before .before .before .before .before .before .before .before .before .before .before .pre .1 .1) (c .before .before .before .before .before .before .before .before .before .before .before .before .kept .ensures) (c .before .before .before .before .before .read-at .ensures) (c .before .before .before .first2 .given .1) (sym (c .before .before .before .before .before .before .before .before .before .before .before .before .before .shape-of .ensures .1) ∙ c .before .if3 .taken)
+
+read-at-read-at-requires-2 : (t : ℕ) → read-at-lts.Need-read-at-requires-2 (read-at-claims t) (read-at-at t) read-at.Post
+read-at-read-at-requires-2 t c κs = (omega (arith, hand t (c .before .before .before .before .before .before .before .before .before .before .before .before) .room, c .before .before .before .before .before .before .before .before .before .before .before .before .before .before .before .before .before .before .before .before .before .pre .0), (ready-second (hand t (c .before .before .before .before .before .before .before .before .before .before .before .before)) (first-got (hand t (c .before .before .before .before .before .before .before .before .before .before .before .before)) (c .before .before .before .before .before .before .before .before .before .before .before .before .before .before .before .before .before .before .before .before .before .pre .1 .1) (c .before .before .before .before .before .before .before .before .before .before .before .before .before .before .kept .ensures) (c .before .before .before .before .before .before .before .read-at .ensures) (c .before .before .before .before .before .first2 .given .1) .1), c .before .before .before .before .before .before .before .read-at .ensures .full))
+
+read-at-enum-known-second : (t : ℕ) → read-at-lts.Need-enum-known-second (read-at-claims t) (read-at-at t) read-at.Post
+read-at-enum-known-second t c = search needs
+
+read-at-enum-known-second-2 : (t : ℕ) → read-at-lts.Need-enum-known-second-2 (read-at-claims t) (read-at-at t) read-at.Post
+read-at-enum-known-second-2 t c = search needs
+
+read-at-sub-sizes-2 : (t : ℕ) → read-at-lts.Need-sub-sizes-2 (read-at-claims t) (read-at-at t) read-at.Post
+read-at-sub-sizes-2 t c = omega (arith, size₂ (hand t (c .before .before .before .before .before .before .before .before .before .before .before .before .before .before .before .before .before)) (c .before .before .before .before .before .before .before .before .before .before .before .before .before .before .before .before .before .before .before .before .before .before .before .before .before .before .pre .1 .1) (c .before .before .before .before .before .before .before .before .before .before .before .before .before .before .before .before .before .before .before .kept .ensures) (c .before .before .before .before .before .before .before .before .before .before .before .before .read-at .ensures) (c .before .before .before .before .before .before .before .before .before .before .first2 .given .1) (λ e. c .before .before .before .before .before .before .before .before .before .before .before .before .before .before .before .before .if2 .left (c .before .before .before .before .before .before .before .before .before .before .before .before .before .before .before .before .before .before .before .before .shape-of .ensures .1 ∙ e)) (λ e. c .before .before .before .before .before .before .before .before .if3 .left (c .before .before .before .before .before .before .before .before .before .before .before .before .before .before .before .before .before .before .before .before .shape-of .ensures .1 ∙ e)) (c .before .before .before .before .read-at2 .ensures) (c .before .before .second2 .given .1))
+
+read-at-cast-sizes-2 : (t : ℕ) → read-at-lts.Need-cast-sizes-2 (read-at-claims t) (read-at-at t) read-at.Post
+read-at-cast-sizes-2 t c = omega (arith, few₂ (hand t (c .before .before .before .before .before .before .before .before .before .before .before .before .before .before .before .before .before)) (c .before .before .before .before .before .before .before .before .before .before .before .before .before .before .before .before .before .before .before .before .before .before .before .before .before .before .pre .1 .1) (c .before .before .before .before .before .before .before .before .before .before .before .before .before .before .before .before .before .before .before .kept .ensures) (c .before .before .before .before .before .before .before .before .before .before .before .before .read-at .ensures) (c .before .before .before .before .before .before .before .before .before .before .first2 .given .1) (λ e. c .before .before .before .before .before .before .before .before .before .before .before .before .before .before .before .before .if2 .left (c .before .before .before .before .before .before .before .before .before .before .before .before .before .before .before .before .before .before .before .before .shape-of .ensures .1 ∙ e)) (λ e. c .before .before .before .before .before .before .before .before .if3 .left (c .before .before .before .before .before .before .before .before .before .before .before .before .before .before .before .before .before .before .before .before .shape-of .ensures .1 ∙ e)) (c .before .before .before .before .read-at2 .ensures) (c .before .before .second2 .given .1))
+
+read-at-mul-sizes-3 : (t : ℕ) → read-at-lts.Need-mul-sizes-3 (read-at-claims t) (read-at-at t) read-at.Post
+read-at-mul-sizes-3 t c = omega (arith, (passed-test t (c .before .before .before .before .before .before .before .before .before .before .before .before .before .before .before .before .before .before .before .before .before .before .before)) .counted)
+
+read-at-element-write-sizes-3 : (t : ℕ) → read-at-lts.Need-element-write-sizes-3 (read-at-claims t) (read-at-at t) read-at.Post
+read-at-element-write-sizes-3 t c = omega (arith, (passed-test t (c .before .before .before .before .before .before .before .before .before .before .before .before .before .before .before .before .before .before .before .before .before .before .before)) .counted)
+
+read-at-returns-4 : (t : ℕ) → read-at-lts.Need-returns-4 (read-at-claims t) (read-at-at t) read-at.Post
+read-at-returns-4 t c = end-first (hand t (c .before .before .before .before .before .before .before .before)) (c .before .before .before .before .before .before .before .before .before .before .before .before .before .before .before .before .before .pre .1 .1) (c .before .before .before .before .before .before .before .before .before .before .kept .ensures) (c .before .before .before .read-at .ensures) (λ e. c .before .before .before .before .before .before .before .if2 .left (c .before .before .before .before .before .before .before .before .before .before .before .shape-of .ensures .1 ∙ e)) (c .before .first .given .1)
+
+read-at-returns-5 : (t : ℕ) → read-at-lts.Need-returns-5 (read-at-claims t) (read-at-at t) read-at.Post
+read-at-returns-5 t c = end-second (hand t (c .before .before .before .before .before .before .before .before .before .before .before .before .before .before .before .before)) (c .before .before .before .before .before .before .before .before .before .before .before .before .before .before .before .before .before .before .before .before .before .before .before .before .before .pre .1 .1) (c .before .before .before .before .before .before .before .before .before .before .before .before .before .before .before .before .before .before .kept .ensures) (c .before .before .before .before .before .before .before .before .before .before .before .read-at .ensures) (c .before .before .before .before .before .before .before .before .before .first2 .given .1) (λ e. c .before .before .before .before .before .before .before .before .before .before .before .before .before .before .before .if2 .left (c .before .before .before .before .before .before .before .before .before .before .before .before .before .before .before .before .before .before .before .shape-of .ensures .1 ∙ e)) (λ e. c .before .before .before .before .before .before .before .if3 .left (c .before .before .before .before .before .before .before .before .before .before .before .before .before .before .before .before .before .before .before .shape-of .ensures .1 ∙ e)) (c .before .before .before .read-at2 .ensures) (c .before .second .given .1)
+
+read-at-returns-6 : (t : ℕ) → read-at-lts.Need-returns-6 (read-at-claims t) (read-at-at t) read-at.Post
+read-at-returns-6 t c = end-joined (hand t (c .before .before .before .before .before .before .before .before .before .before .before .before .before .before .before .before .before)) (c .before .before .before .before .before .before .before .before .before .before .before .before .before .before .before .before .before .before .before .before .before .before .before .before .before .before .pre .1 .1) (c .before .before .before .before .before .before .before .before .before .before .before .before .before .before .before .before .before .before .before .kept .ensures) (c .before .before .before .before .before .before .before .before .before .before .before .before .read-at .ensures) (c .before .before .before .before .before .before .before .before .before .before .first2 .given .1) (λ e. c .before .before .before .before .before .before .before .before .before .before .before .before .before .before .before .before .if2 .left (c .before .before .before .before .before .before .before .before .before .before .before .before .before .before .before .before .before .before .before .before .shape-of .ensures .1 ∙ e)) (λ e. c .before .before .before .before .before .before .before .before .if3 .left (c .before .before .before .before .before .before .before .before .before .before .before .before .before .before .before .before .before .before .before .before .shape-of .ensures .1 ∙ e)) (c .before .before .before .before .read-at2 .ensures) (c .before .before .second2 .given .1)
+
+pub +read-at-spec : {M : Type 1} → statement M
++read-at-spec = close μ-read-at λ t. read-at-lts.spec (read-at-claims t)
+    (read-at-at t)
+    read-at.Post
+    (read-at-statement-fault-requires t)
+    (read-at-returns t)
+    (read-at-add-two-bytes t)
+    (read-at-two-bytes-requires t)
+    (read-at-add-two-bytes-2 t)
+    (read-at-two-bytes-requires-2 t)
+    (read-at-shape-of-requires t)
+    (read-at-mul-kinds t)
+    (read-at-element-write-kinds t)
+    (read-at-kept-requires t)
+    (read-at-mul-operands t)
+    (read-at-element-write-operands t)
+    (read-at-inner-requires t)
+    (read-at-passed-requires t)
+    (read-at-mul-sizes t)
+    (read-at-element-write-sizes t)
+    (read-at-returns-2 t)
+    (read-at-read-at-requires t)
+    (read-at-enum-known-first t)
+    (read-at-enum-known-first-2 t)
+    (read-at-sub-sizes t)
+    (read-at-cast-sizes t)
+    (read-at-mul-sizes-2 t)
+    (read-at-element-write-sizes-2 t)
+    (read-at-returns-3 t)
+    (read-at-read-at-requires-2 t)
+    (read-at-enum-known-second t)
+    (read-at-enum-known-second-2 t)
+    (read-at-sub-sizes-2 t)
+    (read-at-cast-sizes-2 t)
+    (read-at-mul-sizes-3 t)
+    (read-at-element-write-sizes-3 t)
+    (read-at-returns-4 t)
+    (read-at-returns-5 t)
+    (read-at-returns-6 t)

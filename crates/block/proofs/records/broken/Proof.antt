@@ -1,0 +1,34 @@
+use borrow.Author.Needs.{needs}
+use mathlib.Core.Path.{sym}
+use Rattle.block.proofs.Tests.{few-left, too-short, long-enough}
+use Rattle.block.proofs.records.broken.Statement.{statement}
+use Rattle.block.proofs.records.broken.Tie as tie
+use Rattle.block.proofs.records.broken.Reads as reads
+use Rattle.block.proofs.records.broken.Lts as lts
+use Rattle.block.proofs.records.two_bytes.Reads as two-bytes-reads
+
+add-if1 : tie.Need-add-if1
+add-if1 c = search needs
+
+returns : tie.Need-returns
+returns c = sym (few-left _ _ (c .if1 .taken))
+
+two-bytes-requires : tie.Need-two-bytes-requires
+two-bytes-requires c κs = search needs
+
+cast-length : tie.Need-cast-length
+cast-length c = search needs
+
+returns-2 : tie.Need-returns-2
+returns-2 c = sym (too-short _ _ (c .before .before .if1 .left) (rw (c .before .two-bytes .ensures) at (c .if2 .taken)))
+
+sub-result : tie.Need-sub-result
+sub-result c = search needs
+
+returns-3 : tie.Need-returns-3
+returns-3 c = rw (c .before .two-bytes .ensures) (sym (long-enough _ _ (c .before .before .if1 .left) (rw (c .before .two-bytes .ensures) at (c .if2 .left))))
+
+pub broken-spec : {M : Type 1} → statement M
+broken-spec =
+    tie.close
+    (tie.spec add-if1 returns two-bytes-requires cast-length returns-2 sub-result returns-3)

@@ -1,0 +1,36 @@
+-- `steps::declared` meets its contract, field by field.
+-- Assumes nothing.
+use mathlib.Core.Path.{_≡_, refl, sym, _∙_, ap}
+use Rattle.block.specs.Format.{header}
+use borrow.Author.Needs.{needs}
+use Rattle.block.proofs.steps.declared.Statement.{statement}
+use Rattle.block.proofs.steps.declared.Tie as tie
+use Rattle.block.proofs.steps.declared.Reads as reads
+use Rattle.block.proofs.steps.declared.Lts as lts
+use Rattle.block.proofs.records.two_bytes.Reads as two-bytes-reads
+
+two-bytes-requires : tie.Need-two-bytes-requires
+two-bytes-requires c κs = search needs
+
+two-bytes-requires-2 : tie.Need-two-bytes-requires-2
+two-bytes-requires-2 c κs = search needs
+
+two-bytes-requires-3 : tie.Need-two-bytes-requires-3
+two-bytes-requires-3 c κs = search needs
+
+two-bytes-requires-4 : tie.Need-two-bytes-requires-4
+two-bytes-requires-4 c κs = search needs
+
+returns : tie.Need-returns
+unfolding header
+returns c = λ i. record { version = c .before .before .before .two-bytes .ensures i; inputs = c .before .before .two-bytes2 .ensures i; outputs = c .before .two-bytes3 .ensures i; locals = c .two-bytes4 .ensures i }
+
+pub declared-spec : {M : Type 1} → statement M
+declared-spec =
+    tie.close
+    (tie.spec
+    two-bytes-requires
+    two-bytes-requires-2
+    two-bytes-requires-3
+    two-bytes-requires-4
+    returns)

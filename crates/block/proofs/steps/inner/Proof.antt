@@ -1,0 +1,47 @@
+-- `steps::inner` meets its contract, field by field.
+-- Assumes nothing.
+use mathlib.Core.Path.{_≡_, refl, sym, _∙_, ap}
+use native.Mathlib.Omega.{arith}
+use Prim.Native.Nat.{_+_}
+use Rattle.block.specs.Format.{inside}
+use borrow.Author.Needs.{needs}
+use Rattle.block.proofs.steps.inner.Statement.{statement}
+use Rattle.block.proofs.steps.inner.Tie as tie
+use Rattle.block.proofs.steps.inner.Reads as reads
+use Rattle.block.proofs.steps.inner.Lts as lts
+use Rattle.block.proofs.steps.one_if.Reads as one-if-reads
+use Rattle.block.proofs.steps.with_local.Reads as with-local-reads
+
+one-if-requires : tie.Need-one-if-requires
+one-if-requires c κs = search needs
+
+add-t5 : tie.Need-add-t5
+add-t5 c = omega (arith, c .before .one-if .ensures .1)
+
+one-if-requires-2 : tie.Need-one-if-requires-2
+one-if-requires-2 c κs = search needs
+
+add-t7 : tie.Need-add-t7
+add-t7 c = omega (arith, c .before .one-if2 .ensures .1)
+
+with-local-requires : tie.Need-with-local-requires
+with-local-requires c κs = search needs
+
+sub-t9 : tie.Need-sub-t9
+sub-t9 c = search needs
+
+returns : tie.Need-returns
+unfolding inside
+returns c = (
+  λ i. record {
+    traps = c .before .before .before .before .before .before .args .c .traps + c .before .before .before .before .before .one-if .ensures .0 i;
+    nested = c .before .before .before .before .before .before .args .c .nested + c .before .before .before .one-if2 .ensures .0 i;
+    scope = c .before .with-local .ensures i;
+  },
+  omega arith,
+)
+
+pub inner-spec : {M : Type 1} → statement M
+inner-spec =
+    tie.close
+    (tie.spec one-if-requires add-t5 one-if-requires-2 add-t7 with-local-requires sub-t9 returns)

@@ -1,0 +1,38 @@
+-- `whole::finished` meets its contract: at each return the tests before it passed and the last one failed.
+-- Assumes nothing.
+use native.Mathlib.Omega.{arith}
+use Rattle.block.specs.Format.{lowest-endless}
+use Rattle.block.proofs.Offsets.{tabled-listed}
+use Rattle.block.proofs.Ends.{end-bytes, end-locals, end-loop, end-good, found-some, found-none}
+use borrow.Author.Needs.{needs}
+use Rattle.block.proofs.whole.finished.Statement.{statement}
+use Rattle.block.proofs.whole.finished.Tie as tie
+use Rattle.block.proofs.whole.finished.Reads as reads
+use Rattle.block.proofs.whole.finished.Lts as lts
+use Rattle.block.proofs.loops.lowest_endless.Reads as lowest-endless-reads
+use Rattle.block.proofs.whole.offset_of.Reads as offset-of-reads
+
+returns : tie.Need-returns
+returns c = λ t h. end-bytes _ _ t _ (c .if1 .taken)
+
+returns-2 : tie.Need-returns-2
+returns-2 c = λ t h. end-locals _ _ t _ (c .before .before .before .if1 .left) (c .if2 .taken)
+
+lowest-endless-requires : tie.Need-lowest-endless-requires
+lowest-endless-requires c κs = search needs
+
+offset-of-requires : tie.Need-offset-of-requires
+offset-of-requires c κs = search needs
+
+returns-3 : tie.Need-returns-3
+returns-3 c = λ t h.
+    let n = found-some (lowest-endless t) _ _ (c .before .before .lowest-endless .ensures t h) (c .before .if3 .taken) in
+    end-loop _ _ t _ (c .before .before .before .before .before .before .if1 .left) (c .before .before .before .if2 .left) _ _ n (c .offset-of .ensures t (tabled-listed t h) (omega (arith, c .before .if3 .taken, h .counted)))
+
+returns-4 : tie.Need-returns-4
+returns-4 c = λ t h. end-good _ _ t _ (c .before .before .before .before .before .if1 .left) (c .before .before .if2 .left) (found-none t _ _ (h .counted) (c .before .lowest-endless .ensures t h) (c .if3 .left))
+
+pub finished-spec : {M : Type 1} → statement M
+finished-spec =
+    tie.close
+    (tie.spec returns returns-2 lowest-endless-requires offset-of-requires returns-3 returns-4)
