@@ -1,0 +1,7 @@
+pub mod WordLaws
+pub mod PauseLaws
+pub mod FormLaws
+pub mod Steps
+pub mod ActiveLaws
+pub mod KeptSteps
+pub mod RoundLaws

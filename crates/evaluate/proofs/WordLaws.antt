@@ -1,0 +1,301 @@
+-- Each rule over words is the rule over sets: a law for each way through the functions of words.rt, bit by bit. Assumes nothing.
+use mathlib.Core.Path.{_≡_, refl, fun-ext, sym, ap, ap₂, _∙_, subst, subst⁻¹}
+use mathlib.Core.Bool.{Bool, true, false, not, cond, _&&_, _||_, or-false}
+use mathlib.Core.Option.{Option, none, some}
+use Prim.Native.Nat.{ℕ, zero, suc, _+_, _-_, _*_, _/_, _%_, _^_, _≤_, _<_}
+use native.Mathlib.Nat.{lt-of-lt-of-le}
+use native.Mathlib.Decide.{decLt}
+use native.Mathlib.Omega.{arith}
+use lib.Dec.{T, eqb, ltb, lt→ltb, ltb→lt}
+use lib.Pow.{pow-lt, pow-pos}
+use lib.Bits.{bitAnd, bitOr, bitXor, or-lt}
+use lib.Count.{trailingZeros}
+use Rattle.sets.specs.Numbers.{Numbers, empty, single, union, without, only-if, some-to, maxima, downs, lowest}
+use Rattle.sets.specs.Words.{bits}
+use Rattle.sets.proofs.Members.{is-true, is-false, of-false, ext, same}
+use Rattle.sets.proofs.Maxima.{some-to-in, some-to-out}
+use Rattle.sets.proofs.Counts.{lowest-some, lowest-none}
+use Rattle.sets.proofs.Words.{bits-first, bits-suc, bits-zero, bits-high, bits-and, bits-or, bits-less, bits-ext, bits-not, bits-mask-test, trailing-some, Is, is-set, is-single, is-shift, is-same, is-without}
+use Rattle.rules.specs.Events.{Status, present, absent, unknown, giving}
+use Rattle.rules.specs.MustCan.{opened, must, can, Given, nothing-known, either, caught, both, followed, settled, hidden}
+use Rattle.evaluate.specs.declared.words.Heard.{Heard}
+use Rattle.evaluate.specs.declared.words.Told.{Told}
+use Rattle.evaluate.specs.declared.words.MustCan.{MustCan}
+use Rattle.evaluate.specs.Words.{status-of, event-of, given-of, quiet, loud}
+
+pub given-eq : {a b : Given} → a .signals ≡ b .signals → a .codes ≡ b .codes → a ≡ b
+given-eq p q = λ i. record { signals = p i; codes = q i }
+
+-- One member.
+pub bits-none : bits 0 ≡ empty
+bits-none = ext bits-zero
+
+pub shifted : (w : ℕ) {s : ℕ} → s < w → bits ((1 * 2 ^ s) % 2 ^ w) ≡ single s
+shifted w h = is-set (is-shift w h)
+
+pub power-of : (b s : ℕ) → bits b ≡ single s → b ≡ 2 ^ s
+power-of b s e = is-same (record { bit = λ n. ap (λ (f : Numbers). f n) e }) (is-single s)
+
+not-not : (b : Bool) → not (not b) ≡ b
+not-not true = refl
+not-not false = refl
+
+pub test-bit : (w b s : ℕ) → bits b ≡ single s → not (eqb (bitAnd w b) 0) ≡ bits w s
+test-bit w b s e = ap (λ (x : ℕ). not (eqb (bitAnd w x) 0)) (power-of b s e) ∙ ap not (bits-mask-test w s) ∙ not-not (bits w s)
+
+-- Statuses.
+module _ (e : Heard) (s : ℕ) where
+  pub seen-present : bits (e .present) s ≡ true → present ≡ event-of e s
+  unfolding event-of
+  seen-present p = rw p
+
+  pub seen-absent : bits (e .present) s ≡ false → bits (e .absent) s ≡ true → absent ≡ event-of e s
+  unfolding event-of
+  seen-absent p q = rw (p, q)
+
+  pub seen-unknown : bits (e .present) s ≡ false → bits (e .absent) s ≡ false → unknown ≡ event-of e s
+  unfolding event-of
+  seen-unknown p q = rw (p, q)
+
+pub with-bit : (x b s : ℕ) → bits b ≡ single s → (n : ℕ) → bits (bitOr x b) n ≡ (bits x n || eqb n s)
+with-bit x b s e n = bits-or x b n ∙ ap (λ (f : Numbers). bits x n || f n) e
+
+pub without-bit : (x b s : ℕ) → bits b ≡ single s → (n : ℕ) → bits (bitAnd x (bitXor x b)) n ≡ (bits x n && not (eqb n s))
+without-bit x b s e n = bits-less x b n ∙ ap (λ (f : Numbers). bits x n && not (f n)) e
+
+now-present : (x y z : Bool) → status-of (x || z) y ≡ cond z present (status-of x y)
+now-present true y true = refl
+now-present true y false = refl
+now-present false y true = refl
+now-present false y false = refl
+
+now-absent : (x y z : Bool) → status-of (x && not z) (y || z) ≡ cond z absent (status-of x y)
+now-absent true true true = refl
+now-absent true false true = refl
+now-absent true y false = refl
+now-absent false true true = refl
+now-absent false false true = refl
+now-absent false true false = refl
+now-absent false false false = refl
+
+now-unknown : (x y z : Bool) → status-of (x && not z) (y && not z) ≡ cond z unknown (status-of x y)
+now-unknown true true true = refl
+now-unknown true false true = refl
+now-unknown true y false = refl
+now-unknown false true true = refl
+now-unknown false false true = refl
+now-unknown false true false = refl
+now-unknown false false false = refl
+
+module _ (e : Heard) (b s : ℕ) (one : bits b ≡ single s) where
+  pub give-present : event-of (record { present = bitOr (e .present) b; absent = e .absent }) ≡ giving (event-of e) s present
+  unfolding event-of
+  give-present = fun-ext (λ n. ap (λ (x : Bool). status-of x (bits (e .absent) n)) (with-bit (e .present) b s one n) ∙ now-present (bits (e .present) n) (bits (e .absent) n) (eqb n s))
+
+  pub give-absent : event-of (record { present = bitAnd (e .present) (bitXor (e .present) b); absent = bitOr (e .absent) b }) ≡ giving (event-of e) s absent
+  unfolding event-of
+  give-absent = fun-ext (λ n. ap₂ status-of (without-bit (e .present) b s one n) (with-bit (e .absent) b s one n) ∙ now-absent (bits (e .present) n) (bits (e .absent) n) (eqb n s))
+
+  pub give-unknown : event-of (record { present = bitAnd (e .present) (bitXor (e .present) b); absent = bitAnd (e .absent) (bitXor (e .absent) b) }) ≡ giving (event-of e) s unknown
+  unfolding event-of
+  give-unknown = fun-ext (λ n. ap₂ status-of (without-bit (e .present) b s one n) (without-bit (e .absent) b s one n) ∙ now-unknown (bits (e .present) n) (bits (e .absent) n) (eqb n s))
+
+-- What is given at once.
+pub quiet-is : (b c : ℕ) → bits b ≡ single c → given-of (record { signals = 0; codes = b }) ≡ quiet c
+unfolding given-of
+quiet-is b c e = given-eq bits-none e
+
+pub loud-is : (b s : ℕ) → bits b ≡ single s → given-of (record { signals = b; codes = 1 }) ≡ loud s
+unfolding given-of
+loud-is b s e = given-eq e (is-set (is-single 0))
+
+pub nothing-is : given-of (record { signals = 0; codes = 0 }) ≡ nothing-known
+unfolding given-of
+nothing-is = given-eq bits-none bits-none
+
+pub union-is : (x y : ℕ) → bits (bitOr x y) ≡ union (bits x) (bits y)
+union-is x y = ext (bits-or x y)
+
+pub either-is : (a b : Told) → given-of (record { signals = bitOr (a .signals) (b .signals); codes = bitOr (a .codes) (b .codes) }) ≡ either (given-of a) (given-of b)
+unfolding given-of
+either-is a b = given-eq (union-is (a .signals) (b .signals)) (union-is (a .codes) (b .codes))
+
+-- Codes down.
+same-first : (x y : ℕ) → x % 2 ≡ y % 2 → bits x 0 ≡ bits y 0
+same-first x y e = bits-first x ∙ ap (λ (z : ℕ). eqb z 1) e ∙ sym (bits-first y)
+
+pub lowered-digit : (c : ℕ) → bitOr (c % 2) (c / 4 % 2) < 2
+lowered-digit c = or-lt 1 (c % 2) (c / 4 % 2) (omega arith) (omega arith)
+
+pub lowered-is : (c : ℕ) → bits (c / 8 * 4 + c / 2 % 2 * 2 + bitOr (c % 2) (c / 4 % 2)) ≡ downs (bits c)
+unfolding downs
+lowered-is c = ext go
+  where
+    z : ℕ
+    z = bitOr (c % 2) (c / 4 % 2)
+
+    small : z < 2
+    small = lowered-digit c
+
+    r : ℕ
+    r = c / 8 * 4 + c / 2 % 2 * 2 + z
+
+    third : bits c 2 ≡ bits (c / 4) 0
+    third = bits-suc c 1 ∙ bits-suc (c / 2) 0 ∙ ap (λ (x : ℕ). bits x 0) (omega arith)
+
+    first : bits r 0 ≡ (bits c 0 || bits c 2)
+    first =
+        same-first r z (omega (arith, small)) ∙ bits-or (c % 2) (c / 4 % 2) 0
+        ∙ ap₂ (λ (x y : Bool). x || y) (same-first (c % 2) c (omega arith)) (same-first (c / 4 % 2) (c / 4) (omega arith) ∙ sym third)
+
+    next : bits r 1 ≡ bits c 1
+    next = bits-suc r 0 ∙ same-first (r / 2) (c / 2) (omega (arith, small)) ∙ sym (bits-suc c 0)
+
+    go : (n : ℕ) → bits r n ≡ downs (bits c) n
+    go zero = first
+    go (suc zero) = next
+    go (suc (suc n)) =
+        bits-suc r (suc n) ∙ bits-suc (r / 2) n ∙ ap (λ (x : ℕ). bits x n) (omega (arith, small))
+        ∙ sym (bits-suc (c / 2 / 2) n) ∙ sym (bits-suc (c / 2) (suc n)) ∙ sym (bits-suc c (suc (suc n)))
+
+-- From the lowest code on.
+lowest-zero : (c : ℕ) → c < 2 ^ 32 → lowest 32 (bits c) ≡ none → c ≡ 0
+lowest-zero c h e = bits-ext (λ n. go n (decLt n 32) ∙ sym (bits-zero n))
+  where
+    go : (n : ℕ) → Dec (n < 32) → bits c n ≡ false
+    go n (yes l) = is-false (bits c n) (lowest-none 32 (bits c) e n l)
+    go n (no l) = bits-high 32 h (omega arith)
+
+pub lowest-there : (c : ℕ) → c < 2 ^ 32 → (c ≡ 0 → ⊥) → lowest 32 (bits c) ≡ some (trailingZeros 32 c)
+lowest-there c h f = go (lowest 32 (bits c)) refl
+  where
+    go : (o : Option ℕ) → lowest 32 (bits c) ≡ o → lowest 32 (bits c) ≡ some (trailingZeros 32 c)
+    go none e = absurd (f (lowest-zero c h e))
+    go (some k) e = e ∙ ap some (sym (trailing-some 32 c e))
+
+pub trailing-lt : (c : ℕ) → c < 2 ^ 32 → (c ≡ 0 → ⊥) → trailingZeros 32 c < 32
+trailing-lt c h f = lowest-some 32 (bits c) (lowest-there c h f) .0
+
+pub shifted-pos : (c : ℕ) → c < 2 ^ 32 → (c ≡ 0 → ⊥) → 1 ≤ (1 * 2 ^ trailingZeros 32 c) % 2 ^ 32
+shifted-pos c h f = omega (arith, power-of ((1 * 2 ^ trailingZeros 32 c) % 2 ^ 32) (trailingZeros 32 c) (shifted 32 (trailing-lt c h f)), pow-pos (trailingZeros 32 c))
+
+pub none-from : (c : ℕ) → c ≡ 0 → (n : ℕ) → bits 0 n ≡ (ltb n 32 && some-to (bits c) n)
+none-from c e n = bits-zero n ∙ sym (go (ltb n 32) (is-false (some-to (bits c) n) clear))
+  where
+    clear : T (some-to (bits c) n) → ⊥
+    clear t = let r = some-to-out (bits c) n t in of-false (ap (λ (x : ℕ). bits x (r .0)) e ∙ bits-zero (r .0)) (r .2)
+
+    go : (b : Bool) {x : Bool} → x ≡ false → (b && x) ≡ false
+    go true q = q
+    go false q = refl
+
+pub below-power : (k n : ℕ) → bits (2 ^ k - 1) n ≡ ltb n k
+below-power k n = ap (λ (x : ℕ). bits x n) (omega arith) ∙ bits-not k 0 n (pow-pos k) ∙ ap (λ (b : Bool). ltb n k && not b) (bits-zero n) ∙ go (ltb n k)
+  where
+    go : (b : Bool) → (b && true) ≡ b
+    go true = refl
+    go false = refl
+
+pub all-from : (c : ℕ) → c < 2 ^ 32 → (c ≡ 0 → ⊥)
+    → (n : ℕ) → bits (4294967295 - ((1 * 2 ^ trailingZeros 32 c) % 2 ^ 32 - 1)) n ≡ (ltb n 32 && some-to (bits c) n)
+all-from c h f n =
+    ap (λ (x : ℕ). bits (4294967295 - (x - 1)) n) (power-of ((1 * 2 ^ k) % 2 ^ 32) k (shifted 32 k-lt))
+    ∙ bits-not 32 (2 ^ k - 1) n (omega (arith, pow-lt k-lt, pow-pos k)) ∙ ap (λ (b : Bool). ltb n 32 && b) (ap not (below-power k n) ∙ above)
+  where
+    k : ℕ
+    k = trailingZeros 32 c
+
+    k-lt : k < 32
+    k-lt = trailing-lt c h f
+
+    low : (k < 32) × T (bits c k) × ((j : ℕ) → j < k → T (bits c j) → ⊥)
+    low = lowest-some 32 (bits c) (lowest-there c h f)
+
+    above : not (ltb n k) ≡ some-to (bits c) n
+    above = go (decLt n k)
+      where
+        go : Dec (n < k) → not (ltb n k) ≡ some-to (bits c) n
+        go (yes l) =
+            ap not (is-true (ltb n k) (lt→ltb n k l))
+            ∙ sym (is-false (some-to (bits c) n) (λ t. let r = some-to-out (bits c) n t in low .2 (r .0) (omega (arith, r .1)) (r .2)))
+        go (no l) =
+            ap not (is-false (ltb n k) (λ t. l (ltb→lt n k t)))
+            ∙ sym (is-true (some-to (bits c) n) (some-to-in (bits c) n (omega arith) (low .1)))
+
+-- The larger of two codes.
+absorbed : (a n : ℕ) (x : Bool) → a < 2 ^ 32 → (bits a n && (ltb n 32 && x)) ≡ (bits a n && x)
+absorbed a n x h = go (decLt n 32)
+  where
+    go : Dec (n < 32) → (bits a n && (ltb n 32 && x)) ≡ (bits a n && x)
+    go (yes l) = ap (λ (b : Bool). bits a n && (b && x)) (is-true (ltb n 32) (lt→ltb n 32 l))
+    go (no l) =
+        let e = bits-high 32 {a = a} {n = n} h (omega arith) in
+        ap (λ (b : Bool). b && (ltb n 32 && x)) e ∙ sym (ap (λ (b : Bool). b && x) e)
+
+pub larger-is : (a b u v : ℕ) → a < 2 ^ 32 → b < 2 ^ 32 → ((n : ℕ) → bits u n ≡ (ltb n 32 && some-to (bits b) n)) → ((n : ℕ) → bits v n ≡ (ltb n 32 && some-to (bits a) n))
+    → bits (bitOr (bitAnd a u) (bitAnd b v)) ≡ maxima (bits a) (bits b)
+unfolding maxima
+larger-is a b u v h l f g = ext go
+  where
+    side : (x y w n : ℕ) → x < 2 ^ 32 → ((m : ℕ) → bits w m ≡ (ltb m 32 && some-to (bits y) m)) → bits (bitAnd x w) n ≡ (bits x n && some-to (bits y) n)
+    side x y w n k q = bits-and x w n ∙ ap (λ (z : Bool). bits x n && z) (q n) ∙ absorbed x n (some-to (bits y) n) k
+
+    go : (n : ℕ) → bits (bitOr (bitAnd a u) (bitAnd b v)) n ≡ (bits a n && some-to (bits b) n || bits b n && some-to (bits a) n)
+    go n = bits-or (bitAnd a u) (bitAnd b v) n ∙ ap₂ (λ (p q : Bool). p || q) (side a b u n h f) (side b a v n l g)
+
+pub caught-is : (a : Told) (w : ℕ) → bits w ≡ downs (bits (a .codes)) → given-of (record { signals = a .signals; codes = w }) ≡ caught (given-of a)
+unfolding given-of
+caught-is a w e = given-eq refl e
+
+pub both-is : (a b : Told) (w : ℕ) → bits w ≡ maxima (bits (a .codes)) (bits (b .codes))
+    → given-of (record { signals = bitOr (a .signals) (b .signals); codes = w }) ≡ both (given-of a) (given-of b)
+unfolding given-of
+both-is a b w e = given-eq (union-is (a .signals) (b .signals)) e
+
+-- A sequence.
+or-empty : (f : Numbers) → f ≡ union f (only-if false empty)
+or-empty f = ext (λ n. sym (or-false (f n)))
+
+rest-is : (a : ℕ) → bits (bitAnd a (bitXor a 1)) ≡ without 0 (bits a)
+rest-is a = ext (λ n. without-bit a 1 0 (is-set (is-single 0)) n)
+
+pub goes-on : (a b : ℕ) → bits a 0 ≡ true → bits (bitOr (bitAnd a (bitXor a 1)) b) ≡ union (without 0 (bits a)) (only-if (bits a 0) (bits b))
+goes-on a b e = union-is (bitAnd a (bitXor a 1)) b ∙ ap₂ (λ (x : Numbers) (z : Bool). union x (only-if z (bits b))) (rest-is a) (sym e)
+
+pub stops : (a b : ℕ) → bits a 0 ≡ false → bits (bitAnd a (bitXor a 1)) ≡ union (without 0 (bits a)) (only-if (bits a 0) (bits b))
+stops a b e = rest-is a ∙ or-empty (without 0 (bits a)) ∙ ap (λ (z : Bool). union (without 0 (bits a)) (only-if z (bits b))) (sym e)
+
+module _ (a b : Told) (w : ℕ) (codes : bits w ≡ union (without 0 (bits (a .codes))) (only-if (bits (a .codes) 0) (bits (b .codes)))) where
+  pub followed-on : bits (a .codes) 0 ≡ true → given-of (record { signals = bitOr (a .signals) (b .signals); codes = w }) ≡ followed (given-of a) (given-of b)
+  unfolding given-of
+  followed-on e = given-eq (union-is (a .signals) (b .signals) ∙ ap (λ (z : Bool). union (bits (a .signals)) (only-if z (bits (b .signals)))) (sym e)) codes
+
+  pub followed-not : bits (a .codes) 0 ≡ false → given-of (record { signals = a .signals; codes = w }) ≡ followed (given-of a) (given-of b)
+  unfolding given-of
+  followed-not e = given-eq (or-empty (bits (a .signals)) ∙ ap (λ (z : Bool). union (bits (a .signals)) (only-if z (bits (b .signals)))) (sym e)) codes
+
+-- A local.
+pub hidden-is : (a : Told) (b s : ℕ) → bits b ≡ single s → given-of (record { signals = bitAnd (a .signals) (bitXor (a .signals) b); codes = a .codes }) ≡ hidden s (given-of a)
+unfolding given-of
+hidden-is a b s one = given-eq (ext (without-bit (a .signals) b s one)) refl
+
+module _ (a : MustCan) (s : ℕ) where
+  pub sure-present : bits (a .must .signals) s ≡ true → present ≡ settled must s (given-of (a .must)) (given-of (a .can))
+  unfolding given-of
+  sure-present p = rw p
+
+  pub sure-unknown : bits (a .must .signals) s ≡ false → bits (a .can .signals) s ≡ true → unknown ≡ settled must s (given-of (a .must)) (given-of (a .can))
+  unfolding given-of
+  sure-unknown p q = rw (p, q)
+
+  pub sure-absent : bits (a .must .signals) s ≡ false → bits (a .can .signals) s ≡ false → absent ≡ settled must s (given-of (a .must)) (given-of (a .can))
+  unfolding given-of
+  sure-absent p q = rw (p, q)
+
+  pub open-unknown : bits (a .can .signals) s ≡ true → unknown ≡ settled (can opened) s (given-of (a .must)) (given-of (a .can))
+  unfolding given-of
+  open-unknown q = rw q
+
+  pub open-absent : bits (a .can .signals) s ≡ false → absent ≡ settled (can opened) s (given-of (a .must)) (given-of (a .can))
+  unfolding given-of
+  open-absent q = rw q

@@ -1,0 +1,30 @@
+use Rattle.evaluate.proofs.ActiveLaws.{one-held, one-idle}
+use Rattle.evaluate.specs.Words.{pauses-of}
+use mathlib.Core.Path.{sym, _∙_}
+use borrow.Author.Needs.{needs}
+use Rattle.evaluate.proofs.active.held_one.Statement.{statement}
+use Rattle.evaluate.proofs.active.held_one.Tie as tie
+use Rattle.evaluate.proofs.active.held_one.Reads as reads
+use Rattle.evaluate.proofs.active.held_one.Lts as lts
+use Rattle.evaluate.proofs.pauses.has_pause.Reads as has-pause-reads
+use Rattle.evaluate.proofs.pauses.no_pause.Reads as no-pause-reads
+use Rattle.evaluate.proofs.pauses.one_pause.Reads as one-pause-reads
+
+has-pause-requires : tie.Need-has-pause-requires
+has-pause-requires c κs = search needs
+
+one-pause-requires : tie.Need-one-pause-requires
+one-pause-requires c κs = search needs
+
+no-pause-requires : tie.Need-no-pause-requires
+no-pause-requires c κs = search needs
+
+returns : tie.Need-returns
+returns c = one-held (pauses-of (c .before .before .before .args .set)) (c .before .before .before .args .n) (sym (c .before .before .has-pause .ensures) ∙ c .before .if1 .taken) (c .one-pause .ensures)
+
+returns-2 : tie.Need-returns-2
+returns-2 c = c .no-pause .ensures ∙ one-idle (pauses-of (c .before .before .before .args .set)) (c .before .before .before .args .n) (sym (c .before .before .has-pause .ensures) ∙ c .before .if1 .left)
+
+pub held-one-spec : {M : Type 1} → statement M
+held-one-spec =
+    tie.close (tie.spec has-pause-requires one-pause-requires no-pause-requires returns returns-2)

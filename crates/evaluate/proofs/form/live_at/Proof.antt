@@ -1,0 +1,18 @@
+use native.Mathlib.Omega.{arith}
+use borrow.Author.Needs.{needs}
+use Rattle.evaluate.proofs.form.live_at.Statement.{statement}
+use Rattle.evaluate.proofs.form.live_at.Tie as tie
+use Rattle.evaluate.proofs.form.live_at.Reads as reads
+use Rattle.evaluate.proofs.form.live_at.Lts as lts
+
+element-copy-out-result : tie.Need-element-copy-out-result
+element-copy-out-result c = search needs
+
+returns : tie.Need-returns
+returns c = search needs
+
+returns-2 : tie.Need-returns-2
+returns-2 c = λ h. absurd (omega arith)
+
+pub live-at-spec : {M : Type 1} → statement M
+live-at-spec = tie.close (tie.spec element-copy-out-result returns returns-2)

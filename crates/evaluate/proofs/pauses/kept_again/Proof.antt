@@ -1,0 +1,17 @@
+use Rattle.evaluate.proofs.KeptSteps.{kept-of}
+use mathlib.Core.Path.{refl}
+use borrow.Author.Needs.{needs}
+use Rattle.evaluate.proofs.pauses.kept_again.Statement.{statement}
+use Rattle.evaluate.proofs.pauses.kept_again.Tie as tie
+use Rattle.evaluate.proofs.pauses.kept_again.Reads as reads
+use Rattle.evaluate.proofs.pauses.kept_again.Lts as lts
+use Rattle.evaluate.proofs.pauses.kept_with.Reads as kept-with-reads
+
+kept-with-requires : tie.Need-kept-with-requires
+kept-with-requires c κs = search needs
+
+returns : tie.Need-returns
+returns c = kept-of (c .kept-with .ensures .0) (c .kept-with .ensures .1) refl refl
+
+pub kept-again-spec : {M : Type 1} → statement M
+kept-again-spec = tie.close (tie.spec kept-with-requires returns)

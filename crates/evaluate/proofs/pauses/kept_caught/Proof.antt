@@ -1,0 +1,21 @@
+use Rattle.evaluate.proofs.KeptSteps.{kept-of}
+use mathlib.Core.Path.{refl}
+use borrow.Author.Needs.{needs}
+use Rattle.evaluate.proofs.pauses.kept_caught.Statement.{statement}
+use Rattle.evaluate.proofs.pauses.kept_caught.Tie as tie
+use Rattle.evaluate.proofs.pauses.kept_caught.Reads as reads
+use Rattle.evaluate.proofs.pauses.kept_caught.Lts as lts
+use Rattle.evaluate.proofs.pauses.kept_with.Reads as kept-with-reads
+use Rattle.evaluate.proofs.words.lowered.Reads as lowered-reads
+
+lowered-requires : tie.Need-lowered-requires
+lowered-requires c κs = search needs
+
+kept-with-requires : tie.Need-kept-with-requires
+kept-with-requires c κs = search needs
+
+returns : tie.Need-returns
+returns c = kept-of (c .kept-with .ensures .0) (c .kept-with .ensures .1) (c .before .lowered .ensures) refl
+
+pub kept-caught-spec : {M : Type 1} → statement M
+kept-caught-spec = tie.close (tie.spec lowered-requires kept-with-requires returns)

@@ -1,0 +1,18 @@
+use borrow.Author.Needs.{needs}
+use Rattle.evaluate.proofs.walk.hidden.Statement.{statement}
+use Rattle.evaluate.proofs.walk.hidden.Tie as tie
+use Rattle.evaluate.proofs.walk.hidden.Reads as reads
+use Rattle.evaluate.proofs.walk.hidden.Lts as lts
+use Rattle.evaluate.proofs.words.hidden_told.Reads as hidden-told-reads
+
+hidden-told-requires : tie.Need-hidden-told-requires
+hidden-told-requires c κs = search needs
+
+hidden-told-requires-2 : tie.Need-hidden-told-requires-2
+hidden-told-requires-2 c κs = search needs
+
+returns : tie.Need-returns
+returns c = λ h. record { in-must = c .before .hidden-told .ensures h; in-can = c .hidden-told2 .ensures h }
+
+pub hidden-spec : {M : Type 1} → statement M
+hidden-spec = tie.close (tie.spec hidden-told-requires hidden-told-requires-2 returns)

@@ -1,0 +1,19 @@
+use Rattle.evaluate.proofs.WordLaws.{shifted}
+use native.Mathlib.Omega.{arith}
+use borrow.Author.Needs.{needs}
+use Rattle.evaluate.proofs.words.bit.Statement.{statement}
+use Rattle.evaluate.proofs.words.bit.Tie as tie
+use Rattle.evaluate.proofs.words.bit.Reads as reads
+use Rattle.evaluate.proofs.words.bit.Lts as lts
+
+shl-result : tie.Need-shl-result
+shl-result c = search needs
+
+returns : tie.Need-returns
+returns c = λ h. shifted 64 h
+
+returns-2 : tie.Need-returns-2
+returns-2 c = λ h. absurd (omega arith)
+
+pub bit-spec : {M : Type 1} → statement M
+bit-spec = tie.close (tie.spec shl-result returns returns-2)

@@ -1,0 +1,16 @@
+use Rattle.evaluate.proofs.WordLaws.{both-is}
+use borrow.Author.Needs.{needs}
+use Rattle.evaluate.proofs.words.both_told.Statement.{statement}
+use Rattle.evaluate.proofs.words.both_told.Tie as tie
+use Rattle.evaluate.proofs.words.both_told.Reads as reads
+use Rattle.evaluate.proofs.words.both_told.Lts as lts
+use Rattle.evaluate.proofs.words.larger.Reads as larger-reads
+
+larger-requires : tie.Need-larger-requires
+larger-requires c κs = search needs
+
+returns : tie.Need-returns
+returns c = both-is (c .before .before .before .args .a) (c .before .before .before .args .b) (c .before .before .larger .result) (c .before .before .larger .ensures)
+
+pub both-told-spec : {M : Type 1} → statement M
+both-told-spec = tie.close (tie.spec larger-requires returns)

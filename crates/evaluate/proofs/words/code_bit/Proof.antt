@@ -1,0 +1,19 @@
+use Rattle.evaluate.proofs.WordLaws.{shifted}
+use native.Mathlib.Omega.{arith}
+use borrow.Author.Needs.{needs}
+use Rattle.evaluate.proofs.words.code_bit.Statement.{statement}
+use Rattle.evaluate.proofs.words.code_bit.Tie as tie
+use Rattle.evaluate.proofs.words.code_bit.Reads as reads
+use Rattle.evaluate.proofs.words.code_bit.Lts as lts
+
+shl-result : tie.Need-shl-result
+shl-result c = search needs
+
+returns : tie.Need-returns
+returns c = λ h. shifted 32 h
+
+returns-2 : tie.Need-returns-2
+returns-2 c = λ h. absurd (omega arith)
+
+pub code-bit-spec : {M : Type 1} → statement M
+code-bit-spec = tie.close (tie.spec shl-result returns returns-2)

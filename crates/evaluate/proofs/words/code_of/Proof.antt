@@ -1,0 +1,20 @@
+use Rattle.rules.specs.Statements.{code}
+use mathlib.Core.Path.{refl}
+use borrow.Author.Needs.{needs}
+use Rattle.evaluate.proofs.words.code_of.Statement.{statement}
+use Rattle.evaluate.proofs.words.code_of.Tie as tie
+use Rattle.evaluate.proofs.words.code_of.Reads as reads
+use Rattle.evaluate.proofs.words.code_of.Lts as lts
+
+cast-t2 : tie.Need-cast-t2
+cast-t2 c = search needs
+
+add-t3 : tie.Need-add-t3
+add-t3 c = search needs
+
+returns : tie.Need-returns
+unfolding code
+returns c = refl
+
+pub code-of-spec : {M : Type 1} → statement M
+code-of-spec = tie.close (tie.spec cast-t2 add-t3 returns)

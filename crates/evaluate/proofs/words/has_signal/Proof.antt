@@ -1,0 +1,16 @@
+use Rattle.evaluate.proofs.WordLaws.{test-bit}
+use borrow.Author.Needs.{needs}
+use Rattle.evaluate.proofs.words.has_signal.Statement.{statement}
+use Rattle.evaluate.proofs.words.has_signal.Tie as tie
+use Rattle.evaluate.proofs.words.has_signal.Reads as reads
+use Rattle.evaluate.proofs.words.has_signal.Lts as lts
+use Rattle.evaluate.proofs.words.bit.Reads as bit-reads
+
+bit-requires : tie.Need-bit-requires
+bit-requires c κs = search needs
+
+returns : tie.Need-returns
+returns c = λ h. test-bit (c .before .args .w) (c .bit .result) (c .before .args .s) (c .bit .ensures h)
+
+pub has-signal-spec : {M : Type 1} → statement M
+has-signal-spec = tie.close (tie.spec bit-requires returns)

@@ -1,0 +1,16 @@
+use Rattle.evaluate.proofs.WordLaws.{hidden-is}
+use borrow.Author.Needs.{needs}
+use Rattle.evaluate.proofs.words.hidden_told.Statement.{statement}
+use Rattle.evaluate.proofs.words.hidden_told.Tie as tie
+use Rattle.evaluate.proofs.words.hidden_told.Reads as reads
+use Rattle.evaluate.proofs.words.hidden_told.Lts as lts
+use Rattle.evaluate.proofs.words.bit.Reads as bit-reads
+
+bit-requires : tie.Need-bit-requires
+bit-requires c κs = search needs
+
+returns : tie.Need-returns
+returns c = λ h. hidden-is (c .before .before .before .args .a) (c .before .before .bit .result) (c .before .before .before .args .s) (c .before .before .bit .ensures h)
+
+pub hidden-told-spec : {M : Type 1} → statement M
+hidden-told-spec = tie.close (tie.spec bit-requires returns)

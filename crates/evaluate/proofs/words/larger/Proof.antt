@@ -1,0 +1,19 @@
+use Rattle.evaluate.proofs.WordLaws.{larger-is}
+use borrow.Author.Needs.{needs}
+use Rattle.evaluate.proofs.words.larger.Statement.{statement}
+use Rattle.evaluate.proofs.words.larger.Tie as tie
+use Rattle.evaluate.proofs.words.larger.Reads as reads
+use Rattle.evaluate.proofs.words.larger.Lts as lts
+use Rattle.evaluate.proofs.words.from_lowest.Reads as from-lowest-reads
+
+from-lowest-requires : tie.Need-from-lowest-requires
+from-lowest-requires c κs = search needs
+
+from-lowest-requires-2 : tie.Need-from-lowest-requires-2
+from-lowest-requires-2 c κs = search needs
+
+returns : tie.Need-returns
+returns c = larger-is (c .before .before .args .a) (c .before .before .args .b) (c .before .from-lowest .result) (c .from-lowest2 .result) (c .before .before .fits .a .fits) (c .before .before .fits .b .fits) (c .before .from-lowest .ensures) (c .from-lowest2 .ensures)
+
+pub larger-spec : {M : Type 1} → statement M
+larger-spec = tie.close (tie.spec from-lowest-requires from-lowest-requires-2 returns)

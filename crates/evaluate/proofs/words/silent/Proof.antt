@@ -1,0 +1,16 @@
+use Rattle.evaluate.proofs.WordLaws.{quiet-is}
+use borrow.Author.Needs.{needs}
+use Rattle.evaluate.proofs.words.silent.Statement.{statement}
+use Rattle.evaluate.proofs.words.silent.Tie as tie
+use Rattle.evaluate.proofs.words.silent.Reads as reads
+use Rattle.evaluate.proofs.words.silent.Lts as lts
+use Rattle.evaluate.proofs.words.code_bit.Reads as code-bit-reads
+
+code-bit-requires : tie.Need-code-bit-requires
+code-bit-requires c κs = search needs
+
+returns : tie.Need-returns
+returns c = λ h. quiet-is (c .code-bit .result) (c .before .args .c .0) (c .code-bit .ensures h)
+
+pub silent-spec : {M : Type 1} → statement M
+silent-spec = tie.close (tie.spec code-bit-requires returns)

@@ -1,0 +1,57 @@
+-- What the walks over the table give. Assumes nothing.
+use mathlib.Core.Path.{_≡_}
+use mathlib.Core.Bool.{Bool}
+use mathlib.Core.List.{List}
+use Prim.Native.Nat.{ℕ}
+use Rattle.sets.specs.Numbers.{Numbers}
+use Rattle.rules.specs.Events.{Event}
+use Rattle.rules.specs.Instant.{Step}
+use Rattle.rules.specs.States.{kept}
+use Rattle.sets.specs.Words.{bits}
+use Rattle.rules.specs.MustCan.{plus, must, can, Question, nothing-known, either, caught, both, followed, hidden, gives}
+use Rattle.block.specs.Table.{Table}
+use Rattle.evaluate.specs.declared.words.Heard.{Heard}
+use Rattle.evaluate.specs.declared.words.Told.{Told}
+use Rattle.evaluate.specs.declared.words.MustCan.{MustCan}
+use Rattle.evaluate.specs.declared.pauses.Kept.{Kept}
+use Rattle.evaluate.specs.declared.form.Form.{Form}
+use Rattle.evaluate.specs.Words.{event-of, given-of, pauses-of}
+use Rattle.evaluate.specs.Forms.{Live, Shows}
+
+-- Each rule, for must and for can.
+pub record Doubted (r : MustCan) (p q : Told) : Type 0 where
+  pub in-must : given-of (r .must) ≡ nothing-known
+  pub in-can : given-of (r .can) ≡ either (given-of p) (given-of q)
+
+pub record Caught (r a : MustCan) : Type 0 where
+  pub in-must : given-of (r .must) ≡ caught (given-of (a .must))
+  pub in-can : given-of (r .can) ≡ caught (given-of (a .can))
+
+pub record Beside (r a b : MustCan) : Type 0 where
+  pub in-must : given-of (r .must) ≡ both (given-of (a .must)) (given-of (b .must))
+  pub in-can : given-of (r .can) ≡ both (given-of (a .can)) (given-of (b .can))
+
+pub record Followed (r a : MustCan) (m c : Told) : Type 0 where
+  pub in-must : given-of (r .must) ≡ followed (given-of (a .must)) (given-of m)
+  pub in-can : given-of (r .can) ≡ followed (given-of (a .can)) (given-of c)
+
+pub record Hidden (r : MustCan) (s : ℕ) (a : MustCan) : Type 0 where
+  pub in-must : given-of (r .must) ≡ hidden s (given-of (a .must))
+  pub in-can : given-of (r .can) ≡ hidden s (given-of (a .can))
+
+-- The words are what the question gives, for whatever the form shows; a part is the form `Same`.
+pub record Gives (k : Question) (tab : Table) (live : List Bool) (f : Form) (e : Heard) (x : Told) : Type 0 where
+  pub at : (A : Numbers) → Live tab A live → (p : Step) → Shows tab A f p → given-of x ≡ gives k p (event-of e)
+
+-- Must and can under plus.
+pub record Walked (tab : Table) (live : List Bool) (f : Form) (e : Heard) (r : MustCan) : Type 0 where
+  pub in-must : Gives must tab live f e (r .must)
+  pub in-can : Gives (can plus) tab live f e (r .can)
+
+-- Must's codes and the pauses kept, of a step at an event; A is active.
+pub record KeptAs (r : Kept) (p : Step) (E : Event) : Type 0 where
+  pub codes-are : bits (r .codes) ≡ gives must p E .codes
+  pub pauses-are : pauses-of (r .pauses) ≡ kept p E
+
+pub record Keeping (A : Numbers) (tab : Table) (live : List Bool) (f : Form) (e : Heard) (r : Kept) : Type 0 where
+  pub at : Live tab A live → (p : Step) → Shows tab A f p → KeptAs r p (event-of e)

@@ -1,0 +1,53 @@
+-- What the evaluator's words stand for: an event is two words, what must or can gives is a word of signals and one of codes, a set of
+-- pauses is two words. Assumes nothing.
+use mathlib.Core.Path.{_≡_}
+use mathlib.Core.Bool.{Bool, true, false, cond}
+use mathlib.Core.List.{List}
+use Prim.Native.Nat.{ℕ, _-_}
+use lib.Dec.{ltb}
+use lib.ListN.{getD}
+use Rattle.sets.specs.Numbers.{Numbers, empty, single, only-if}
+use Rattle.sets.specs.Words.{bits}
+use Rattle.rules.specs.Events.{Status, present, absent, unknown, Event}
+use Rattle.rules.specs.MustCan.{Given}
+use Rattle.evaluate.specs.declared.words.Heard.{Heard}
+use Rattle.evaluate.specs.declared.words.Told.{Told}
+use Rattle.evaluate.specs.declared.pauses.Kept.{Kept}
+use Rattle.evaluate.specs.declared.words.Seen.{Seen}
+use Rattle.evaluate.specs.declared.words.Seen.the-variants.{Present, Absent, Unknown}
+
+-- A signal's status from its two bits.
+abbrev pub status-of : Bool → Bool → Status
+status-of true a = present
+status-of false true = absent
+status-of false false = unknown
+
+-- The event of two words.
+unfoldable pub event-of : Heard → Event
+event-of e n = status-of (bits (e .present) n) (bits (e .absent) n)
+
+-- A status of the code.
+abbrev pub seen-as : Seen → Status
+seen-as Present = present
+seen-as Absent = absent
+seen-as Unknown = unknown
+
+-- The signals and the codes of two words.
+unfoldable pub given-of : Told → Given
+given-of g = record { signals = bits (g .signals); codes = bits (g .codes) }
+
+-- No signal and one code; one signal and code 0.
+abbrev pub quiet : ℕ → Given
+quiet c = record { signals = empty; codes = single c }
+
+abbrev pub loud : ℕ → Given
+loud s = record { signals = single s; codes = single 0 }
+
+-- The set of two words: bit n of the 128 for pause n.
+unfoldable pub pauses-of : List ℕ → Numbers
+pauses-of ws n = cond (ltb n 64) (bits (getD ws 0 0) n) (bits (getD ws 1 0) (n - 64))
+
+-- These codes, and these pauses if 1 is among them.
+pub record KeptWith (r : Kept) (C A : Numbers) : Type 0 where
+  pub codes-are : bits (r .codes) ≡ C
+  pub pauses-are : pauses-of (r .pauses) ≡ only-if (C 1) A

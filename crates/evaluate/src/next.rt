@@ -1,0 +1,73 @@
+// The next state: must's code and the pauses kept, by one walk at the final event ("Next state").
+use crate::active::held_pauses;
+use crate::form::Form;
+use crate::form::Part;
+use crate::form::form_of;
+use crate::pauses::Kept;
+use crate::pauses::kept_again;
+use crate::pauses::kept_beside;
+use crate::pauses::kept_caught;
+use crate::pauses::kept_chain;
+use crate::pauses::kept_here;
+use crate::pauses::kept_none;
+use crate::pauses::kept_unknown;
+use crate::pauses::one_pause;
+use crate::walk::must_can;
+use crate::words::Code;
+use crate::words::Heard;
+use crate::words::Seen;
+use crate::words::code_of;
+use crate::words::gives_zero;
+use crate::words::heard_with;
+use crate::words::settled_sure;
+use crate::words::status_at;
+ghost use Rattle.evaluate.specs.Words.{pauses-of};
+ghost use Rattle.evaluate.specs.Forms.{table, Placed};
+ghost use Rattle.evaluate.specs.Walks.{Keeping};
+
+// Must's codes, and the pauses that the part keeps.
+pub fn next_kept(
+    kinds: &[u16; 512],
+    operands: &[u16; 512],
+    sizes: &[u16; 512],
+    live: &[bool; 512],
+    set: [u64; 2],
+    part: Part,
+    e: Heard,
+) -> Kept
+    requires { ⌜ Placed (table (now kinds) (now operands) (now sizes)) (part .at) ⌝ }
+    ensures { λ r. ⌜ Keeping (pauses-of set) (table (now (kinds .entry)) (now (operands .entry)) (now (sizes .entry))) (now (live .entry)) (Form.Same part) e r ⌝ }
+{
+    let form = form_of(kinds, operands, sizes, live, part);
+    match form {
+        Form::Done => kept_none(Code(0)),
+        Form::Stay(n) => kept_here(one_pause(n)),
+        Form::Keep(i) => kept_here(held_pauses(kinds, operands, sizes, set, i)),
+        Form::Say(_) => kept_none(Code(0)),
+        Form::Leave(d) => kept_none(code_of(d)),
+        Form::Test(s, p, q) => match status_at(e, s) {
+            Seen::Present => kept_again(next_kept(kinds, operands, sizes, live, set, p, e)),
+            Seen::Absent => kept_again(next_kept(kinds, operands, sizes, live, set, q, e)),
+            Seen::Unknown => kept_unknown(),
+        },
+        Form::Catch(p) => kept_caught(next_kept(kinds, operands, sizes, live, set, p, e)),
+        Form::Scope(s, p) => {
+            let doubt = heard_with(e, s, Seen::Unknown);
+            let v = settled_sure(s, must_can(kinds, operands, sizes, live, p, doubt));
+            let known = heard_with(e, s, v);
+            kept_again(next_kept(kinds, operands, sizes, live, set, p, known))
+        }
+        Form::Chain(p, q) => {
+            let a = next_kept(kinds, operands, sizes, live, set, p, e);
+            if gives_zero(a.codes) {
+                return kept_chain(a, next_kept(kinds, operands, sizes, live, set, q, e));
+            }
+            kept_chain(a, kept_unknown())
+        }
+        Form::Beside(p, q) => {
+            let a = next_kept(kinds, operands, sizes, live, set, p, e);
+            kept_beside(a, next_kept(kinds, operands, sizes, live, set, q, e))
+        }
+        Form::Same(p) => next_kept(kinds, operands, sizes, live, set, p, e),
+    }
+}
