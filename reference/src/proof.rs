@@ -17,13 +17,13 @@ use Rattle.rules.specs.Statements.{depth, code, nothing, pause, emit, present?_
 use Rattle.rules.specs.Events.{present, absent, unknown, event}
 use Rattle.rules.specs.Instant.{any, active, held, started, resumed}
 use Rattle.rules.specs.MustCan.{gives}
-use Rattle.rules.specs.States.{fresh, finished, step, kept, next}
-use Rattle.rules.specs.Rounds.{marks, round, begin, all-same, settle, final-of, answer, react}
+use Rattle.rules.specs.States.{fresh, finished, phase-of, active-of, step, kept, next}
+use Rattle.rules.specs.Rounds.{marks, round, begin, undecided, all-same, settle, final-of, answer, react}
 use Rattle.rules.proofs.Cases.{Row, row, active-on, ends, waits, stuck, answers}
 ";
 
 /// All that has to be opened for an answer to be computed.
-const OPENED: &str = "unfolding react listed members pauses gives kept started resumed any active held code marks round begin all-same settle final-of answer some-to maxima down downs lowest step next event";
+const OPENED: &str = "unfolding react listed members pauses phase-of active-of undecided gives kept started resumed any active held code marks round begin all-same settle final-of answer some-to maxima down downs lowest step next event";
 
 /// How many rows one statement of equality takes.
 const TOGETHER: usize = 20;

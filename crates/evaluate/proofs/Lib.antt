@@ -4,3 +4,4 @@ pub mod FormLaws
 pub mod Steps
 pub mod ActiveLaws
 pub mod KeptSteps
+pub mod RoundLaws

@@ -166,7 +166,7 @@ lowest-zero c h e = bits-ext (λ n. go n (decLt n 32) ∙ sym (bits-zero n))
     go n (yes l) = is-false (bits c n) (lowest-none 32 (bits c) e n l)
     go n (no l) = bits-high 32 h (omega arith)
 
-lowest-there : (c : ℕ) → c < 2 ^ 32 → (c ≡ 0 → ⊥) → lowest 32 (bits c) ≡ some (trailingZeros 32 c)
+pub lowest-there : (c : ℕ) → c < 2 ^ 32 → (c ≡ 0 → ⊥) → lowest 32 (bits c) ≡ some (trailingZeros 32 c)
 lowest-there c h f = go (lowest 32 (bits c)) refl
   where
     go : (o : Option ℕ) → lowest 32 (bits c) ≡ o → lowest 32 (bits c) ≡ some (trailingZeros 32 c)
@@ -189,7 +189,7 @@ none-from c e n = bits-zero n ∙ sym (go (ltb n 32) (is-false (some-to (bits c)
     go true q = q
     go false q = refl
 
-below-power : (k n : ℕ) → bits (2 ^ k - 1) n ≡ ltb n k
+pub below-power : (k n : ℕ) → bits (2 ^ k - 1) n ≡ ltb n k
 below-power k n = ap (λ (x : ℕ). bits x n) (omega arith) ∙ bits-not k 0 n (pow-pos k) ∙ ap (λ (b : Bool). ltb n k && not b) (bits-zero n) ∙ go (ltb n k)
   where
     go : (b : Bool) → (b && true) ≡ b

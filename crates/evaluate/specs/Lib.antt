@@ -1,3 +1,4 @@
 pub mod Words
 pub mod Forms
 pub mod Walks
+pub mod Reacts

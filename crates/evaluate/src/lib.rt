@@ -3,5 +3,6 @@ pub mod active;
 pub mod form;
 pub mod next;
 pub mod pauses;
+pub mod rounds;
 pub mod walk;
 pub mod words;

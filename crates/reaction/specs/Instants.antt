@@ -1,19 +1,17 @@
 -- One instant on the caller's bytes, with and without a log: the whole answer and every lent byte. Assumes nothing.
-use mathlib.Core.Bool.{Bool, true, false, cond, _&&_}
-use mathlib.Core.List.{List, [], _∷_}
+use mathlib.Core.Bool.{Bool, false, cond}
+use mathlib.Core.List.{List}
 use mathlib.Core.Option.{Option, none, some}
-use Prim.Native.Nat.{ℕ, suc, _+_, _-_}
-use lib.Dec.{leb}
-use lib.ListN.{getD}
-use Rattle.sets.specs.Numbers.{Numbers, count}
+use Prim.Native.Nat.{ℕ, _+_}
+use Rattle.sets.specs.Numbers.{count}
 use Rattle.sets.specs.Words.{bits, word}
 use Rattle.rules.specs.Statements.{Block}
-use Rattle.rules.specs.Events.{Status, present, absent, unknown}
-use Rattle.rules.specs.States.{State}
-use Rattle.rules.specs.Rounds.{same, Answer, answered, not-constructive, react}
+use Rattle.rules.specs.Events.{present, absent}
+use Rattle.rules.specs.States.{State, active-of}
+use Rattle.rules.specs.Rounds.{outputs-with, undecided, Answer, answered, not-constructive, react}
 use Rattle.block.specs.Format.{Good, Reading, good, turned-down, reading}
-use Rattle.records.specs.StateRecord.{Found, not-a-state, state, read-state, active-of, state-record, Pair, first-clash, undeclared-input}
-use Rattle.records.specs.LogRecord.{Logged, no-room, logged-at}
+use Rattle.records.specs.StateRecord.{Found, not-a-state, state, read-state, state-record, Pair, first-clash, undeclared-input}
+use Rattle.records.specs.LogRecord.{no-room, logged-at}
 
 -- The numbers given back besides those of a block.
 abbrev pub STATE : ℕ
@@ -66,17 +64,6 @@ try-block s given roomless (good g) = try-state g given roomless (read-state (g 
 
 unfoldable pub verdict : List ℕ → List ℕ → ℕ → Bool → Verdict
 verdict b s given roomless = try-block s given roomless (reading b)
-
--- The outputs with a status, by signal number.
-unfoldable pub outputs-with : Status → Block → List Status → Numbers
-outputs-with v b outs n = leb (b .inputs) n && same v (getD outs (n - b .inputs) unknown)
-
--- How many outputs are undecided.
-unfoldable pub undecided : List Status → ℕ
-undecided [] = 0
-undecided (present ∷ vs) = undecided vs
-undecided (absent ∷ vs) = undecided vs
-undecided (unknown ∷ vs) = suc (undecided vs)
 
 -- Every field of an answer; all fields not named are 0.
 pub record Told : Type 0 where

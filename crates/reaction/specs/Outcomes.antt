@@ -1,9 +1,9 @@
 -- How the code's reply and the words beside it stand for what an instant comes to. Assumes nothing.
 use mathlib.Core.Path.{_≡_}
 use mathlib.Core.List.{List}
-use Prim.Native.Nat.{ℕ}
+use Prim.Native.Nat.{ℕ, _<_}
 use Rattle.rules.specs.States.{State}
-use Rattle.rules.specs.Rounds.{answered, not-constructive}
+use Rattle.rules.specs.Rounds.{Answer, answered, not-constructive}
 use Rattle.block.specs.Table.{Table, Has}
 use Rattle.block.specs.Format.{Good, good, reading}
 use Rattle.block.specs.Told.{summary-of}
@@ -45,6 +45,11 @@ told-of (NotConstructive d) = record {
   code = 0;
   active = 0;
 }
+
+-- An answer's code is one of the 18.
+unfoldable pub Coded : Answer → Type 0
+Coded (answered outs c st r) = c < 18
+Coded (not-constructive outs r) = Unit {0}
 
 -- Where the instant is answered, the phase and the two words make the next state's record.
 unfoldable pub Writes : Verdict → Outcome → Type 0

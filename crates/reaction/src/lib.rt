@@ -16,29 +16,29 @@ ghost use Prim.Native.Nat.{ℕ, _<_};
 ghost use lib.Dec.{T};
 ghost use Rattle.sets.specs.Numbers.{Numbers};
 ghost use Rattle.rules.specs.Statements.{Block};
-ghost use Rattle.rules.specs.States.{State, next};
+ghost use Rattle.rules.specs.States.{State, phase-of, next};
 ghost use Rattle.rules.specs.Rounds as rules;
 ghost use Rattle.block.specs.Format.{Good, reading};
 ghost use Rattle.block.specs.Told.{table-of};
-ghost use Rattle.records.specs.StateRecord.{phase-of, read-state};
+ghost use Rattle.records.specs.StateRecord.{read-state};
 ghost use Rattle.records.specs.Held.{set-of};
 ghost use Rattle.evaluate.specs.Reacts.{Answers};
 ghost use Rattle.reaction.specs.Instants.{reacted, block-of, verdict, try-inputs, try-state, clash-tried};
-ghost use Rattle.reaction.specs.Outcomes.{Comes, Opened, Begins};
+ghost use Rattle.reaction.specs.Outcomes.{Coded, Comes, Opened, Begins};
 
 // An answered instant: the present outputs as bits by signal number, the code, the rounds, how many pauses are active afterwards.
 pub struct Reaction {
     pub present: u64,
     pub code: u16,
     pub rounds: u16,
-    pub active: u16,
+    pub active: u32,
 }
 
 // An instant that is not constructive: the outputs known present and absent, how many are undecided, the rounds.
 pub struct Doubt {
     pub present: u64,
     pub absent: u64,
-    pub undecided: u16,
+    pub undecided: u32,
     pub rounds: u16,
 }
 
@@ -77,11 +77,11 @@ fn phase_after(code: u16) -> u16
 
 // The rules' reaction as a reply.
 fn of_reaction(r: Reacted) -> Outcome
-    ensures { λ o. ⌜ ((b : Block) (a : rules.Answer) → Answers b a r → Comes (reacted b a) o) ⌝ }
+    ensures { λ o. ⌜ ((b : Block) (a : rules.Answer) → Answers b a r → Coded a → Comes (reacted b a) o) ⌝ }
 {
     if r.known {
         let kept = r.kept;
-        let code = r.code.0;
+        let code = (r.code.0 % 65536) as u16;
         Outcome {
             reply: Reply::Answered(Reaction {
                 present: r.present,

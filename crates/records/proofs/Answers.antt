@@ -10,8 +10,8 @@ use lib.ListN.{length, replicate, length-replicate}
 use Rattle.sets.specs.Numbers.{Numbers, empty}
 use Rattle.sets.specs.Words.{word, two-words}
 use Rattle.rules.specs.Statements.{Stmt}
-use Rattle.rules.specs.States.{State, fresh, running, finished}
-use Rattle.records.specs.StateRecord.{Found, not-a-state, state, active-of, upper, read-state, Pair, first-clash}
+use Rattle.rules.specs.States.{State, fresh, running, finished, active-of}
+use Rattle.records.specs.StateRecord.{Found, not-a-state, state, upper, read-state, Pair, first-clash}
 use Rattle.records.specs.LogRecord.{no-room}
 use Rattle.records.specs.Held.{set-of, held-of}
 use Rattle.records.specs.Clashing.{pair-of, Searchable}

@@ -10,9 +10,9 @@ use Rattle.sets.specs.Words.{word, two-words}
 use Rattle.sets.proofs.Members.{is-false, of-false, and-left, and-right}
 use Rattle.sets.proofs.Words.{word-lt, word-empty}
 use Rattle.rules.specs.Statements.{Stmt, nothing, pause, emit, present?_then_else_, suspend_on_, _⨾_, loop, _parallel_, trap, exit, local, pauses}
-use Rattle.rules.specs.States.{State, fresh, running, finished, holds-both, lowest-above, is-parallel, compatible}
+use Rattle.rules.specs.States.{State, fresh, running, finished, holds-both, lowest-above, is-parallel, compatible, phase-of, active-of}
 use Rattle.records.specs.Numerals.{in-bytes, number, field}
-use Rattle.records.specs.StateRecord.{state, phase-of, active-of, upper, state-record, beyond, in-phase, read-state}
+use Rattle.records.specs.StateRecord.{state, upper, state-record, beyond, in-phase, read-state}
 use Rattle.records.specs.LogRecord.{Logged, log-record}
 use Rattle.records.proofs.Bytes.{number-in-bytes}
 use Rattle.records.proofs.TwoWords.{set-of-words, set-of-none, beyond-out}

@@ -18,9 +18,9 @@ use Rattle.sets.proofs.Members.{of-false, and-in, and-left, and-right, eqb-in, 
 use Rattle.sets.proofs.Maxima.{some-to-in, some-to-out}
 use Rattle.sets.proofs.Counts.{lowest-is, Lowest}
 use Rattle.rules.specs.Statements.{Stmt, pauses}
-use Rattle.rules.specs.States.{State, fresh, running, finished, compatible, Legal}
+use Rattle.rules.specs.States.{State, fresh, running, finished, compatible, Legal, active-of}
 use Rattle.records.specs.Numerals.{number, field}
-use Rattle.records.specs.StateRecord.{Found, not-a-state, state, active-of, state-record, beyond, active-in, in-phase, read-state, clashes, first-clash, with-second, paired}
+use Rattle.records.specs.StateRecord.{Found, not-a-state, state, state-record, beyond, active-in, in-phase, read-state, clashes, first-clash, with-second, paired}
 use Rattle.records.proofs.TwoWords.{beyond-in, some-bit, in-low, in-high, below-128, below-width}
 use Rattle.records.proofs.Pairs.{Clear-first, none-found, clash-first, clash-second, clash-lower, clash-apart}
 use Rattle.records.proofs.Back.{fresh-back, finished-back, running-back, compatible-sym}

@@ -12,9 +12,9 @@ use native.Mathlib.Nat.{le-of-eq}
 use mathlib.Core.Bool.{Bool, true, _||_}
 use Rattle.sets.specs.Words.{word}
 use Rattle.sets.proofs.Members.{ext}
-use Rattle.rules.specs.States.{State, fresh, finished}
+use Rattle.rules.specs.States.{State, fresh, finished, phase-of, active-of}
 use Rattle.records.specs.Numerals.{in-bytes}
-use Rattle.records.specs.StateRecord.{state-record, phase-of, active-of, upper}
+use Rattle.records.specs.StateRecord.{state-record, upper}
 use Rattle.records.specs.LogRecord.{Logged, log-record, no-room, logged-at}
 use Rattle.records.specs.Held.{set-of, words-of, state-bytes}
 use Rattle.records.proofs.Bytes.{sets-front}

@@ -4,8 +4,9 @@ use Prim.Native.Nat.{ℕ}
 use lib.ListN.{getD}
 use Rattle.sets.specs.Numbers.{Numbers}
 use Rattle.sets.specs.Words.{word, two-words}
+use Rattle.rules.specs.States.{phase-of, active-of}
 use Rattle.records.specs.Numerals.{in-bytes}
-use Rattle.records.specs.StateRecord.{Found, not-a-state, state, phase-of, active-of, upper}
+use Rattle.records.specs.StateRecord.{Found, not-a-state, state, upper}
 use Rattle.records.specs.declared.state.Held.{Held}
 
 -- The set of an array of two words, and the two words of a set.

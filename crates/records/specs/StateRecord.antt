@@ -5,22 +5,11 @@ use mathlib.Core.Option.{Option, none, some}
 use Prim.Native.Nat.{ℕ, _+_, _/_, _^_}
 use lib.Dec.{eqb, ltb, leb}
 use lib.ListN.{length}
-use Rattle.sets.specs.Numbers.{Numbers, empty, some-to, lowest}
+use Rattle.sets.specs.Numbers.{Numbers, some-to, lowest}
 use Rattle.sets.specs.Words.{word, two-words}
 use Rattle.rules.specs.Statements.{Stmt}
-use Rattle.rules.specs.States.{State, fresh, running, finished, compatible}
+use Rattle.rules.specs.States.{State, fresh, running, finished, phase-of, active-of, compatible}
 use Rattle.records.specs.Numerals.{in-bytes, field}
-
--- Phase 0 fresh, 1 running, 2 finished.
-unfoldable pub phase-of : State → ℕ
-phase-of fresh = 0
-phase-of (running A) = 1
-phase-of finished = 2
-
-unfoldable pub active-of : State → Numbers
-active-of fresh = empty
-active-of (running A) = A
-active-of finished = empty
 
 -- The members from 64 on, as the second word holds them.
 abbrev pub upper : Numbers → Numbers

@@ -2,15 +2,15 @@
 -- That the rules give every answer is one statement, `worked`, proved by computing. Assumes nothing.
 use mathlib.Core.Path.{_≡_, refl}
 use mathlib.Core.List.{List, [], _∷_, map}
-use Prim.Native.Nat.{ℕ, suc}
+use Prim.Native.Nat.{ℕ}
 use lib.ListN.{length}
 use Rattle.sets.specs.Numbers.{members, listed, some-to, maxima, down, downs, lowest}
 use Rattle.rules.specs.Statements.{depth, code, Stmt, nothing, pause, emit, present?_then_else_, suspend_on_, _⨾_, loop, _parallel_, trap, exit, local, pauses}
 use Rattle.rules.specs.Events.{Status, present, absent, unknown, event}
 use Rattle.rules.specs.Instant.{any, active, held, started, resumed}
 use Rattle.rules.specs.MustCan.{gives}
-use Rattle.rules.specs.States.{State, fresh, running, finished, step, kept, next}
-use Rattle.rules.specs.Rounds.{Answer, answered, not-constructive, marks, round, begin, all-same, settle, final-of, answer, react}
+use Rattle.rules.specs.States.{State, fresh, running, finished, phase-of, active-of, step, kept, next}
+use Rattle.rules.specs.Rounds.{Answer, answered, not-constructive, undecided, marks, round, begin, all-same, settle, final-of, answer, react}
 
 -- A whole answer with its sets as lists: refusal (0 or 13), the outputs' statuses in order, how many are undecided, the code,
 -- the rounds, the phase of the next state (0, 1, 2; 0 where there is none) and the pauses kept.
@@ -23,29 +23,16 @@ pub record Told : Type 0 where
   pub phase : ℕ
   pub keeps : List ℕ
 
-abbrev unknowns : List Status → ℕ
-unknowns [] = 0
-unknowns (present ∷ vs) = unknowns vs
-unknowns (absent ∷ vs) = unknowns vs
-unknowns (unknown ∷ vs) = suc (unknowns vs)
-
-abbrev phase-of : State → ℕ
-phase-of fresh = 0
-phase-of (running A) = 1
-phase-of finished = 2
-
-abbrev active-of : Stmt → State → List ℕ
-unfolding members pauses
-active-of p fresh = []
-active-of p (running A) = members (length (pauses p)) A
-active-of p finished = []
+abbrev pauses-of : Stmt → State → List ℕ
+unfolding members pauses active-of
+pauses-of p st = members (length (pauses p)) (active-of st)
 
 abbrev tell : Stmt → Answer → Told
-unfolding members pauses
+unfolding members pauses phase-of active-of undecided
 tell p (answered vs c st n) =
-    record { refusal = 0; statuses = vs; undecided = unknowns vs; code = c; rounds = n; phase = phase-of st; keeps = active-of p st }
+    record { refusal = 0; statuses = vs; undecided = undecided vs; code = c; rounds = n; phase = phase-of st; keeps = pauses-of p st }
 tell p (not-constructive vs n) =
-    record { refusal = 13; statuses = vs; undecided = unknowns vs; code = 0; rounds = n; phase = 0; keeps = [] }
+    record { refusal = 13; statuses = vs; undecided = undecided vs; code = 0; rounds = n; phase = 0; keeps = [] }
 
 -- A case declares only the signals it names: so many inputs, so many outputs.
 pub record Row : Type 0 where
@@ -68,7 +55,7 @@ unfolding react listed
 reaction r = react (record { inputs = r .inputs; outputs = r .outputs; body = r .body }) (r .begins) (listed (r .given))
 
 abbrev pub answers : Row → Told
-unfolding react listed members pauses
+unfolding react listed members pauses phase-of active-of undecided
 answers r = tell (r .body) (reaction r)
 
 abbrev left-by : Answer → State
@@ -245,5 +232,5 @@ table =
     ∷ input-absent ∷ later-pause ∷ else-resumes ∷ local-present-keeps ∷ local-absent-keeps ∷ outputs-plus-1 ∷ over ∷ []
 
 pub worked : map answers table ≡ map (λ r. r .told) table
-unfolding table react listed members pauses gives kept started resumed any active held code marks round begin all-same settle final-of answer some-to maxima down downs lowest step next event
+unfolding table react listed members pauses phase-of active-of undecided gives kept started resumed any active held code marks round begin all-same settle final-of answer some-to maxima down downs lowest step next event
 worked = refl

@@ -1,11 +1,12 @@
 -- The rounds of an instant, and the answer. Assumes nothing.
 use mathlib.Core.Path.{_≡_}
 use mathlib.Core.Logic.{_≢_}
-use mathlib.Core.Bool.{Bool, true, false, _&&_}
+use mathlib.Core.Bool.{Bool, true, false, cond, _&&_}
 use mathlib.Core.List.{List, [], _∷_}
 use mathlib.Core.Option.{Option, none, some}
-use Prim.Native.Nat.{ℕ, zero, suc}
-use lib.ListN.{replicate}
+use Prim.Native.Nat.{ℕ, zero, suc, _+_, _-_}
+use lib.Dec.{leb}
+use lib.ListN.{getD, replicate}
 use Rattle.sets.specs.Numbers.{Numbers, lowest}
 use Rattle.rules.specs.Statements.{Block}
 use Rattle.rules.specs.Events.{Status, present, absent, unknown, event}
@@ -41,6 +42,15 @@ same absent unknown = false
 same unknown present = false
 same unknown absent = false
 same unknown unknown = true
+
+-- The outputs with a status, by signal number.
+unfoldable pub outputs-with : Status → Block → List Status → Numbers
+outputs-with v b outs n = leb (b .inputs) n && same (getD outs (n - b .inputs) unknown) v
+
+-- How many outputs are undecided.
+unfoldable pub undecided : List Status → ℕ
+undecided [] = 0
+undecided (v ∷ vs) = cond (same v unknown) 1 0 + undecided vs
 
 unfoldable pub all-same : List Status → List Status → Bool
 all-same [] [] = true

@@ -16,6 +16,17 @@ pub data State : Type 0 where
   running : Numbers → State
   finished : State
 
+-- Phase 0 fresh, 1 running, 2 finished.
+unfoldable pub phase-of : State → ℕ
+phase-of fresh = 0
+phase-of (running A) = 1
+phase-of finished = 2
+
+unfoldable pub active-of : State → Numbers
+active-of fresh = empty
+active-of (running A) = A
+active-of finished = empty
+
 -- What there is to do in an instant from a state. Finished runs as nothing.
 unfoldable pub step : Stmt → State → Step
 step p fresh = started p

@@ -15,11 +15,11 @@ use Rattle.rules.specs.Instant.{Step, started}
 use Rattle.rules.specs.MustCan.{Mark, plus, opened, Question, must, can, gives}
 use Rattle.rules.specs.Loops.{codes-of, loops-pass}
 use Rattle.rules.specs.States.{State, step, Legal, kept, next}
-use Rattle.rules.specs.Rounds.{round, begin, Rounds, final-of, Answer, answered, not-constructive, react}
+use Rattle.rules.specs.Rounds.{round, begin, Rounds, final-of, Answer, answered, not-constructive, react, undecided}
 use Rattle.rules.specs.Coherence.{Locals, execute, LocalsAgree, world, Coherent}
 use Rattle.rules.proofs.OneCode.{one-code}
 use Rattle.theorems.specs.Order.{Below, _⊑_, whole, Inside, Between}
-use Rattle.theorems.specs.Reach.{Reached, at-first, undecided, Final}
+use Rattle.theorems.specs.Reach.{Reached, at-first, Final}
 use Rattle.theorems.specs.Reactions.{Some, OnlyReaction}
 use Rattle.theorems.specs.Checked.{Checked, Part, NeverZero, ZeroOrOne}
 use Rattle.theorems.specs.Traces.{InputSet, Instant, Trace}

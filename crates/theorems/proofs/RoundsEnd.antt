@@ -16,10 +16,10 @@ use Rattle.rules.specs.Events.{Status, present, absent, unknown, known, event}
 use Rattle.rules.specs.Instant.{Step}
 use Rattle.rules.specs.MustCan.{must, gives}
 use Rattle.rules.specs.States.{State, step}
-use Rattle.rules.specs.Rounds.{round, begin, Rounds, last, more, all-same, Settled, one-more, settle, final-of}
+use Rattle.rules.specs.Rounds.{round, begin, Rounds, last, more, all-same, Settled, one-more, settle, final-of, undecided}
 use Rattle.rules.proofs.RoundLaws.{all-same-is, all-same-refl}
 use Rattle.theorems.specs.Order.{Below}
-use Rattle.theorems.specs.Reach.{Reached, at-first, settling, undecided, Final}
+use Rattle.theorems.specs.Reach.{Reached, at-first, settling, Final}
 use Rattle.theorems.proofs.Reach.{in-must, round-length, round-keeps, round-settles, decided}
 
 -- Statuses above others leave fewer undecided, or are the same.
@@ -58,7 +58,7 @@ progress (v ∷ vs) (w ∷ ws) e f =
 undecided-begin : (n : ℕ) → undecided (replicate n unknown) ≡ n
 unfolding undecided
 undecided-begin zero = refl
-undecided-begin (suc n) = ap suc (undecided-begin n)
+undecided-begin (suc n) = let e = undecided-begin n in omega arith
 
 module _ (b : Block) (p : Step) (given : Numbers) where
   -- What is shown of the computed rounds.

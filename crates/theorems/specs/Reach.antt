@@ -1,12 +1,12 @@
 -- The statuses that come about when any part of the outputs is settled at a time. Rounds settle all that they can. Assumes nothing.
 use mathlib.Core.Path.{_≡_}
 use mathlib.Core.Logic.{_⊎_}
-use mathlib.Core.List.{List, [], _∷_}
+use mathlib.Core.List.{List}
 use Prim.Native.Nat.{ℕ, suc, _≤_, _<_}
 use lib.ListN.{length, getD}
 use Rattle.sets.specs.Numbers.{Numbers}
 use Rattle.rules.specs.Statements.{Block}
-use Rattle.rules.specs.Events.{Status, present, absent, unknown}
+use Rattle.rules.specs.Events.{Status, unknown}
 use Rattle.rules.specs.Instant.{Step}
 use Rattle.rules.specs.States.{State, step}
 use Rattle.rules.specs.Rounds.{round, begin, Rounds, final-of}
@@ -20,13 +20,6 @@ pub record Settling (b : Block) (p : Step) (given : Numbers) (vs ws : List Statu
 pub data Reached (b : Block) (p : Step) (given : Numbers) : List Status → Type 0 where
   at-first : Reached b p given (begin b)
   settling : {vs ws : List Status} → Reached b p given vs → Settling b p given vs ws → Reached b p given ws
-
--- How many are undecided.
-unfoldable pub undecided : List Status → ℕ
-undecided [] = 0
-undecided (present ∷ vs) = undecided vs
-undecided (absent ∷ vs) = undecided vs
-undecided (unknown ∷ vs) = suc (undecided vs)
 
 -- The rounds of an instant end, and `final-of` computes where: at least 1 of them, at most outputs plus 1, and the last is the first
 -- that changes nothing.

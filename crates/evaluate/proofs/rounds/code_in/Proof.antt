@@ -1,0 +1,11 @@
+use Rattle.evaluate.proofs.WordLaws.{lowest-there}
+use Rattle.evaluate.proofs.rounds.code_in.Statement.{statement}
+use Rattle.evaluate.proofs.rounds.code_in.Tie as tie
+use Rattle.evaluate.proofs.rounds.code_in.Reads as reads
+use Rattle.evaluate.proofs.rounds.code_in.Lts as lts
+
+returns : tie.Need-returns
+returns c = λ f. lowest-there (c .args .codes) (c .fits .codes .fits) f
+
+pub code-in-spec : {M : Type 1} → statement M
+code-in-spec = tie.close (tie.spec returns)

@@ -1,0 +1,271 @@
+// The rounds of an instant, and its answer ("Rounds", "Next state").
+use crate::active::actives;
+use crate::form::Going;
+use crate::form::Part;
+use crate::next::next_kept;
+use crate::pauses::Kept;
+use crate::pauses::members_of;
+use crate::pauses::pause_count;
+use crate::walk::must_can;
+use crate::words::Code;
+use crate::words::Heard;
+use crate::words::MustCan;
+ghost use mathlib.Core.Path.{_≡_};
+ghost use mathlib.Core.Bool.{cond, _&&_};
+ghost use mathlib.Core.Option.{some};
+ghost use Prim.Native.Nat.{ℕ, _+_, _≤_};
+ghost use lib.Dec.{eqb, ltb};
+ghost use Rattle.sets.specs.Numbers.{Numbers, empty, lowest};
+ghost use Rattle.sets.specs.Words.{bits};
+ghost use Rattle.rules.specs.Statements.{Block, Stmt};
+ghost use Rattle.rules.specs.Events.{event};
+ghost use Rattle.rules.specs.States.{step};
+ghost use Rattle.rules.specs.Rounds.{answer, code-width};
+ghost use Rattle.evaluate.specs.Words.{event-of, pauses-of};
+ghost use Rattle.evaluate.specs.Forms.{table, At, Placed, step-of};
+ghost use Rattle.evaluate.specs.Reacts.{outs-from, statuses, marks-of, Fine, Marks, Sized, Rounded, Ends, state-of, undecided, Answers, Reacts};
+
+// A state's phase; the active set stands beside it.
+pub enum Phase {
+    Fresh,
+    Running,
+    Finished,
+}
+
+// Where the rounds end: the outputs' marks, and how many rounds there were.
+pub struct Ended {
+    pub marks: Heard,
+    pub rounds: u16,
+}
+
+// The answer to an instant.
+pub struct Reacted {
+    pub known: bool,
+    pub present: u64,
+    pub absent: u64,
+    pub undecided: u32,
+    pub rounds: u16,
+    pub code: Code,
+    pub kept: [u64; 2],
+    pub active: u32,
+}
+
+// The signals below a number.
+pub fn below(n: u16) -> u64
+    requires { ⌜ n ≤ 64 ⌝ }
+    ensures { λ r. ⌜ ((k : ℕ) → bits r k ≡ ltb k n) ⌝ }
+{
+    if n < 64 {
+        (1u64 << n) - 1
+    } else {
+        0xffff_ffff_ffff_ffff
+    }
+}
+
+// The outputs' signals.
+pub fn outputs_of(inputs: u16, outputs: u16) -> u64
+    requires { ⌜ inputs + outputs ≤ 64 ⌝ }
+    ensures { λ r. ⌜ ((k : ℕ) → bits r k ≡ outs-from inputs outputs k) ⌝ }
+{
+    let first = below(inputs);
+    let all = below(inputs + outputs);
+    all & (all ^ first)
+}
+
+// The event of a round: an input is present when it is in the input set and else absent, the outputs have their marks.
+pub fn heard_in(inputs: u16, given: u64, marks: Heard) -> Heard
+    requires { ⌜ inputs ≤ 64 ⌝ }
+    ensures { λ r. ⌜ ((b : Block) (n : ℕ) → Sized b inputs n → Fine (outs-from inputs n) marks → event-of r ≡ event b (bits given) (marks-of b marks)) ⌝ }
+{
+    let first = below(inputs);
+    Heard {
+        present: first & given | marks.present,
+        absent: first & (first ^ given) | marks.absent,
+    }
+}
+
+// Present the outputs in must, absent those not in can, the others as they were.
+pub fn marked_by(outs: u64, marks: Heard, a: MustCan) -> Heard
+    ensures { λ r. ⌜ Marks (bits outs) marks a r ⌝ }
+{
+    let must = a.must.signals;
+    let can = a.can.signals;
+    let absent = outs & (marks.absent | outs & (outs ^ can));
+    Heard {
+        present: outs & (must | marks.present & can),
+        absent: absent & (absent ^ must),
+    }
+}
+
+// One round.
+fn round_of(
+    kinds: &[u16; 512],
+    operands: &[u16; 512],
+    sizes: &[u16; 512],
+    live: &[bool; 512],
+    part: Part,
+    inputs: u16,
+    outputs: u16,
+    given: u64,
+    marks: Heard,
+) -> Heard
+    requires { ⌜ (inputs + outputs ≤ 64) × Placed (table (now kinds) (now operands) (now sizes)) (part .at) ⌝ }
+    ensures { λ r. ⌜ Rounded (table (now (kinds .entry)) (now (operands .entry)) (now (sizes .entry))) (now (live .entry)) part inputs outputs given marks r ⌝ }
+{
+    let e = heard_in(inputs, given, marks);
+    let a = must_can(kinds, operands, sizes, live, part, e);
+    let outs = outputs_of(inputs, outputs);
+    marked_by(outs, marks, a)
+}
+
+fn same_marks(a: Heard, b: Heard) -> bool
+    ensures { λ r. ⌜ r ≡ (eqb (a .present) (b .present) && eqb (a .absent) (b .absent)) ⌝ }
+{
+    if a.present == b.present {
+        a.absent == b.absent
+    } else {
+        false
+    }
+}
+
+// All rounds: the last is the first that changes nothing.
+pub fn all_rounds(
+    kinds: &[u16; 512],
+    operands: &[u16; 512],
+    sizes: &[u16; 512],
+    live: &[bool; 512],
+    part: Part,
+    inputs: u16,
+    outputs: u16,
+    given: u64,
+) -> Ended
+    requires { ⌜ (inputs + outputs ≤ 64) × Placed (table (now kinds) (now operands) (now sizes)) (part .at) ⌝ }
+    ensures { λ r. ⌜ Ends (table (now (kinds .entry)) (now (operands .entry)) (now (sizes .entry))) (now (live .entry)) part inputs outputs given r ⌝ }
+{
+    let mut marks = Heard {
+        present: 0,
+        absent: 0,
+    };
+    let mut rounds: u16 = 0;
+    while rounds <= outputs {
+        let next = round_of(
+            kinds,
+            operands,
+            sizes,
+            live,
+            part,
+            inputs,
+            outputs,
+            given,
+            marks,
+        );
+        rounds += 1;
+        if same_marks(next, marks) {
+            return Ended { marks, rounds };
+        }
+        marks = next;
+    }
+    Ended { marks, rounds }
+}
+
+fn going_of(phase: Phase) -> Going
+    ensures { λ r. ⌜ ((A : Numbers) (t : Stmt) → step-of r A t ≡ step t (state-of phase A)) ⌝ }
+{
+    match phase {
+        Phase::Fresh => Going::Started,
+        Phase::Running => Going::Resumed,
+        Phase::Finished => Going::Idle,
+    }
+}
+
+// The codes that a legal block has.
+fn legal_codes(codes: u32) -> u32
+    ensures { λ r. ⌜ ((n : ℕ) → bits r n ≡ (ltb n 18 && bits codes n)) ⌝ }
+{
+    codes % 262144
+}
+
+// The code of a set that has one.
+fn code_in(codes: u32) -> Code
+    ensures { λ r. ⌜ ((codes ≡ 0 → ⊥) → lowest 32 (bits codes) ≡ some (r .0)) ⌝ }
+{
+    Code(u32::trailing_zeros(codes))
+}
+
+// What is kept for the next instant: code 1 keeps the pauses, another code none.
+fn kept_for(c: Code, pauses: [u64; 2]) -> [u64; 2]
+    ensures { λ r. ⌜ pauses-of r ≡ cond (eqb (c .0) 1) (pauses-of pauses) empty ⌝ }
+{
+    if c.0 == 1 { pauses } else { [0, 0] }
+}
+
+// How many outputs have no mark.
+fn undecided_of(inputs: u16, outputs: u16, marks: Heard) -> u32
+    requires { ⌜ inputs + outputs ≤ 64 ⌝ }
+    ensures { λ r. ⌜ r ≡ undecided (statuses inputs outputs marks) ⌝ }
+{
+    let outs = outputs_of(inputs, outputs);
+    let decided = marks.present | marks.absent;
+    members_of(outs & (outs ^ decided))
+}
+
+// The answer from the final marks, and must's codes with what is kept at them.
+fn answer_of(inputs: u16, outputs: u16, end: Ended, last: Kept) -> Reacted
+    requires { ⌜ inputs + outputs ≤ 64 ⌝ }
+    ensures { λ r. ⌜ ((b : Block) → Sized b inputs outputs → Fine (outs-from inputs outputs) (end .marks) → Answers b (answer (record { statuses = marks-of b (end .marks); rounds = end .rounds }) (lowest code-width (bits (last .codes))) (pauses-of (last .pauses))) r) ⌝ }
+{
+    let marks = end.marks;
+    let undecided = undecided_of(inputs, outputs, marks);
+    let codes = legal_codes(last.codes);
+    if codes == 0 {
+        return Reacted {
+            known: false,
+            present: marks.present,
+            absent: marks.absent,
+            undecided,
+            rounds: end.rounds,
+            code: Code(0),
+            kept: [0, 0],
+            active: 0,
+        };
+    }
+    let code = code_in(codes);
+    let pauses = last.pauses;
+    let kept = kept_for(code, pauses);
+    let active = pause_count(kept);
+    Reacted {
+        known: true,
+        present: marks.present,
+        absent: marks.absent,
+        undecided,
+        rounds: end.rounds,
+        code,
+        kept,
+        active,
+    }
+}
+
+// One instant of a block from a state, with an input set.
+pub fn react(
+    kinds: &[u16; 512],
+    operands: &[u16; 512],
+    sizes: &[u16; 512],
+    phase: Phase,
+    set: [u64; 2],
+    inputs: u16,
+    outputs: u16,
+    given: u64,
+) -> Reacted
+    requires { ⌜ (inputs + outputs ≤ 64) × Placed (table (now kinds) (now operands) (now sizes)) 0 ⌝ }
+    ensures { λ r. ⌜ ((body : Stmt) → At (table (now (kinds .entry)) (now (operands .entry)) (now (sizes .entry))) 0 body → Reacts (record { inputs = inputs; outputs = outputs; body = body }) phase (pauses-of set) (bits given) r) ⌝ }
+{
+    let live = actives(kinds, operands, sizes, set);
+    let part = Part {
+        at: 0,
+        going: going_of(phase),
+    };
+    let end = all_rounds(kinds, operands, sizes, &live, part, inputs, outputs, given);
+    let e = heard_in(inputs, given, end.marks);
+    let last = next_kept(kinds, operands, sizes, &live, set, part, e);
+    answer_of(inputs, outputs, end, last)
+}
