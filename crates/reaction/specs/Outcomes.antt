@@ -2,7 +2,7 @@
 use mathlib.Core.Path.{_≡_}
 use mathlib.Core.List.{List}
 use Prim.Native.Nat.{ℕ, _<_}
-use Rattle.rules.specs.States.{State}
+use Rattle.rules.specs.States.{State, active-of}
 use Rattle.rules.specs.Rounds.{Answer, answered, not-constructive}
 use Rattle.block.specs.Table.{Table, Has}
 use Rattle.block.specs.Format.{Good, good, reading}
@@ -72,3 +72,4 @@ pub record Opened (tab : Table) (s : Summary) (g : Good) : Type 0 where
 -- The state that a phase and two words stand for.
 pub record Begins (st : State) (phase : Phase) (set : List ℕ) : Type 0 where
   pub state-is : st ≡ state-of phase (set-of set)
+  pub set-is : set-of set ≡ active-of st

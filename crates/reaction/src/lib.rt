@@ -174,15 +174,42 @@ fn past_block(
     let phase = held.phase;
     let set = held.active;
     match phase {
-        0 => past_state(kinds, operands, sizes, s, Phase::Fresh, set, given, roomless),
-        1 => past_state(kinds, operands, sizes, s, Phase::Running, set, given, roomless),
-        2 => past_state(kinds, operands, sizes, s, Phase::Finished, set, given, roomless),
+        0 => past_state(
+            kinds,
+            operands,
+            sizes,
+            s,
+            Phase::Fresh,
+            set,
+            given,
+            roomless,
+        ),
+        1 => past_state(
+            kinds,
+            operands,
+            sizes,
+            s,
+            Phase::Running,
+            set,
+            given,
+            roomless,
+        ),
+        2 => past_state(
+            kinds,
+            operands,
+            sizes,
+            s,
+            Phase::Finished,
+            set,
+            given,
+            roomless,
+        ),
         _ => refused(9, 0),
     }
 }
 
 // What one instant comes to; `roomless` says that a log without room is lent.
-pub fn outcome(block: &[u8], state: &[u8], given: u64, roomless: bool) -> Outcome
+pub fn comes_to(block: &[u8], state: &[u8], given: u64, roomless: bool) -> Outcome
     ensures { λ o. ⌜ Comes (verdict (now (block .entry)) (now (state .entry)) given roomless) o ⌝ }
 {
     let mut kinds = [0u16; 512];
