@@ -240,7 +240,7 @@ refused-range b h (suc room) a r n at e =
     x = operand-at b (r .place)
 
     by-kind : ((r′ : Sofar) (m place : ℕ) → read room b h (inside k x a) r′ ≡ refused m place → In-range m)
-      → statement-fault (suc room) b h a r ≡ 0 → Kind k → In-range n
+        → statement-fault (suc room) b h a r ≡ 0 → Kind k → In-range n
     by-kind child passed (leafs v) = not-refused (sym (read-leaf b h room a r passed (leaf-children v)) ∙ e)
     by-kind child passed (aboves v) =
         then-range (read room b h (inside k x a) (past k r)) _ (sym (read-above b h room a r passed (above-children v)) ∙ e) (child (past k r)) (λ p r₁. not-refused)
@@ -272,7 +272,7 @@ pub numbers : (b : List ℕ) (n at : ℕ) → reading b ≡ turned-down n at →
 numbers b n at e = go (ltb 3086 (length b)) (is? (header-fault b) 0) (sym (reading-is b) ∙ e)
   where
     go : (z : Bool) → (header-fault b ≡ 0) ⊎ (header-fault b ≡ 0 → ⊥)
-      → cond z (turned-down LIMIT 0) (cond (eqb (header-fault b) 0) (statements-read b) (turned-down (header-fault b) 0)) ≡ turned-down n at → In-range n
+        → cond z (turned-down LIMIT 0) (cond (eqb (header-fault b) 0) (statements-read b) (turned-down (header-fault b) 0)) ≡ turned-down n at → In-range n
     go true d q = same-turned q (lit≤ tt, lit≤ tt)
     go false (inl d) q =
         ended-range b (header b) (read 64 b (header b) outermost begun) (simp (eq-eqb (header-fault b) 0 d) at q) (refused-range b (header b) 64 outermost begun)
