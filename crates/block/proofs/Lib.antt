@@ -15,3 +15,4 @@ pub mod LoopWalk
 pub mod GoodReadings
 pub mod Offsets
 pub mod Ends
+pub mod Answered

@@ -1,0 +1,227 @@
+-- What each call answers is what it owes: a lemma for each way through the calls that read a block, and that different answers have
+-- different values.
+use mathlib.Core.Path.{_≡_, refl, sym, _∙_, ap, subst}
+use mathlib.Core.Bool.{Bool, true, false, cond}
+use mathlib.Core.Logic.{_⊎_, inl, inr}
+use mathlib.Core.List.{List, [], _∷_, _++_}
+use Prim.Native.Nat.{ℕ, zero, suc, _+_, _-_, _≤_, _<_}
+use native.Mathlib.Nat.{zero-add}
+use native.Mathlib.Omega.{arith}
+use lib.Dec.{eqb, ltb}
+use lib.ListN.{length, getD, take, drop, set, replicate, drop-of-length-le}
+use borrow.Author.Tests.{eq-eqb, ne-eqb, lt-ltb, le-ltb}
+use Rattle.rules.specs.Statements.{Stmt}
+use Rattle.block.specs.Table.{Table, Has, statements}
+use Rattle.block.specs.Format.{Good, Reading, good, turned-down, reading, preorder, numbered, bytes, offset}
+use Rattle.block.specs.Told.{summary-of, answer-to, Stands, ReadWhole}
+use Rattle.block.specs.Codes.{Tabled, Listed}
+use Rattle.block.specs.declared.whole.Summary.{Summary}
+use Rattle.block.specs.declared.whole.Answer.{Answer}
+use Rattle.block.specs.declared.whole.Answer.the-variants.{Good as GoodBlock, Refused as RefusedBlock}
+use Rattle.block.proofs.Answered.{was-good, was-turned-down, has-body}
+use Rattle.block.proofs.GoodReadings.{Sound, sound, In-range, numbers}
+use Rattle.block.proofs.Places.{At, at-number, has-row}
+use Rattle.block.proofs.Offsets.{tabled-listed, offset-below, offset-most}
+use Rattle.foldheron.specs.Answers.{number, check-values, check-owed, begun-values, begun-owed, fresh-record, state-owed, excerpt-number, excerpt-place, excerpt-owed}
+use Rattle.foldheron.specs.declared.Why.{Why}
+use Rattle.foldheron.specs.declared.Why.the-variants.{Broken, Kind, Edition, Limit, Signal, Exit, Shape, Loop, State, Clash, Input, Room, NotConstructive, Index}
+use Rattle.foldheron.specs.declared.Checked.{Checked}
+use Rattle.foldheron.specs.declared.Checked.the-variants.{Good as GoodOne, Refused}
+use Rattle.foldheron.specs.declared.Begun.{Begun}
+use Rattle.foldheron.specs.declared.Begun.the-variants.{Fresh, TurnedDown}
+
+-- A number that is not the lowest that it could be.
+pub above-next : {n k : ℕ} → k ≤ n → (n ≡ k → ⊥) → suc k ≤ n
+above-next l h = omega arith
+
+module _ (b : List ℕ) {tab : Table} {a : Answer} (w : ReadWhole (reading b) tab a) where
+  module _ {n at : ℕ} (e : a ≡ RefusedBlock n at) where
+    -- A refusal of the reading, with its number by name.
+    named : (y : Why) → (1 ≤ n → n ≤ 14 → number y ≡ n) → number y ≡ n
+    named y f = let r = numbers b n at (was-turned-down w e) in f (r .0) (omega (arith, r .1))
+
+    pub check-refused : (y : Why) → (1 ≤ n → n ≤ 14 → number y ≡ n) → check-values (Refused y at) ≡ check-owed (reading b)
+    unfolding check-values check-owed
+    check-refused y f = ap (λ (m : ℕ). m ∷ at ∷ 0 ∷ 0 ∷ 0 ∷ 0 ∷ 0 ∷ 0 ∷ []) (named y f) ∙ ap check-owed (sym (was-turned-down w e))
+
+    pub fresh-refused : (y : Why) (state : List ℕ) → (1 ≤ n → n ≤ 14 → number y ≡ n) → begun-values (TurnedDown y at) ≡ begun-owed (reading b) state
+    unfolding begun-values begun-owed
+    fresh-refused y state f = ap (λ (m : ℕ). m ∷ at ∷ []) (named y f) ∙ ap (λ (x : Reading). begun-owed x state) (sym (was-turned-down w e))
+
+    pub state-stays : (state : List ℕ) → state ≡ state-owed (reading b) state
+    unfolding state-owed
+    state-stays state = ap (λ (x : Reading). state-owed x state) (sym (was-turned-down w e))
+
+    pub excerpt-refused : (i : ℕ) → ([] ≡ excerpt-owed (reading b) b i) × ((n ≡ excerpt-number (reading b) i) × (at ≡ excerpt-place (reading b) i))
+    unfolding excerpt-owed excerpt-number excerpt-place
+    excerpt-refused i =
+        let r = sym (was-turned-down w e) in
+        (ap (λ (x : Reading). excerpt-owed x b i) r, (ap (λ (x : Reading). excerpt-number x i) r, ap (λ (x : Reading). excerpt-place x i) r))
+
+  module _ {s : Summary} (e : a ≡ GoodBlock s) where
+    abbrev g : Good
+    g = was-good w e .0
+
+    is-good : reading b ≡ good g
+    is-good = was-good w e .1
+
+    pub check-good : check-values (GoodOne s) ≡ check-owed (reading b)
+    unfolding check-values check-owed
+    check-good = ap (λ (s : Summary). check-values (GoodOne s)) (sym (was-good w e .2)) ∙ ap check-owed (sym is-good)
+
+    pub fresh-written : (state : List ℕ) → length state ≡ 22 → begun-values Fresh ≡ begun-owed (reading b) state
+    unfolding begun-values begun-owed
+    fresh-written state l =
+        let q : begun-owed (good g) state ≡ 0 ∷ 0 ∷ [] = simp (eq-eqb (length state) 22 l) in
+        sym (ap (λ (x : Reading). begun-owed x state) is-good ∙ q)
+
+    pub state-written : (state : List ℕ) → length state ≡ 22 → fresh-record ≡ state-owed (reading b) state
+    unfolding state-owed
+    state-written state l =
+        let q : state-owed (good g) state ≡ fresh-record = simp (eq-eqb (length state) 22 l) in
+        sym (ap (λ (x : Reading). state-owed x state) is-good ∙ q)
+
+    pub other-size : (state : List ℕ) → (length state ≡ 22 → ⊥) → begun-values (TurnedDown State 0) ≡ begun-owed (reading b) state
+    unfolding begun-values begun-owed number
+    other-size state n =
+        let q : begun-owed (good g) state ≡ 9 ∷ 0 ∷ [] = simp (ne-eqb (length state) 22 n) in
+        sym (ap (λ (x : Reading). begun-owed x state) is-good ∙ q)
+
+    pub other-stays : (state : List ℕ) → (length state ≡ 22 → ⊥) → state ≡ state-owed (reading b) state
+    unfolding state-owed
+    other-stays state n =
+        let q : state-owed (good g) state ≡ state = simp (ne-eqb (length state) 22 n) in
+        sym (ap (λ (x : Reading). state-owed x state) is-good ∙ q)
+
+    -- The excerpt of a good block.
+    facts : Sound b g
+    facts = sound b g is-good
+
+    count-is : s .statements ≡ statements (g .body)
+    count-is = ap (λ (s : Summary). s .statements) (sym (was-good w e .2)) ∙ facts .counted
+
+    pub excerpt-past : (i : ℕ) → s .statements ≤ i → ([] ≡ excerpt-owed (reading b) b i) × ((14 ≡ excerpt-number (reading b) i) × (0 ≡ excerpt-place (reading b) i))
+    unfolding excerpt-owed excerpt-number excerpt-place
+    excerpt-past i l =
+        let r = sym is-good in
+        let m : g .statements ≤ i = omega (arith, count-is, facts .counted) in
+        let q : excerpt-owed (good g) b i ≡ [] = simp (le-ltb i (g .statements) m) in
+        let k : excerpt-number (good g) i ≡ 14 = simp (le-ltb i (g .statements) m) in
+        (sym q ∙ ap (λ (x : Reading). excerpt-owed x b i) r, (sym k ∙ ap (λ (x : Reading). excerpt-number x i) r, ap (λ (x : Reading). excerpt-place x i) r))
+
+    module _ (i : ℕ) (l : i < s .statements) where
+      tabled : Tabled tab (statements (g .body)) (g .body)
+      tabled = record { has = has-body w is-good; small = facts .small; counted = refl }
+
+      there : At tab 0 (g .body) i
+      there = at-number 0 (g .body) (has-body w is-good) (facts .small) i (omega (arith, count-is))
+
+      pub few : i < 512
+      few = omega (arith, count-is, facts .counted, facts .few-statements)
+
+      size-is : getD (tab .sizes) i 0 ≡ statements (numbered (g .body) i)
+      size-is = has-row (numbered (g .body) i) (subst (λ (j : ℕ). Has tab j (numbered (g .body) i)) (zero-add i) (there .has)) .its-size
+
+      pub past-few : {m : ℕ} → m ≡ i + getD (tab .sizes) i 0 → m ≤ 512
+      past-few q = omega (arith, q, size-is, there .within, facts .counted, facts .few-statements)
+
+      -- Where the part starts and ends.
+      module _ {m start end : ℕ} (q : m ≡ i + getD (tab .sizes) i 0) (f : (t : Stmt) → Listed (tab .kinds) t → i ≤ statements t → start ≡ offset t i)
+          (h : (t : Stmt) → Listed (tab .kinds) t → m ≤ statements t → end ≡ offset t m) where
+        start-is : start ≡ offset (g .body) i
+        start-is = f (g .body) (tabled-listed (g .body) tabled) (omega (arith, count-is))
+
+        end-is : end ≡ offset (g .body) i + bytes (preorder (numbered (g .body) i))
+        end-is =
+            h (g .body) (tabled-listed (g .body) tabled) (omega (arith, q, size-is, there .within))
+            ∙ ap (λ (j : ℕ). offset (g .body) j) (q ∙ ap (λ (j : ℕ). i + j) size-is) ∙ offset-below (g .body) i there
+
+        pub start-first : start ≤ end
+        start-first = omega (arith, start-is, end-is)
+
+        pub end-within : end ≤ length b
+        end-within = omega (arith, end-is, offset-below (g .body) i there, offset-most (g .body) (i + statements (numbered (g .body) i)), facts .whole)
+
+        pub excerpt-part : (take (end - start) (drop start b) ≡ excerpt-owed (reading b) b i) × ((0 ≡ excerpt-number (reading b) i) × (0 ≡ excerpt-place (reading b) i))
+        unfolding excerpt-owed excerpt-number excerpt-place
+        excerpt-part =
+            let r = sym is-good in
+            let k : i < g .statements = omega (arith, count-is, facts .counted) in
+            let o : excerpt-owed (good g) b i ≡ take (bytes (preorder (numbered (g .body) i))) (drop (offset (g .body) i) b) = simp (lt-ltb i (g .statements) k) in
+            let n : excerpt-number (good g) i ≡ 0 = simp (lt-ltb i (g .statements) k) in
+            let d : end - start ≡ bytes (preorder (numbered (g .body) i)) = omega (arith, start-is, end-is) in (
+              (λ j. take (d j) (drop (start-is j) b)) ∙ sym o ∙ ap (λ (x : Reading). excerpt-owed x b i) r,
+              (sym n ∙ ap (λ (x : Reading). excerpt-number x i) r, ap (λ (x : Reading). excerpt-place x i) r),
+            )
+
+-- The bytes of a fresh record, once all 22 are cleared.
+pub fresh-bytes : (state before : List ℕ) (i : ℕ) → 22 ≤ i → i ≤ 22 → length before ≡ 22 → state ≡ replicate i 0 ++ drop i before → set (set state 0 22) 2 2 ≡ fresh-record
+fresh-bytes state before i lo hi l e =
+    let q : i ≡ 22 = omega arith in
+    let z : drop i before ≡ [] = drop-of-length-le before {i = i} (omega arith) in
+    ap (λ (s : List ℕ). set (set s 0 22) 2 2) (e ∙ (λ j. replicate (q j) 0 ++ z j))
+
+-- Different answers have different values: an answer's number and values give the answer back.
+why-of : ℕ → Why
+why-of n = getD (Broken ∷ Broken ∷ Kind ∷ Edition ∷ Limit ∷ Signal ∷ Exit ∷ Shape ∷ Loop ∷ State ∷ Clash ∷ Input ∷ Room ∷ NotConstructive ∷ Index ∷ []) n Broken
+
+why-back : (w : Why) → why-of (number w) ≡ w
+unfolding why-of number
+why-back Broken = refl
+why-back Kind = refl
+why-back Edition = refl
+why-back Limit = refl
+why-back Signal = refl
+why-back Exit = refl
+why-back Shape = refl
+why-back Loop = refl
+why-back State = refl
+why-back Clash = refl
+why-back Input = refl
+why-back Room = refl
+why-back NotConstructive = refl
+why-back Index = refl
+
+pub numbers-differ : (v w : Why) → number v ≡ number w → v ≡ w
+numbers-differ v w e = sym (why-back v) ∙ ap why-of e ∙ why-back w
+
+number-above : (w : Why) → number w ≡ 0 → ⊥
+unfolding number
+number-above Broken e = absurd (omega arith)
+number-above Kind e = absurd (omega arith)
+number-above Edition e = absurd (omega arith)
+number-above Limit e = absurd (omega arith)
+number-above Signal e = absurd (omega arith)
+number-above Exit e = absurd (omega arith)
+number-above Shape e = absurd (omega arith)
+number-above Loop e = absurd (omega arith)
+number-above State e = absurd (omega arith)
+number-above Clash e = absurd (omega arith)
+number-above Input e = absurd (omega arith)
+number-above Room e = absurd (omega arith)
+number-above NotConstructive e = absurd (omega arith)
+number-above Index e = absurd (omega arith)
+
+nth : ℕ → List ℕ → ℕ
+nth n l = getD l n 0
+
+pub check-told-apart : (x y : Checked) → check-values x ≡ check-values y → x ≡ y
+unfolding check-values nth
+check-told-apart (GoodOne s) (GoodOne t) e = λ i. GoodOne (record {
+  version = ap (nth 2) e i;
+  inputs = ap (nth 3) e i;
+  outputs = ap (nth 4) e i;
+  locals = ap (nth 5) e i;
+  statements = ap (nth 6) e i;
+  pauses = ap (nth 7) e i;
+})
+check-told-apart (GoodOne s) (Refused w at) e = absurd (number-above w (sym (ap (nth 0) e)))
+check-told-apart (Refused v at) (GoodOne s) e = absurd (number-above v (ap (nth 0) e))
+check-told-apart (Refused v at) (Refused w place) e = λ i. Refused (numbers-differ v w (ap (nth 0) e) i) (ap (nth 1) e i)
+
+pub begun-told-apart : (x y : Begun) → begun-values x ≡ begun-values y → x ≡ y
+unfolding begun-values nth
+begun-told-apart Fresh Fresh e = refl
+begun-told-apart Fresh (TurnedDown w at) e = absurd (number-above w (sym (ap (nth 0) e)))
+begun-told-apart (TurnedDown v at) Fresh e = absurd (number-above v (ap (nth 0) e))
+begun-told-apart (TurnedDown v at) (TurnedDown w place) e = λ i. TurnedDown (numbers-differ v w (ap (nth 0) e) i) (ap (nth 1) e i)

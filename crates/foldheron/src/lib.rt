@@ -1,0 +1,156 @@
+// What users call: the check of a block, a fresh state for it, and an excerpt of it.
+use block::whole::Answer;
+use block::whole::Summary;
+use block::whole::offset_of;
+use block::whole::read_block;
+ghost use mathlib.Core.Path.{_≡_};
+ghost use Prim.Native.Nat.{_+_, _≤_, _<_};
+ghost use lib.ListN.{length, getD};
+ghost use Rattle.block.specs.Format.{reading};
+ghost use Rattle.block.specs.declared.whole.Answer.{Answer};
+ghost use Rattle.foldheron.specs.Answers.{number, check-values, check-owed, begun-values, begun-owed, fresh-record, state-owed, excerpt-number, excerpt-place, excerpt-owed};
+
+// Why a call is turned down.
+pub enum Why {
+    Broken,
+    Kind,
+    Edition,
+    Limit,
+    Signal,
+    Exit,
+    Shape,
+    Loop,
+    State,
+    Clash,
+    Input,
+    Room,
+    NotConstructive,
+    Index,
+}
+
+// A good block, or why it is turned down and where.
+pub enum Checked {
+    Good(Summary),
+    Refused(Why, usize),
+}
+
+// A fresh state was written, or why it was not and where.
+pub enum Begun {
+    Fresh,
+    TurnedDown(Why, usize),
+}
+
+// The refusal of a number.
+fn refusal(n: u16) -> Why
+    ensures { λ r. ⌜ (1 ≤ n → n ≤ 14 → number r ≡ n) ⌝ }
+{
+    match n {
+        1 => Why::Broken,
+        2 => Why::Kind,
+        3 => Why::Edition,
+        4 => Why::Limit,
+        5 => Why::Signal,
+        6 => Why::Exit,
+        7 => Why::Shape,
+        8 => Why::Loop,
+        9 => Why::State,
+        10 => Why::Clash,
+        11 => Why::Input,
+        12 => Why::Room,
+        13 => Why::NotConstructive,
+        _ => Why::Index,
+    }
+}
+
+// Checks a block: numbers 1 to 8, or what it declares and how large it is.
+pub fn check(block: &[u8]) -> Checked
+    ensures { λ r. ⌜ check-values r ≡ check-owed (reading (now (block .entry))) ⌝ }
+{
+    let mut kinds = [0u16; 512];
+    let mut operands = [0u16; 512];
+    let mut sizes = [0u16; 512];
+    let answer = read_block(block, &mut kinds, &mut operands, &mut sizes);
+    match answer {
+        Answer::Good(s) => Checked::Good(s),
+        Answer::Refused(n, at) => Checked::Refused(refusal(n), at),
+    }
+}
+
+// A fresh state record, over 22 lent bytes.
+fn write_fresh(state: &mut [u8])
+    requires { ⌜ length (now state) ≡ 22 ⌝ }
+    ensures { λ _. ⌜ now (state .exit) ≡ fresh-record ⌝ }
+{
+    let mut i: usize = 0;
+    while i < 22 {
+        state[i] = 0;
+        i += 1;
+    }
+    state[0] = 22;
+    state[2] = 2;
+}
+
+// Writes a fresh state of a block into 22 lent bytes: numbers 1 to 8, then 9 for another size. A refusal changes no byte.
+pub fn fresh(block: &[u8], state: &mut [u8]) -> Begun
+    ensures { λ r. ⌜ begun-values r ≡ begun-owed (reading (now (block .entry))) (now (state .entry)) ⌝ }
+    ensures { λ _. ⌜ now (state .exit) ≡ state-owed (reading (now (block .entry))) (now (state .entry)) ⌝ }
+{
+    let mut kinds = [0u16; 512];
+    let mut operands = [0u16; 512];
+    let mut sizes = [0u16; 512];
+    let answer = read_block(block, &mut kinds, &mut operands, &mut sizes);
+    match answer {
+        Answer::Good(_) => {
+            if state.len() != 22 {
+                return Begun::TurnedDown(Why::State, 0);
+            }
+            write_fresh(state);
+            Begun::Fresh
+        }
+        Answer::Refused(n, at) => Begun::TurnedDown(refusal(n), at),
+    }
+}
+
+// The number of the first statement after statement n and all below it.
+fn past_statement(sizes: &[u16; 512], n: usize) -> usize
+    requires { ⌜ n < 512 ⌝ }
+    ensures { λ r. ⌜ r ≡ n + getD (now (sizes .entry)) n 0 ⌝ }
+{
+    n + wide(sizes[n])
+}
+
+fn wide(x: u16) -> usize
+    ensures { λ r. ⌜ (r ≡ x) × (r < 65536) ⌝ }
+{
+    x as usize
+}
+
+// The part of the block that holds statement n and all below it: numbers 1 to 8, then 14; refused, an empty part.
+pub fn excerpt<'a>(block: &'a [u8], n: usize, number: &mut u16, place: &mut usize) -> &'a [u8]
+    ensures { λ r. ⌜ now r ≡ excerpt-owed (reading (now (block .entry))) (now (block .entry)) n ⌝ }
+    ensures { λ _. ⌜ now (number .exit) ≡ excerpt-number (reading (now (block .entry))) n ⌝ }
+    ensures { λ _. ⌜ now (place .exit) ≡ excerpt-place (reading (now (block .entry))) n ⌝ }
+{
+    let mut kinds = [0u16; 512];
+    let mut operands = [0u16; 512];
+    let mut sizes = [0u16; 512];
+    let answer = read_block(block, &mut kinds, &mut operands, &mut sizes);
+    match answer {
+        Answer::Refused(k, at) => {
+            *number = k;
+            *place = at;
+            &block[..0]
+        }
+        Answer::Good(s) => {
+            *place = 0;
+            if s.statements <= n {
+                *number = 14;
+                return &block[..0];
+            }
+            *number = 0;
+            let start = offset_of(&kinds, n);
+            let end = offset_of(&kinds, past_statement(&sizes, n));
+            &block[start..end]
+        }
+    }
+}
