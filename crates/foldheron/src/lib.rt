@@ -1,13 +1,24 @@
-// What users call: the check of a block, a fresh state for it, and an excerpt of it.
+// What users call: the check of a block, a fresh state for it, one instant, one with a log record, and an excerpt of a block.
+mod instants;
+
+pub use crate::instants::Instant;
+pub use crate::instants::Logged;
 use block::whole::Answer;
 use block::whole::Summary;
 use block::whole::offset_of;
 use block::whole::read_block;
+use reaction::Reply;
+use reaction::comes_to;
+use records::log::no_room;
+use records::log::write_at_end;
+use records::state::write_state;
 ghost use mathlib.Core.Path.{_≡_};
 ghost use Prim.Native.Nat.{_+_, _≤_, _<_};
 ghost use lib.ListN.{length, getD};
 ghost use Rattle.block.specs.Format.{reading};
 ghost use Rattle.block.specs.declared.whole.Answer.{Answer};
+ghost use Rattle.reaction.specs.Instants.{told, state-after, log-after, end-after, instant-verdict, logged-verdict};
+ghost use Rattle.foldheron.specs.InstantAnswers.{instant-told};
 ghost use Rattle.foldheron.specs.Answers.{number, check-values, check-owed, begun-values, begun-owed, fresh-record, state-owed, excerpt-number, excerpt-place, excerpt-owed};
 
 // Why a call is turned down.
@@ -152,5 +163,69 @@ pub fn excerpt<'a>(block: &'a [u8], n: usize, number: &mut u16, place: &mut usiz
             let end = offset_of(&kinds, past_statement(&sizes, n));
             &block[start..end]
         }
+    }
+}
+
+// Runs one instant: numbers 1 to 8, then 9, 10 with the pair, 11, 13. An answered one writes the next state over the lent state; a
+// refusal changes no byte.
+pub fn instant(block: &[u8], state: &mut [u8], inputs: u64) -> Instant
+    ensures { λ r. ⌜ instant-told r ≡ told (instant-verdict (now (block .entry)) (now (state .entry)) inputs) ⌝ }
+    ensures { λ _. ⌜ now (state .exit) ≡ state-after (now (state .entry)) (instant-verdict (now (block .entry)) (now (state .entry)) inputs) ⌝ }
+{
+    let came = comes_to(block, state, inputs, false);
+    let reply = came.reply;
+    let phase = came.phase;
+    let kept = came.kept;
+    match reply {
+        Reply::Answered(r) => {
+            write_state(state, phase, kept);
+            Instant::Answered(r)
+        }
+        Reply::NotConstructive(d) => Instant::NotConstructive(d),
+        Reply::Clash(m, n) => Instant::Clash(m, n),
+        Reply::Refused(number, place) => Instant::Refused(refusal(number), place),
+    }
+}
+
+// Runs one instant with a log: as above, and 12 before 13. An answered one also writes a record from the log's end on, and nothing before or
+// after it changes.
+pub fn instant_logged(
+    block: &[u8],
+    state: &mut [u8],
+    inputs: u64,
+    log: &mut [u8],
+    end: usize,
+) -> Logged
+    ensures { λ r. ⌜ instant-told (r .answer) ≡ told (logged-verdict (now (block .entry)) (now (state .entry)) inputs (now (log .entry)) end) ⌝ }
+    ensures { λ r. ⌜ r .end ≡ end-after end (logged-verdict (now (block .entry)) (now (state .entry)) inputs (now (log .entry)) end) ⌝ }
+    ensures { λ _. ⌜ now (state .exit) ≡ state-after (now (state .entry)) (logged-verdict (now (block .entry)) (now (state .entry)) inputs (now (log .entry)) end) ⌝ }
+    ensures { λ _. ⌜ now (log .exit) ≡ log-after (now (log .entry)) end inputs (logged-verdict (now (block .entry)) (now (state .entry)) inputs (now (log .entry)) end) ⌝ }
+{
+    let roomless = no_room(log.len(), end);
+    let came = comes_to(block, state, inputs, roomless);
+    let reply = came.reply;
+    let phase = came.phase;
+    let kept = came.kept;
+    match reply {
+        Reply::Answered(r) => {
+            write_state(state, phase, kept);
+            let next = write_at_end(log, end, inputs, r.present, r.code, r.rounds);
+            Logged {
+                answer: Instant::Answered(r),
+                end: next,
+            }
+        }
+        Reply::NotConstructive(d) => Logged {
+            answer: Instant::NotConstructive(d),
+            end: 0,
+        },
+        Reply::Clash(m, n) => Logged {
+            answer: Instant::Clash(m, n),
+            end: 0,
+        },
+        Reply::Refused(number, place) => Logged {
+            answer: Instant::Refused(refusal(number), place),
+            end: 0,
+        },
     }
 }

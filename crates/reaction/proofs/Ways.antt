@@ -44,12 +44,12 @@ use Rattle.evaluate.specs.declared.rounds.Reacted.{Reacted}
 use Rattle.reaction.specs.declared.Reply.the-variants.{Refused, Clash, Answered, NotConstructive}
 use Rattle.reaction.specs.declared.Outcome.{Outcome}
 use Rattle.reaction.specs.Instants.{Verdict, refused, clash, reacted, INPUT, ROOM, block-of, try-inputs, try-clash, clash-tried, try-state, try-block, verdict, told-reaction, told}
-use Rattle.reaction.specs.Outcomes.{told-of, Coded, Writes, Comes, Opened, Begins}
+use Rattle.reaction.specs.Outcomes.{told-of, Coded, Writes, case-of, case-for, Comes, Opened, Begins}
 
 -- turned down
 refused-comes : (n at : ℕ) (o : Outcome) → o .reply ≡ Refused n at → Comes (refused n at) o
-unfolding told-of told Writes
-refused-comes n at o e = record { told-is = ap told-of e; writes = tt }
+unfolding told-of told Writes case-of case-for
+refused-comes n at o e = record { same-case = ap case-of e; told-is = ap told-of e; writes = tt }
 
 pub turned-down : {v : Verdict} {o : Outcome} (n at : ℕ) → o .reply ≡ Refused n at → v ≡ refused n at → Comes v o
 turned-down {v} {o} n at e d = subst (λ (w : Verdict). Comes w o) (sym d) (refused-comes n at o e)
@@ -112,8 +112,9 @@ module _ (b : Block) (r : Reacted) (fits : Fitting r) (o : Outcome) where
   pub answered-comes : (outs : List Status) (c : ℕ) (st : State) (n : ℕ) → evaluate.Answered b outs c st n r → c < 18
       → o .reply ≡ Answered (record { present = r .present; code = r .code .0 % 65536; rounds = r .rounds; active = r .active })
       → ((A : Numbers) → o .phase ≡ phase-of (next (r .code .0 % 65536) A)) → o .kept ≡ r .kept → Comes (reacted b (answered outs c st n)) o
-  unfolding told-of told Writes
+  unfolding told-of told Writes case-of case-for
   answered-comes outs c st n a l e ph k = record {
+    same-case = ap case-of e;
     told-is = ap told-of e ∙ fields;
     writes = ap (state-bytes (o .phase)) k ∙ written-state st (o .phase) (r .kept) (fits .low-fits .fits) (fits .high-fits .fits) its-phase its-set;
   }
@@ -147,8 +148,8 @@ module _ (b : Block) (r : Reacted) (fits : Fitting r) (o : Outcome) where
   pub doubted-comes : (outs : List Status) (n : ℕ) → evaluate.Undecided b outs n r
       → o .reply ≡ NotConstructive (record { present = r .present; absent = r .absent; undecided = r .undecided; rounds = r .rounds })
       → Comes (reacted b (not-constructive outs n)) o
-  unfolding told-of told Writes
-  doubted-comes outs n a e = record { told-is = ap told-of e ∙ fields; writes = tt }
+  unfolding told-of told Writes case-of case-for
+  doubted-comes outs n a e = record { same-case = ap case-of e; told-is = ap told-of e ∙ fields; writes = tt }
     where
       fields : told-of (NotConstructive (record { present = r .present; absent = r .absent; undecided = r .undecided; rounds = r .rounds }))
           ≡ told-reaction b (not-constructive outs n)
@@ -262,10 +263,10 @@ module _ {tab : Table} {s : Summary} {g : Good} (o : Opened tab s g) where
 
     pub pair-way : {x : Clashing} {m n : ℕ} {out : Outcome} → x ≡ Pair m n → pair-of x ≡ first-clash (g .body) (set-of set) → out .reply ≡ Clash m n
         → Comes (clash-tried g st given roomless) out
-    unfolding pair-of try-clash told-of told Writes
+    unfolding pair-of try-clash told-of told Writes case-of case-for
     pair-way {x} {m} {n} {out} d e r =
         subst (λ (x : Option Pairing). Comes (try-clash g st given roomless x) out) (ap pair-of (sym d) ∙ e ∙ its-clash)
-        (record { told-is = ap told-of r; writes = tt })
+        (record { same-case = ap case-of r; told-is = ap told-of r; writes = tt })
 
     pub clear-way : {x : Clashing} {out : Outcome} → x ≡ None → pair-of x ≡ first-clash (g .body) (set-of set)
         → Comes (try-inputs g st given roomless) out → Comes (clash-tried g st given roomless) out

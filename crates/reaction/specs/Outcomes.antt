@@ -58,7 +58,21 @@ Writes (clash pair) o = Unit {0}
 Writes (reacted b (answered outs c st r)) o = state-bytes (o .phase) (o .kept) ≡ state-record st
 Writes (reacted b (not-constructive outs r)) o = Unit {0}
 
+-- Which of the four cases it is.
+unfoldable pub case-of : Reply → ℕ
+case-of (Refused n at) = 0
+case-of (Clash m n) = 1
+case-of (Answered r) = 2
+case-of (NotConstructive d) = 3
+
+unfoldable pub case-for : Verdict → ℕ
+case-for (refused n at) = 0
+case-for (clash pair) = 1
+case-for (reacted b (answered outs c st r)) = 2
+case-for (reacted b (not-constructive outs r)) = 3
+
 pub record Comes (v : Verdict) (o : Outcome) : Type 0 where
+  pub same-case : case-of (o .reply) ≡ case-for v
   pub told-is : told-of (o .reply) ≡ told v
   pub writes : Writes v o
 
