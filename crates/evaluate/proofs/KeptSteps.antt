@@ -173,13 +173,13 @@ module _ {A : Numbers} {tab : Table} {live : List Bool} {e : Heard} {r : Kept} w
   keep-skip b w z j = record { at = λ l p t. same-kept (t .made) (skip-kept (t .first) (t .later) (event-of e) b w z (j .at l (t .first) (t .left))) }
 
   pub keep-scope : {s : ℕ} {p : Part} {u h : Heard} {m : MustCan} {a : Kept} (v : Status) → KeptWith r (bits (a .codes)) (pauses-of (a .pauses)) → (s < 64 → event-of u ≡ giving (event-of e) s unknown)
-      → Walked tab live (Same p) u m → (s < 64 → v ≡ settled must s (given-of (m .must)) (given-of (m .can))) → (s < 64 → event-of h ≡ giving (event-of e) s v) → Keeping A tab live (Same p) h a
+      → Walked plus tab live (Same p) u m → (s < 64 → v ≡ settled (can plus) s (given-of (m .must)) (given-of (m .can))) → (s < 64 → event-of h ≡ giving (event-of e) s v) → Keeping A tab live (Same p) h a
       → Keeping A tab live (Scope s p) e r
   unfolding Shows
   keep-scope {s} {h = h} v w uk wa st hv k = record {
     at = λ l p d.
         let t = d .1 in
-        let m = wa .in-must .at A l (t .inner) (t .does) ∙ ap (gives must (t .inner)) (uk (d .0)) in
+        let m = wa .in-must refl .at A l (t .inner) (t .does) ∙ ap (gives must (t .inner)) (uk (d .0)) in
         let n = wa .in-can .at A l (t .inner) (t .does) ∙ ap (gives (can plus) (t .inner)) (uk (d .0)) in
         same-kept (t .made)
         (scope-kept s (t .inner) (event-of e) (event-of h) (hv (d .0) ∙ ap (giving (event-of e) s) (st (d .0) ∙ ap₂ (settled must s) m n)) w (k .at l (t .inner) (t .does)));

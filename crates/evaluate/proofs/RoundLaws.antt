@@ -250,13 +250,13 @@ pub fine-block : {b : Block} {i n : ℕ} {m : Heard} → Sized b i n → Fine (o
 fine-block {m = m} z f = subst₂ (λ (x y : ℕ). Fine (outs-from x y) m) (sym (z .its-inputs)) (sym (z .its-outputs)) f
 
 pub rounded-is : {tab : Table} {live : List Bool} {c : Part} (i n : ℕ) {given : ℕ} {m r e : Heard} {a : MustCan} → ((b : Block) (k : ℕ) → Sized b i k → Fine (outs-from i k) m → event-of e ≡ event b (bits given) (marks-of b m))
-    → Walked tab live (Same c) e a → Marks (outs-from i n) m a r → Rounded tab live c i n given m r
+    → Walked plus tab live (Same c) e a → Marks (outs-from i n) m a r → Rounded tab live c i n given m r
 unfolding rules.round given-of Shows
 rounded-is i n {given} {m} {r} {e} {a} ev w mk = record {
   fine = mk .fine;
   rounds = λ A l p d b z f.
       let E = event b (bits given) (marks-of b m) in
-      let u : given-of (a .must) ≡ gives must p E = w .in-must .at A l p d ∙ ap (gives must p) (ev b n z f) in
+      let u : given-of (a .must) ≡ gives must p E = w .in-must refl .at A l p d ∙ ap (gives must p) (ev b n z f) in
       let v : given-of (a .can) ≡ gives (can plus) p E = w .in-can .at A l p d ∙ ap (gives (can plus) p) (ev b n z f) in
       marks-statuses (gives must p E) (gives (can plus) p E) m r (b .inputs) (b .outputs)
       (λ k h q.

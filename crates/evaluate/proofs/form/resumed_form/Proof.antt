@@ -39,17 +39,17 @@ live-at-requires c κs = search needs
 live-at-requires-2 : tie.Need-live-at-requires-2
 live-at-requires-2 c κs = search needs
 
-add-t13 : tie.Need-add-t13
-add-t13 c = search needs
+add-t16 : tie.Need-add-t16
+add-t16 c = search needs
+
+add-t16-2 : tie.Need-add-t16-2
+add-t16-2 c = search needs
+
+add-t16-3 : tie.Need-add-t16-3
+add-t16-3 c = search needs
 
 chosen-requires : tie.Need-chosen-requires
 chosen-requires c κs = search needs
-
-add-t22 : tie.Need-add-t22
-add-t22 c = search needs
-
-add-t29 : tie.Need-add-t29
-add-t29 c = search needs
 
 add-arm : tie.Need-add-arm
 add-arm c = search needs
@@ -100,10 +100,10 @@ resumed-form-spec =
     add-live-at
     live-at-requires
     live-at-requires-2
-    add-t13
+    add-t16
+    add-t16-2
+    add-t16-3
     chosen-requires
-    add-t22
-    add-t29
     add-arm
     arm-requires
     arm-requires-2
