@@ -1,17 +1,17 @@
 -- The rounds over words: masks, marks, and the statuses that the words stand for. Assumes nothing.
 use mathlib.Core.Path.{_≡_, refl, sym, ap, ap₂, _∙_, subst, subst₂, fun-ext}
-use mathlib.Core.Bool.{Bool, true, false, not, cond, _&&_, _||_, and-comm, and-false, or-false}
+use mathlib.Core.Bool.{Bool, true, false, not, cond, _&&_, _||_, and-comm, and-false}
 use mathlib.Core.List.{List, [], _∷_}
 use mathlib.Core.Option.{Option, none, some}
-use Prim.Native.Nat.{ℕ, zero, suc, _+_, _-_, _*_, _%_, _^_, _≤_, _<_, zero-le, suc-le-suc}
-use native.Mathlib.Nat.{zero-add, add-zero, add-suc, suc-add, le-of-suc-le-suc, not-suc-le-zero}
+use Prim.Native.Nat.{ℕ, zero, suc, _+_, _-_, _*_, _%_, _^_, _≤_, _<_}
+use native.Mathlib.Nat.{zero-add, add-zero, le-of-suc-le-suc, not-suc-le-zero}
 use native.Mathlib.Decide.{decLt, decLe}
 use native.Mathlib.Omega.{arith}
 use lib.Dec.{T, eqb, leb, ltb, lt→ltb, ltb→lt, le→leb, leb→le}
-use lib.ListN.{getD, replicate}
+use lib.ListN.{getD}
 use lib.Pow.{pow-pos}
 use lib.Bits.{bitAnd, bitOr, bitXor, and-mask}
-use borrow.Author.Tests.{eq-eqb, ne-eqb}
+use borrow.Author.Tests.{eq-eqb}
 use Rattle.sets.specs.Numbers.{Numbers, empty, count, lowest}
 use Rattle.sets.specs.Words.{bits}
 use Rattle.sets.proofs.Members.{is-true, is-false, of-true, of-false, ext, same, and-in, and-left, and-right}
@@ -21,7 +21,7 @@ use Rattle.rules.specs.Statements.{Block, Stmt}
 use Rattle.rules.specs.Events.{Status, present, absent, unknown, Event, known, event}
 use Rattle.rules.specs.Instant.{Step}
 use Rattle.rules.specs.MustCan.{plus, must, can, Given, marked, gives}
-use Rattle.rules.specs.States.{State, running, finished, step, kept, next}
+use Rattle.rules.specs.States.{running, finished, step, kept, next}
 use Rattle.rules.specs.Rounds as rules
 use Rattle.block.specs.Table.{Table}
 use Rattle.evaluate.specs.declared.words.Heard.{Heard}

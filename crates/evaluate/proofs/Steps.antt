@@ -6,12 +6,11 @@ use mathlib.Core.List.{List}
 use Prim.Native.Nat.{ℕ, _+_, _*_, _<_, max}
 use native.Mathlib.Omega.{arith}
 use lib.ListN.{getD}
-use Rattle.sets.specs.Numbers.{Numbers, single}
 use Rattle.sets.specs.Words.{bits}
 use Rattle.rules.specs.Statements.{depth, code}
 use Rattle.rules.specs.Events.{Status, present, absent, unknown, Event, giving}
-use Rattle.rules.specs.Instant.{Step, done, stay, say, leave, test, catch, scope, chain, beside}
-use Rattle.rules.specs.MustCan.{Mark, plus, opened, Question, must, can, Given, nothing-known, in-doubt, either, choose, caught, both, followed, onward, settled, absence-asked, hidden, gives}
+use Rattle.rules.specs.Instant.{Step, leave, test}
+use Rattle.rules.specs.MustCan.{Mark, plus, opened, Question, must, can, Given, nothing-known, either, caught, both, followed, onward, settled, hidden, gives}
 use Rattle.block.specs.Table.{Table}
 use Rattle.evaluate.specs.declared.words.Heard.{Heard}
 use Rattle.evaluate.specs.declared.words.Told.{Told}
@@ -22,7 +21,7 @@ use Rattle.evaluate.specs.declared.form.Part.{Part}
 use Rattle.evaluate.specs.declared.form.Form.{Form}
 use Rattle.evaluate.specs.declared.form.Form.the-variants.{Done, Stay, Keep, Say, Leave, Test, Catch, Scope, Chain, Beside, Same}
 use Rattle.evaluate.specs.Words.{event-of, seen-as, given-of, quiet, loud}
-use Rattle.evaluate.specs.Forms.{Placed, Live, Shows, Under, Below, Formed}
+use Rattle.evaluate.specs.Forms.{Placed, Shows, Under, Formed}
 use Rattle.evaluate.specs.Walks.{Followed, Hidden, Gives, Walked}
 
 -- The rules, as the questions meet them.

@@ -1,9 +1,8 @@
 -- Each rule over words is the rule over sets: a law for each way through the functions of words.rt, bit by bit. Assumes nothing.
-use mathlib.Core.Path.{_≡_, refl, fun-ext, sym, ap, ap₂, _∙_, subst, subst⁻¹}
+use mathlib.Core.Path.{_≡_, refl, fun-ext, sym, ap, ap₂, _∙_}
 use mathlib.Core.Bool.{Bool, true, false, not, cond, _&&_, _||_, or-false}
 use mathlib.Core.Option.{Option, none, some}
 use Prim.Native.Nat.{ℕ, zero, suc, _+_, _-_, _*_, _/_, _%_, _^_, _≤_, _<_}
-use native.Mathlib.Nat.{lt-of-lt-of-le}
 use native.Mathlib.Decide.{decLt}
 use native.Mathlib.Omega.{arith}
 use lib.Dec.{T, eqb, ltb, lt→ltb, ltb→lt}
@@ -12,11 +11,11 @@ use lib.Bits.{bitAnd, bitOr, bitXor, or-lt}
 use lib.Count.{trailingZeros}
 use Rattle.sets.specs.Numbers.{Numbers, empty, single, union, without, only-if, some-to, maxima, downs, lowest}
 use Rattle.sets.specs.Words.{bits}
-use Rattle.sets.proofs.Members.{is-true, is-false, of-false, ext, same}
+use Rattle.sets.proofs.Members.{is-true, is-false, of-false, ext}
 use Rattle.sets.proofs.Maxima.{some-to-in, some-to-out}
 use Rattle.sets.proofs.Counts.{lowest-some, lowest-none}
-use Rattle.sets.proofs.Words.{bits-first, bits-suc, bits-zero, bits-high, bits-and, bits-or, bits-less, bits-ext, bits-not, bits-mask-test, trailing-some, Is, is-set, is-single, is-shift, is-same, is-without}
-use Rattle.rules.specs.Events.{Status, present, absent, unknown, giving}
+use Rattle.sets.proofs.Words.{bits-first, bits-suc, bits-zero, bits-high, bits-and, bits-or, bits-less, bits-ext, bits-not, bits-mask-test, trailing-some, is-set, is-single, is-shift, is-same}
+use Rattle.rules.specs.Events.{present, absent, unknown, giving}
 use Rattle.rules.specs.MustCan.{plus, opened, can, Given, nothing-known, either, caught, both, followed, marked, settled, hidden}
 use Rattle.evaluate.specs.declared.words.Heard.{Heard}
 use Rattle.evaluate.specs.declared.words.Told.{Told}

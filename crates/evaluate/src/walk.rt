@@ -24,7 +24,7 @@ use crate::words::silent;
 use crate::words::status_at;
 use crate::words::still_unknown;
 ghost use mathlib.Core.Path.{_≡_};
-ghost use Prim.Native.Nat.{ℕ, _<_};
+ghost use Prim.Native.Nat.{_<_};
 ghost use Rattle.evaluate.specs.Words.{mark-of};
 ghost use Rattle.evaluate.specs.Forms.{table, Placed};
 ghost use Rattle.evaluate.specs.Walks.{Caught, Beside, Followed, Hidden, Doubted, Walked};

@@ -1,3 +1,5 @@
+-- `evaluate::form::resumed_form` meets its contract: each arm is the form of its kind; the kinds that are left are done.
+-- Assumes nothing.
 use Rattle.evaluate.proofs.FormLaws.{row, in-table, arm-part, resumed-formed, resumed-done, done-formed}
 use Rattle.evaluate.specs.Forms.{table, step-of, Formed}
 use mathlib.Core.Path.{sym, _∙_, subst⁻¹}
@@ -8,12 +10,6 @@ use Rattle.evaluate.specs.declared.form.Form.the-variants.{Beside, Same}
 use borrow.Author.Needs.{needs}
 use Rattle.evaluate.proofs.form.resumed_form.Statement.{statement}
 use Rattle.evaluate.proofs.form.resumed_form.Tie as tie
-use Rattle.evaluate.proofs.form.resumed_form.Reads as reads
-use Rattle.evaluate.proofs.form.resumed_form.Lts as lts
-use Rattle.evaluate.proofs.form.arm.Reads as arm-reads
-use Rattle.evaluate.proofs.form.chosen.Reads as chosen-reads
-use Rattle.evaluate.proofs.form.live_at.Reads as live-at-reads
-use Rattle.evaluate.proofs.form.second.Reads as second-reads
 
 mul-kind : tie.Need-mul-kind
 mul-kind c = search needs

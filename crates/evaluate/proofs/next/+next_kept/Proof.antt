@@ -1,3 +1,5 @@
+-- The proof of the cycle of calls {next_kept}: each way is a lemma of KeptSteps; the measure is the subtree's size.
+-- Assumes nothing.
 use mathlib.Core.Path.{sym, ap, _∙_}
 use lib.Dec.{lit<}
 use lib.ListN.{getD}

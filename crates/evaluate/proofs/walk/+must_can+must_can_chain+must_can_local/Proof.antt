@@ -1,3 +1,5 @@
+-- The proof of the cycle of calls {must_can, must_can_chain, must_can_local}: each way is a lemma of Steps; the measure is twice the subtree's size, one more for a local's and a sequence's own walk.
+-- Assumes nothing.
 use mathlib.Core.Path.{ap}
 use lib.Dec.{lit<}
 use Rattle.evaluate.specs.Words.{seen-as, mark-of}

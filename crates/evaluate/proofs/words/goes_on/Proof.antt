@@ -1,11 +1,10 @@
+-- `evaluate::words::goes_on` meets its contract: it answers false only under open and without code 0.
+-- Assumes nothing.
 use mathlib.Core.Path.{sym, subst, _∙_}
 use lib.Dec.{T}
 use borrow.Author.Needs.{needs}
 use Rattle.evaluate.proofs.words.goes_on.Statement.{statement}
 use Rattle.evaluate.proofs.words.goes_on.Tie as tie
-use Rattle.evaluate.proofs.words.goes_on.Reads as reads
-use Rattle.evaluate.proofs.words.goes_on.Lts as lts
-use Rattle.evaluate.proofs.words.gives_zero.Reads as gives-zero-reads
 
 enum-told : tie.Need-enum-told
 enum-told c = search needs

@@ -1,3 +1,5 @@
+-- `evaluate::words::mark_onward` meets its contract: the three ways are the three clauses of `onward`.
+-- Assumes nothing.
 use mathlib.Core.Path.{sym, ap, ap₂, _∙_}
 use Rattle.sets.specs.Words.{bits}
 use Rattle.rules.specs.MustCan.{can, onward}
@@ -5,9 +7,6 @@ use Rattle.evaluate.specs.Words.{mark-of}
 use borrow.Author.Needs.{needs}
 use Rattle.evaluate.proofs.words.mark_onward.Statement.{statement}
 use Rattle.evaluate.proofs.words.mark_onward.Tie as tie
-use Rattle.evaluate.proofs.words.mark_onward.Reads as reads
-use Rattle.evaluate.proofs.words.mark_onward.Lts as lts
-use Rattle.evaluate.proofs.words.gives_zero.Reads as gives-zero-reads
 
 enum-told : tie.Need-enum-told
 enum-told c = search needs

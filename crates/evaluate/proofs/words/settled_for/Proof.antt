@@ -1,3 +1,5 @@
+-- `evaluate::words::settled_for` meets its contract: the two bits are marked, must only under plus.
+-- Assumes nothing.
 use mathlib.Core.Path.{sym, ap, _∙_}
 use Rattle.rules.specs.MustCan.{can, settled}
 use Rattle.evaluate.specs.Words.{mark-of, given-of}
@@ -5,10 +7,6 @@ use Rattle.evaluate.proofs.WordLaws.{settled-plus, settled-open}
 use borrow.Author.Needs.{needs}
 use Rattle.evaluate.proofs.words.settled_for.Statement.{statement}
 use Rattle.evaluate.proofs.words.settled_for.Tie as tie
-use Rattle.evaluate.proofs.words.settled_for.Reads as reads
-use Rattle.evaluate.proofs.words.settled_for.Lts as lts
-use Rattle.evaluate.proofs.words.has_signal.Reads as has-signal-reads
-use Rattle.evaluate.proofs.words.marked_as.Reads as marked-as-reads
 
 has-signal-requires : tie.Need-has-signal-requires
 has-signal-requires c κs = search needs

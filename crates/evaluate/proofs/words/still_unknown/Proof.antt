@@ -1,10 +1,10 @@
+-- `evaluate::words::still_unknown` meets its contract: only one way answers true.
+-- Assumes nothing.
 use mathlib.Core.Path.{subst⁻¹}
 use lib.Dec.{T}
 use borrow.Author.Needs.{needs}
 use Rattle.evaluate.proofs.words.still_unknown.Statement.{statement}
 use Rattle.evaluate.proofs.words.still_unknown.Tie as tie
-use Rattle.evaluate.proofs.words.still_unknown.Reads as reads
-use Rattle.evaluate.proofs.words.still_unknown.Lts as lts
 
 enum-told : tie.Need-enum-told
 enum-told c = search needs
