@@ -6,10 +6,10 @@ use mathlib.Core.List.{List, [], _∷_, _++_, append-nil, append-assoc}
 use Prim.Native.Nat.{ℕ, zero, suc, _+_, _-_, _≤_, _<_}
 use native.Mathlib.Nat.{add-zero, add-suc, add-assoc}
 use native.Mathlib.Numerals.{add-one}
-use native.Mathlib.Decide.{decLt, ℕ-discrete}
+use native.Mathlib.Decide.{ℕ-discrete}
 use native.Mathlib.Omega.{arith}
 use lib.Dec.{T, eqb, ltb, lt→ltb, ltb→lt}
-use lib.ListN.{length, getD, set, replicate}
+use lib.ListN.{length, getD, set}
 use lib.Seq.{getD-set-same, getD-set-other}
 use borrow.Author.Tests.{eq-eqb, ne-eqb}
 use Rattle.sets.specs.Numbers.{Numbers, empty, single, union, listed}
@@ -17,9 +17,9 @@ use Rattle.sets.proofs.Members.{is-true, of-true, ext, same, and-right, or-out,
 use Rattle.sets.proofs.Counts.{listed-append}
 use Rattle.rules.specs.Statements.{depth, Stmt, nothing, pause, emit, present?_then_else_, suspend_on_, _⨾_, loop, _parallel_, trap, exit, local, pauses}
 use Rattle.rules.specs.Instant.{any, active, held}
-use Rattle.block.specs.Table.{Table, kind-of, operand-of, statements, Row, Has, Small}
-use Rattle.evaluate.specs.Forms.{At, Placed, Live, LiveFrom, row-pauses, pauses-in, among}
-use Rattle.evaluate.proofs.FormLaws.{row, statements-pos, in-table, Second, Kids, kids, Flags}
+use Rattle.block.specs.Table.{Table, kind-of, operand-of, statements, Has, Small}
+use Rattle.evaluate.specs.Forms.{At, Live, LiveFrom, row-pauses, pauses-in, among}
+use Rattle.evaluate.proofs.FormLaws.{row, in-table, Second, Kids, kids, Flags}
 
 -- Active pauses, part by part.
 any-append : (A : Numbers) (xs ys : List ℕ) → any A (xs ++ ys) ≡ (any A xs || any A ys)

@@ -8,15 +8,14 @@ use lib.Dec.{eqb}
 use lib.ListN.{getD}
 use Rattle.sets.specs.Numbers.{Numbers}
 use Rattle.rules.specs.Statements.{depth, Stmt, nothing, pause, emit, present?_then_else_, suspend_on_, _⨾_, loop, _parallel_, trap, exit, local}
-use Rattle.rules.specs.Instant.{Step, done, stay, chain, active, held, started, resumed}
+use Rattle.rules.specs.Instant.{done, stay, chain, active, held, started, resumed}
 use Rattle.block.specs.Table.{Table, kind-of, operand-of, statements, Row, Has, Small}
-use Rattle.evaluate.specs.declared.words.Depth.{Depth}
 use Rattle.evaluate.specs.declared.form.Going.{Going}
 use Rattle.evaluate.specs.declared.form.Going.the-variants.{Started, Resumed, Held, Idle}
 use Rattle.evaluate.specs.declared.form.Part.{Part}
 use Rattle.evaluate.specs.declared.form.Form.{Form}
 use Rattle.evaluate.specs.declared.form.Form.the-variants.{Done, Stay, Keep, Say, Leave, Test, Catch, Scope, Chain, Beside, Same}
-use Rattle.evaluate.specs.Forms.{At, Placed, Live, step-of, Does, One, Two, Shows, Under, Below, Formed}
+use Rattle.evaluate.specs.Forms.{At, Placed, Live, step-of, Does, Shows, Under, Below, Formed}
 
 -- A statement's own row.
 pub row : {tab : Table} {i : ℕ} (t : Stmt) → Has tab i t → Row tab i t

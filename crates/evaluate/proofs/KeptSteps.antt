@@ -1,16 +1,16 @@
 -- Each way through the walk of the next state. Assumes nothing.
-use mathlib.Core.Path.{_≡_, refl, sym, ap, ap₂, _∙_, subst, subst⁻¹}
+use mathlib.Core.Path.{_≡_, refl, sym, ap, ap₂, _∙_, subst⁻¹}
 use mathlib.Core.Bool.{Bool, true, false, or-false}
 use mathlib.Core.List.{List}
-use Prim.Native.Nat.{ℕ, _+_, _<_}
+use Prim.Native.Nat.{ℕ, _<_}
 use native.Mathlib.Omega.{arith}
 use Rattle.sets.specs.Numbers.{Numbers, empty, single, union, without, only-if, maxima, downs}
 use Rattle.sets.specs.Words.{bits}
 use Rattle.sets.proofs.Members.{ext}
 use Rattle.rules.specs.Statements.{depth, code, Stmt}
 use Rattle.rules.specs.Events.{Status, present, absent, unknown, Event, giving}
-use Rattle.rules.specs.Instant.{Step, done, stay, say, leave, test, catch, scope, chain, beside, held}
-use Rattle.rules.specs.MustCan.{plus, must, can, Given, settled, gives}
+use Rattle.rules.specs.Instant.{Step, test, catch, scope, chain, beside, held}
+use Rattle.rules.specs.MustCan.{plus, must, can, settled, gives}
 use Rattle.rules.specs.States.{kept, executed-as}
 use Rattle.block.specs.Table.{Table}
 use Rattle.evaluate.specs.declared.words.Heard.{Heard}
@@ -21,7 +21,7 @@ use Rattle.evaluate.specs.declared.form.Part.{Part}
 use Rattle.evaluate.specs.declared.form.Form.{Form}
 use Rattle.evaluate.specs.declared.form.Form.the-variants.{Done, Stay, Keep, Say, Leave, Test, Catch, Scope, Chain, Beside, Same}
 use Rattle.evaluate.specs.Words.{event-of, given-of, pauses-of, KeptWith}
-use Rattle.evaluate.specs.Forms.{At, Live, Shows, Formed}
+use Rattle.evaluate.specs.Forms.{At, Shows, Formed}
 use Rattle.evaluate.specs.Walks.{Walked, KeptAs, Keeping}
 
 pub kept-of : {r : Kept} {c : ℕ} {C A B : Numbers} → r .codes ≡ c → pauses-of (r .pauses) ≡ only-if (bits c 1) B → bits c ≡ C → B ≡ A → KeptWith r C A
@@ -173,13 +173,13 @@ module _ {A : Numbers} {tab : Table} {live : List Bool} {e : Heard} {r : Kept} w
   keep-skip b w z j = record { at = λ l p t. same-kept (t .made) (skip-kept (t .first) (t .later) (event-of e) b w z (j .at l (t .first) (t .left))) }
 
   pub keep-scope : {s : ℕ} {p : Part} {u h : Heard} {m : MustCan} {a : Kept} (v : Status) → KeptWith r (bits (a .codes)) (pauses-of (a .pauses)) → (s < 64 → event-of u ≡ giving (event-of e) s unknown)
-      → Walked tab live (Same p) u m → (s < 64 → v ≡ settled must s (given-of (m .must)) (given-of (m .can))) → (s < 64 → event-of h ≡ giving (event-of e) s v) → Keeping A tab live (Same p) h a
+      → Walked plus tab live (Same p) u m → (s < 64 → v ≡ settled (can plus) s (given-of (m .must)) (given-of (m .can))) → (s < 64 → event-of h ≡ giving (event-of e) s v) → Keeping A tab live (Same p) h a
       → Keeping A tab live (Scope s p) e r
   unfolding Shows
   keep-scope {s} {h = h} v w uk wa st hv k = record {
     at = λ l p d.
         let t = d .1 in
-        let m = wa .in-must .at A l (t .inner) (t .does) ∙ ap (gives must (t .inner)) (uk (d .0)) in
+        let m = wa .in-must refl .at A l (t .inner) (t .does) ∙ ap (gives must (t .inner)) (uk (d .0)) in
         let n = wa .in-can .at A l (t .inner) (t .does) ∙ ap (gives (can plus) (t .inner)) (uk (d .0)) in
         same-kept (t .made)
         (scope-kept s (t .inner) (event-of e) (event-of h) (hv (d .0) ∙ ap (giving (event-of e) s) (st (d .0) ∙ ap₂ (settled must s) m n)) w (k .at l (t .inner) (t .does)));

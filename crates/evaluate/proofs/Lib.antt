@@ -5,3 +5,4 @@ pub mod Steps
 pub mod ActiveLaws
 pub mod KeptSteps
 pub mod RoundLaws
+pub mod OneAnswer

@@ -1,22 +1,21 @@
 -- Two words as a set of pauses: each law is one of bits below 64 and one of bits from 64 on. Assumes nothing.
-use mathlib.Core.Path.{_≡_, refl, sym, ap, ap₂, _∙_}
-use mathlib.Core.Bool.{Bool, true, false, not, cond, _&&_, _||_}
+use mathlib.Core.Path.{_≡_, sym, ap, ap₂, _∙_}
+use mathlib.Core.Bool.{Bool, false, not, cond, _&&_, _||_}
 use mathlib.Core.List.{List, [], _∷_}
 use Prim.Native.Nat.{ℕ, _+_, _-_, _*_, _/_, _%_, _^_, _≤_, _<_}
 use native.Mathlib.Decide.{decLt}
 use native.Mathlib.Omega.{arith}
-use lib.Dec.{T, eqb, ltb, lt→ltb, ltb→lt, eqb→eq}
+use lib.Dec.{eqb, ltb, lt→ltb, ltb→lt, eqb→eq}
 use lib.ListN.{getD}
 use lib.Bits.{bitAnd, bitOr}
-use lib.Count.{ones}
 use borrow.Author.Tests.{eq-eqb, ne-eqb}
 use Rattle.sets.specs.Numbers.{Numbers, empty, single, union, only-if, count}
 use Rattle.sets.specs.Words.{bits}
 use Rattle.sets.proofs.Members.{is-true, is-false, ext, same, eqb-in, eqb-not}
 use Rattle.sets.proofs.Counts.{count-add, count-cong}
-use Rattle.sets.proofs.Words.{bits-first, bits-suc, bits-zero, bits-or, ones-count}
+use Rattle.sets.proofs.Words.{bits-first, bits-suc, bits-zero, bits-or}
 use Rattle.evaluate.specs.Words.{pauses-of}
-use Rattle.evaluate.proofs.WordLaws.{bits-none, shifted, test-bit}
+use Rattle.evaluate.proofs.WordLaws.{shifted, test-bit}
 
 pub low-pause : (ws : List ℕ) (n : ℕ) → n < 64 → pauses-of ws n ≡ bits (getD ws 0 0) n
 unfolding pauses-of

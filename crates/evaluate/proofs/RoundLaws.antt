@@ -1,17 +1,17 @@
 -- The rounds over words: masks, marks, and the statuses that the words stand for. Assumes nothing.
 use mathlib.Core.Path.{_≡_, refl, sym, ap, ap₂, _∙_, subst, subst₂, fun-ext}
-use mathlib.Core.Bool.{Bool, true, false, not, cond, _&&_, _||_, and-comm, and-false, or-false}
+use mathlib.Core.Bool.{Bool, true, false, not, cond, _&&_, _||_, and-comm, and-false}
 use mathlib.Core.List.{List, [], _∷_}
 use mathlib.Core.Option.{Option, none, some}
-use Prim.Native.Nat.{ℕ, zero, suc, _+_, _-_, _*_, _%_, _^_, _≤_, _<_, zero-le, suc-le-suc}
-use native.Mathlib.Nat.{zero-add, add-zero, add-suc, suc-add, le-of-suc-le-suc, not-suc-le-zero}
+use Prim.Native.Nat.{ℕ, zero, suc, _+_, _-_, _*_, _%_, _^_, _≤_, _<_}
+use native.Mathlib.Nat.{zero-add, add-zero, le-of-suc-le-suc, not-suc-le-zero}
 use native.Mathlib.Decide.{decLt, decLe}
 use native.Mathlib.Omega.{arith}
 use lib.Dec.{T, eqb, leb, ltb, lt→ltb, ltb→lt, le→leb, leb→le}
-use lib.ListN.{getD, replicate}
+use lib.ListN.{getD}
 use lib.Pow.{pow-pos}
 use lib.Bits.{bitAnd, bitOr, bitXor, and-mask}
-use borrow.Author.Tests.{eq-eqb, ne-eqb}
+use borrow.Author.Tests.{eq-eqb}
 use Rattle.sets.specs.Numbers.{Numbers, empty, count, lowest}
 use Rattle.sets.specs.Words.{bits}
 use Rattle.sets.proofs.Members.{is-true, is-false, of-true, of-false, ext, same, and-in, and-left, and-right}
@@ -21,7 +21,7 @@ use Rattle.rules.specs.Statements.{Block, Stmt}
 use Rattle.rules.specs.Events.{Status, present, absent, unknown, Event, known, event}
 use Rattle.rules.specs.Instant.{Step}
 use Rattle.rules.specs.MustCan.{plus, must, can, Given, marked, gives}
-use Rattle.rules.specs.States.{State, running, finished, step, kept, next}
+use Rattle.rules.specs.States.{running, finished, step, kept, next}
 use Rattle.rules.specs.Rounds as rules
 use Rattle.block.specs.Table.{Table}
 use Rattle.evaluate.specs.declared.words.Heard.{Heard}
@@ -250,13 +250,13 @@ pub fine-block : {b : Block} {i n : ℕ} {m : Heard} → Sized b i n → Fine (o
 fine-block {m = m} z f = subst₂ (λ (x y : ℕ). Fine (outs-from x y) m) (sym (z .its-inputs)) (sym (z .its-outputs)) f
 
 pub rounded-is : {tab : Table} {live : List Bool} {c : Part} (i n : ℕ) {given : ℕ} {m r e : Heard} {a : MustCan} → ((b : Block) (k : ℕ) → Sized b i k → Fine (outs-from i k) m → event-of e ≡ event b (bits given) (marks-of b m))
-    → Walked tab live (Same c) e a → Marks (outs-from i n) m a r → Rounded tab live c i n given m r
+    → Walked plus tab live (Same c) e a → Marks (outs-from i n) m a r → Rounded tab live c i n given m r
 unfolding rules.round given-of Shows
 rounded-is i n {given} {m} {r} {e} {a} ev w mk = record {
   fine = mk .fine;
   rounds = λ A l p d b z f.
       let E = event b (bits given) (marks-of b m) in
-      let u : given-of (a .must) ≡ gives must p E = w .in-must .at A l p d ∙ ap (gives must p) (ev b n z f) in
+      let u : given-of (a .must) ≡ gives must p E = w .in-must refl .at A l p d ∙ ap (gives must p) (ev b n z f) in
       let v : given-of (a .can) ≡ gives (can plus) p E = w .in-can .at A l p d ∙ ap (gives (can plus) p) (ev b n z f) in
       marks-statuses (gives must p E) (gives (can plus) p E) m r (b .inputs) (b .outputs)
       (λ k h q.

@@ -6,12 +6,11 @@ use mathlib.Core.List.{List}
 use Prim.Native.Nat.{ℕ, _+_, _*_, _<_, max}
 use native.Mathlib.Omega.{arith}
 use lib.ListN.{getD}
-use Rattle.sets.specs.Numbers.{Numbers, single}
 use Rattle.sets.specs.Words.{bits}
 use Rattle.rules.specs.Statements.{depth, code}
 use Rattle.rules.specs.Events.{Status, present, absent, unknown, Event, giving}
-use Rattle.rules.specs.Instant.{Step, done, stay, say, leave, test, catch, scope, chain, beside}
-use Rattle.rules.specs.MustCan.{Mark, plus, opened, Question, must, can, Given, nothing-known, in-doubt, either, choose, caught, both, followed, onward, settled, absence-asked, hidden, gives}
+use Rattle.rules.specs.Instant.{Step, leave, test}
+use Rattle.rules.specs.MustCan.{Mark, plus, opened, Question, must, can, Given, nothing-known, either, caught, both, followed, onward, settled, hidden, gives}
 use Rattle.block.specs.Table.{Table}
 use Rattle.evaluate.specs.declared.words.Heard.{Heard}
 use Rattle.evaluate.specs.declared.words.Told.{Told}
@@ -22,8 +21,8 @@ use Rattle.evaluate.specs.declared.form.Part.{Part}
 use Rattle.evaluate.specs.declared.form.Form.{Form}
 use Rattle.evaluate.specs.declared.form.Form.the-variants.{Done, Stay, Keep, Say, Leave, Test, Catch, Scope, Chain, Beside, Same}
 use Rattle.evaluate.specs.Words.{event-of, seen-as, given-of, quiet, loud}
-use Rattle.evaluate.specs.Forms.{Placed, Live, Shows, Under, Below, Formed}
-use Rattle.evaluate.specs.Walks.{Gives, Walked}
+use Rattle.evaluate.specs.Forms.{Placed, Shows, Under, Formed}
+use Rattle.evaluate.specs.Walks.{Followed, Hidden, Gives, Walked}
 
 -- The rules, as the questions meet them.
 leave-gives : (k : Question) (d : ℕ) (E : Event) → gives k (leave (depth d)) E ≡ quiet (d + 2)
@@ -47,8 +46,8 @@ unfolding gives
 doubted-can m s p q E e = rw (← e)
 
 -- A first part without code 0: what follows does not count.
-pub skipped : (X Y : Given) → X .codes 0 ≡ false → followed X nothing-known ≡ followed X Y
-skipped X Y e = rw e
+pub skipped : (X Y Z : Given) → X .codes 0 ≡ false → followed X Y ≡ followed X Z
+skipped X Y Z e = rw e
 
 -- A part does what its form shows.
 pub via-form : {k : Question} {tab : Table} {live : List Bool} {c : Part} {f : Form} {e : Heard} {x : Told} → Formed tab live c f → Gives k tab live f e x → Gives k tab live (Same c) e x
@@ -110,24 +109,23 @@ module _ {k : Question} {tab : Table} {live : List Bool} {e : Heard} {x : Told} 
         ∙ same-step k e (w .made);
   }
 
-  pub via-skipped : {p q : Part} {a : Told} (b : Told) → given-of x ≡ followed (given-of a) (given-of b) → Gives k tab live (Same p) e a → bits (a .codes) 0 ≡ false → given-of b ≡ nothing-known
-      → Gives k tab live (Chain p q) e x
+  pub via-skipped : {p q : Part} {a : Told} (b : Told) → given-of x ≡ followed (given-of a) (given-of b) → Gives k tab live (Same p) e a → bits (a .codes) 0 ≡ false → Gives k tab live (Chain p q) e x
   unfolding Shows gives given-of
-  via-skipped {a = a} b r g v n = record {
+  via-skipped {a = a} b r g v = record {
     at = λ A l p w.
         let j = gives (onward k (gives must (w .first) (event-of e) .codes 0)) (w .later) (event-of e) in
-        r ∙ ap (followed (given-of a)) n ∙ skipped (given-of a) j v ∙ ap (λ (y : Given). followed y j) (g .at A l (w .first) (w .left)) ∙ same-step k e (w .made);
+        r ∙ skipped (given-of a) (given-of b) j v ∙ ap (λ (y : Given). followed y j) (g .at A l (w .first) (w .left)) ∙ same-step k e (w .made);
   }
 
   -- A local: its body with the signal unknown gives the status.
   pub via-scope : {s : ℕ} {p : Part} {u h : Heard} {a : MustCan} {b : Told} (v : Status) → (s < 64 → given-of x ≡ hidden s (given-of b))
-      → (s < 64 → event-of u ≡ giving (event-of e) s unknown) → Walked tab live (Same p) u a → (s < 64 → v ≡ settled k s (given-of (a .must)) (given-of (a .can)))
+      → (s < 64 → event-of u ≡ giving (event-of e) s unknown) → Walked plus tab live (Same p) u a → (s < 64 → v ≡ settled k s (given-of (a .must)) (given-of (a .can)))
       → (s < 64 → event-of h ≡ giving (event-of e) s v) → Gives k tab live (Same p) h b → Gives k tab live (Scope s p) e x
   unfolding Shows gives
   via-scope {s} v r uk wa st hv g = record {
     at = λ A l p d.
         let w = d .1 in
-        let m = wa .in-must .at A l (w .inner) (w .does) ∙ ap (gives must (w .inner)) (uk (d .0)) in
+        let m = wa .in-must refl .at A l (w .inner) (w .does) ∙ ap (gives must (w .inner)) (uk (d .0)) in
         let n = wa .in-can .at A l (w .inner) (w .does) ∙ ap (gives (can plus) (w .inner)) (uk (d .0)) in
         r (d .0)
         ∙ ap (hidden s) (g .at A l (w .inner) (w .does) ∙ ap (gives k (w .inner)) (hv (d .0) ∙ ap (giving (event-of e) s) (st (d .0) ∙ ap₂ (settled k s) m n)))
@@ -155,9 +153,58 @@ module _ {tab : Table} {live : List Bool} {e : Heard} {x : Told} where
 pub formed : {tab : Table} {live : List Bool} {c : Part} {f g : Form} → Formed tab live c f → f ≡ g → Formed tab live c g
 formed {tab} {live} {c} h e = subst (Formed tab live c) e h
 
--- The two questions of one walk.
-pub walked-form : {tab : Table} {live : List Bool} {c : Part} {f : Form} {e : Heard} {r : MustCan} → Formed tab live c f → Walked tab live f e r → Walked tab live (Same c) e r
-walked-form h w = record { in-must = via-form h (w .in-must); in-can = via-form h (w .in-can) }
+-- Both questions of one walk.
+pub walked-form : {m : Mark} {tab : Table} {live : List Bool} {c : Part} {f : Form} {e : Heard} {r : MustCan} → Formed tab live c f → Walked m tab live f e r → Walked m tab live (Same c) e r
+walked-form h w = record { in-must = λ q. via-form h (w .in-must q); in-can = via-form h (w .in-can) }
+
+pub under : {m n : Mark} {tab : Table} {live : List Bool} {f : Form} {e : Heard} {x : Told} → m ≡ n → Gives (can m) tab live f e x → Gives (can n) tab live f e x
+under {tab = tab} {live} {f} {e} {x} q g = subst (λ (y : Mark). Gives (can y) tab live f e x) q g
+
+-- A sequence's second part has the mark that must's code asks for.
+open-stops : (z : Bool) → can opened ≡ onward (can plus) z → z ≡ false
+open-stops true e = absurd (let z : _≡_ {A = ℕ} 0 1 = cc in omega arith)
+open-stops false e = refl
+
+module _ {tab : Table} {live : List Bool} {e : Heard} {p q : Part} {a b r : MustCan} (f : Followed r a (b .must) (b .can)) where
+  chain-can : (m n : Mark) → Walked m tab live (Same p) e a → can n ≡ onward (can m) (bits (a .must .codes) 0) → Walked n tab live (Same q) e b → Gives (can m) tab live (Chain p q) e (r .can)
+  chain-can plus n wa o wb =
+      via-chain (bits (a .must .codes) 0) (f .in-can) (wa .in-can) (wa .in-must refl) refl (subst (λ (y : Question). Gives y tab live (Same q) e (b .can)) o (wb .in-can))
+  chain-can opened n wa o wb = open-chain (f .in-can) (wa .in-can) (subst (λ (y : Question). Gives y tab live (Same q) e (b .can)) o (wb .in-can))
+
+  chain-must : (n : Mark) → Walked plus tab live (Same p) e a → can n ≡ onward (can plus) (bits (a .must .codes) 0) → Walked n tab live (Same q) e b → Gives must tab live (Chain p q) e (r .must)
+  chain-must plus wa o wb = via-chain (bits (a .must .codes) 0) (f .in-must) (wa .in-must refl) (wa .in-must refl) refl (wb .in-must refl)
+  chain-must opened wa o wb = via-skipped (b .must) (f .in-must) (wa .in-must refl) (open-stops (bits (a .must .codes) 0) o)
+
+  pub walked-chain : {m n : Mark} → Walked m tab live (Same p) e a → can n ≡ onward (can m) (bits (a .must .codes) 0) → Walked n tab live (Same q) e b → Walked m tab live (Chain p q) e r
+  walked-chain {m} {n} wa o wb = record {
+    in-must = λ h. chain-must n (subst (λ (y : Mark). Walked y tab live (Same p) e a) h wa) (o ∙ ap (λ (y : Mark). onward (can y) (bits (a .must .codes) 0)) h) wb;
+    in-can = chain-can m n wa o wb;
+  }
+
+pub walked-skip : {m n : Mark} {tab : Table} {live : List Bool} {e : Heard} {p q : Part} {a r : MustCan} {x y : Told} → Followed r a x y → Walked m tab live (Same p) e a
+    → can n ≡ onward (can m) (bits (a .must .codes) 0) → n ≡ opened → bits (a .can .codes) 0 ≡ false → Walked m tab live (Chain p q) e r
+walked-skip {a = a} {x = x} {y} f wa o s z = record {
+  in-must = λ h. via-skipped x (f .in-must) (wa .in-must h) (open-stops (bits (a .must .codes) 0) (ap can (sym s) ∙ o ∙ ap (λ (w : Mark). onward (can w) (bits (a .must .codes) 0)) h));
+  in-can = via-skipped y (f .in-can) (wa .in-can) z;
+}
+
+-- A local, asked again under its mark, or not.
+as-must : (a : MustCan) (s : ℕ) {m : Mark} {v : Status} → (s < 64 → v ≡ settled (can m) s (given-of (a .must)) (given-of (a .can))) → m ≡ plus → s < 64 → v ≡ settled must s (given-of (a .must)) (given-of (a .can))
+as-must a s st h l = st l ∙ ap (λ (y : Mark). settled (can y) s (given-of (a .must)) (given-of (a .can))) h
+
+module _ {m : Mark} {tab : Table} {live : List Bool} {e u : Heard} {s : ℕ} {p : Part} {a : MustCan} (v : Status) (doubt : s < 64 → event-of u ≡ giving (event-of e) s unknown) (wa : Walked plus tab live (Same p) u a)
+    (st : s < 64 → v ≡ settled (can m) s (given-of (a .must)) (given-of (a .can))) where
+  pub walked-local : {h : Heard} {b r : MustCan} → (s < 64 → Hidden r s b) → (s < 64 → event-of h ≡ giving (event-of e) s v) → Walked m tab live (Same p) h b → Walked m tab live (Scope s p) e r
+  walked-local hid hv wb = record {
+    in-must = λ q. via-scope v (λ l. hid l .in-must) doubt wa (as-must a s st q) hv (wb .in-must q);
+    in-can = via-scope v (λ l. hid l .in-can) doubt wa st hv (wb .in-can);
+  }
+
+  pub walked-same : {r : MustCan} → (s < 64 → Hidden r s a) → m ≡ plus → v ≡ unknown → Walked m tab live (Scope s p) e r
+  walked-same hid q w = record {
+    in-must = λ z. via-scope v (λ l. hid l .in-must) doubt wa (as-must a s st q) (λ l. doubt l ∙ ap (giving (event-of e) s) (sym w)) (wa .in-must refl);
+    in-can = via-scope v (λ l. hid l .in-can) doubt wa st (λ l. doubt l ∙ ap (giving (event-of e) s) (sym w)) (under (sym q) (wa .in-can));
+  }
 
 -- A call on a part: the part is placed, and smaller. The measure is twice the size; a local's or a sequence's own walk is one above its parts'.
 module _ {tab : Table} {i t : ℕ} where

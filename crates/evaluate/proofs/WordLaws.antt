@@ -1,9 +1,8 @@
 -- Each rule over words is the rule over sets: a law for each way through the functions of words.rt, bit by bit. Assumes nothing.
-use mathlib.Core.Path.{_≡_, refl, fun-ext, sym, ap, ap₂, _∙_, subst, subst⁻¹}
+use mathlib.Core.Path.{_≡_, refl, fun-ext, sym, ap, ap₂, _∙_}
 use mathlib.Core.Bool.{Bool, true, false, not, cond, _&&_, _||_, or-false}
 use mathlib.Core.Option.{Option, none, some}
 use Prim.Native.Nat.{ℕ, zero, suc, _+_, _-_, _*_, _/_, _%_, _^_, _≤_, _<_}
-use native.Mathlib.Nat.{lt-of-lt-of-le}
 use native.Mathlib.Decide.{decLt}
 use native.Mathlib.Omega.{arith}
 use lib.Dec.{T, eqb, ltb, lt→ltb, ltb→lt}
@@ -12,12 +11,12 @@ use lib.Bits.{bitAnd, bitOr, bitXor, or-lt}
 use lib.Count.{trailingZeros}
 use Rattle.sets.specs.Numbers.{Numbers, empty, single, union, without, only-if, some-to, maxima, downs, lowest}
 use Rattle.sets.specs.Words.{bits}
-use Rattle.sets.proofs.Members.{is-true, is-false, of-false, ext, same}
+use Rattle.sets.proofs.Members.{is-true, is-false, of-false, ext}
 use Rattle.sets.proofs.Maxima.{some-to-in, some-to-out}
 use Rattle.sets.proofs.Counts.{lowest-some, lowest-none}
-use Rattle.sets.proofs.Words.{bits-first, bits-suc, bits-zero, bits-high, bits-and, bits-or, bits-less, bits-ext, bits-not, bits-mask-test, trailing-some, Is, is-set, is-single, is-shift, is-same, is-without}
-use Rattle.rules.specs.Events.{Status, present, absent, unknown, giving}
-use Rattle.rules.specs.MustCan.{opened, must, can, Given, nothing-known, either, caught, both, followed, settled, hidden}
+use Rattle.sets.proofs.Words.{bits-first, bits-suc, bits-zero, bits-high, bits-and, bits-or, bits-less, bits-ext, bits-not, bits-mask-test, trailing-some, is-set, is-single, is-shift, is-same}
+use Rattle.rules.specs.Events.{present, absent, unknown, giving}
+use Rattle.rules.specs.MustCan.{plus, opened, can, Given, nothing-known, either, caught, both, followed, marked, settled, hidden}
 use Rattle.evaluate.specs.declared.words.Heard.{Heard}
 use Rattle.evaluate.specs.declared.words.Told.{Told}
 use Rattle.evaluate.specs.declared.words.MustCan.{MustCan}
@@ -279,23 +278,11 @@ pub hidden-is : (a : Told) (b s : ℕ) → bits b ≡ single s → given-of (rec
 unfolding given-of
 hidden-is a b s one = given-eq (ext (without-bit (a .signals) b s one)) refl
 
-module _ (a : MustCan) (s : ℕ) where
-  pub sure-present : bits (a .must .signals) s ≡ true → present ≡ settled must s (given-of (a .must)) (given-of (a .can))
+module _ (a : MustCan) (s : ℕ) {sure may : Bool} (u : sure ≡ bits (a .must .signals) s) (v : may ≡ bits (a .can .signals) s) where
+  pub settled-plus : marked sure may unknown ≡ settled (can plus) s (given-of (a .must)) (given-of (a .can))
   unfolding given-of
-  sure-present p = rw p
+  settled-plus = ap₂ (λ (x y : Bool). marked x y unknown) u v
 
-  pub sure-unknown : bits (a .must .signals) s ≡ false → bits (a .can .signals) s ≡ true → unknown ≡ settled must s (given-of (a .must)) (given-of (a .can))
+  pub settled-open : marked false may unknown ≡ settled (can opened) s (given-of (a .must)) (given-of (a .can))
   unfolding given-of
-  sure-unknown p q = rw (p, q)
-
-  pub sure-absent : bits (a .must .signals) s ≡ false → bits (a .can .signals) s ≡ false → absent ≡ settled must s (given-of (a .must)) (given-of (a .can))
-  unfolding given-of
-  sure-absent p q = rw (p, q)
-
-  pub open-unknown : bits (a .can .signals) s ≡ true → unknown ≡ settled (can opened) s (given-of (a .must)) (given-of (a .can))
-  unfolding given-of
-  open-unknown q = rw q
-
-  pub open-absent : bits (a .can .signals) s ≡ false → absent ≡ settled (can opened) s (given-of (a .must)) (given-of (a .can))
-  unfolding given-of
-  open-absent q = rw q
+  settled-open = ap (λ (y : Bool). marked false y unknown) v

@@ -1,14 +1,14 @@
 -- How the code's words and numbers stand for the answer to an instant. Assumes nothing.
 use mathlib.Core.Path.{_≡_}
-use mathlib.Core.Bool.{Bool, true, false, cond, _&&_, not}
+use mathlib.Core.Bool.{Bool, true, false, cond, _&&_}
 use mathlib.Core.List.{List, [], _∷_}
 use Prim.Native.Nat.{ℕ, zero, suc, _+_, _-_}
 use lib.Dec.{leb, ltb}
 use lib.ListN.{getD}
 use Rattle.sets.specs.Numbers.{Numbers, empty, count}
 use Rattle.sets.specs.Words.{bits}
-use Rattle.rules.specs.Statements.{Block, Stmt}
-use Rattle.rules.specs.Events.{Status, present, absent, unknown, event}
+use Rattle.rules.specs.Statements.{Block}
+use Rattle.rules.specs.Events.{Status, present, absent, unknown}
 use Rattle.rules.specs.Instant.{Step}
 use Rattle.rules.specs.MustCan.{marked}
 use Rattle.rules.specs.States.{State, fresh, running, finished, next}

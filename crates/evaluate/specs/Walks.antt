@@ -8,7 +8,7 @@ use Rattle.rules.specs.Events.{Event}
 use Rattle.rules.specs.Instant.{Step}
 use Rattle.rules.specs.States.{kept}
 use Rattle.sets.specs.Words.{bits}
-use Rattle.rules.specs.MustCan.{plus, must, can, Question, nothing-known, either, caught, both, followed, hidden, gives}
+use Rattle.rules.specs.MustCan.{Mark, plus, must, can, Question, nothing-known, either, caught, both, followed, hidden, gives}
 use Rattle.block.specs.Table.{Table}
 use Rattle.evaluate.specs.declared.words.Heard.{Heard}
 use Rattle.evaluate.specs.declared.words.Told.{Told}
@@ -43,10 +43,10 @@ pub record Hidden (r : MustCan) (s : ℕ) (a : MustCan) : Type 0 where
 pub record Gives (k : Question) (tab : Table) (live : List Bool) (f : Form) (e : Heard) (x : Told) : Type 0 where
   pub at : (A : Numbers) → Live tab A live → (p : Step) → Shows tab A f p → given-of x ≡ gives k p (event-of e)
 
--- Must and can under plus.
-pub record Walked (tab : Table) (live : List Bool) (f : Form) (e : Heard) (r : MustCan) : Type 0 where
-  pub in-must : Gives must tab live f e (r .must)
-  pub in-can : Gives (can plus) tab live f e (r .can)
+-- Can under a mark, and must if the mark is plus.
+pub record Walked (m : Mark) (tab : Table) (live : List Bool) (f : Form) (e : Heard) (r : MustCan) : Type 0 where
+  pub in-must : m ≡ plus → Gives must tab live f e (r .must)
+  pub in-can : Gives (can m) tab live f e (r .can)
 
 -- Must's codes and the pauses kept, of a step at an event; A is active.
 pub record KeptAs (r : Kept) (p : Step) (E : Event) : Type 0 where

@@ -9,10 +9,12 @@ use lib.ListN.{getD}
 use Rattle.sets.specs.Numbers.{Numbers, empty, single, only-if}
 use Rattle.sets.specs.Words.{bits}
 use Rattle.rules.specs.Events.{Status, present, absent, unknown, Event}
-use Rattle.rules.specs.MustCan.{Given}
+use Rattle.rules.specs.MustCan.{Mark, plus, opened, Given}
 use Rattle.evaluate.specs.declared.words.Heard.{Heard}
 use Rattle.evaluate.specs.declared.words.Told.{Told}
 use Rattle.evaluate.specs.declared.pauses.Kept.{Kept}
+use Rattle.evaluate.specs.declared.words.Mark as code
+use Rattle.evaluate.specs.declared.words.Mark.the-variants.{Plus, Open}
 use Rattle.evaluate.specs.declared.words.Seen.{Seen}
 use Rattle.evaluate.specs.declared.words.Seen.the-variants.{Present, Absent, Unknown}
 
@@ -31,6 +33,11 @@ abbrev pub seen-as : Seen → Status
 seen-as Present = present
 seen-as Absent = absent
 seen-as Unknown = unknown
+
+-- A mark of the code.
+abbrev pub mark-of : code.Mark → Mark
+mark-of Plus = plus
+mark-of Open = opened
 
 -- The signals and the codes of two words.
 unfoldable pub given-of : Told → Given

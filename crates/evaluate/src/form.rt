@@ -3,7 +3,7 @@ use crate::words::Depth;
 ghost use mathlib.Core.Path.{_≡_};
 ghost use mathlib.Core.Bool.{Bool, cond, false};
 ghost use mathlib.Core.List.{List};
-ghost use Prim.Native.Nat.{ℕ, _+_, _<_};
+ghost use Prim.Native.Nat.{_+_, _<_};
 ghost use lib.ListN.{getD};
 ghost use Rattle.evaluate.specs.Forms.{table, Placed, Formed};
 
@@ -131,44 +131,37 @@ fn resumed_form(
     let next = second(sizes, at);
     let first_live = live_at(live, at + 1);
     let next_live = live_at(live, next);
+    let held = Part {
+        at: at + 1,
+        going: Going::Held,
+    };
     let p = Part {
         at: at + 1,
         going: Going::Resumed,
+    };
+    let again = Part {
+        at: at + 1,
+        going: Going::Started,
     };
     let q = Part {
         at: next,
         going: Going::Resumed,
     };
+    let after = Part {
+        at: next,
+        going: Going::Started,
+    };
     match kind {
         19 => Form::Same(chosen(first_live, p, q)),
-        20 => Form::Test(
-            operand,
-            Part {
-                at: at + 1,
-                going: Going::Held,
-            },
-            p,
-        ),
+        20 => Form::Test(operand, held, p),
         21 => {
             if first_live {
-                Form::Chain(
-                    p,
-                    Part {
-                        at: next,
-                        going: Going::Started,
-                    },
-                )
+                Form::Chain(p, after)
             } else {
                 Form::Same(q)
             }
         }
-        22 => Form::Chain(
-            p,
-            Part {
-                at: at + 1,
-                going: Going::Started,
-            },
-        ),
+        22 => Form::Chain(p, again),
         23 => Form::Beside(arm(first_live, at + 1), arm(next_live, next)),
         24 => Form::Catch(p),
         26 => Form::Scope(operand, p),

@@ -15,11 +15,12 @@ use crate::pauses::one_pause;
 use crate::walk::must_can;
 use crate::words::Code;
 use crate::words::Heard;
+use crate::words::Mark;
 use crate::words::Seen;
 use crate::words::code_of;
 use crate::words::gives_zero;
 use crate::words::heard_with;
-use crate::words::settled_sure;
+use crate::words::settled_for;
 use crate::words::status_at;
 ghost use Rattle.evaluate.specs.Words.{pauses-of};
 ghost use Rattle.evaluate.specs.Forms.{table, Placed};
@@ -53,7 +54,8 @@ pub fn next_kept(
         Form::Catch(p) => kept_caught(next_kept(kinds, operands, sizes, live, set, p, e)),
         Form::Scope(s, p) => {
             let doubt = heard_with(e, s, Seen::Unknown);
-            let v = settled_sure(s, must_can(kinds, operands, sizes, live, p, doubt));
+            let a = must_can(kinds, operands, sizes, live, Mark::Plus, p, doubt);
+            let v = settled_for(Mark::Plus, s, a);
             let known = heard_with(e, s, v);
             kept_again(next_kept(kinds, operands, sizes, live, set, p, known))
         }

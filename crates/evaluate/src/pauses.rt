@@ -8,7 +8,7 @@ use crate::words::lowered;
 ghost use mathlib.Core.Path.{_≡_};
 ghost use mathlib.Core.Bool.{_&&_};
 ghost use lib.Dec.{ltb};
-ghost use Prim.Native.Nat.{ℕ, _≤_, _<_};
+ghost use Prim.Native.Nat.{_≤_, _<_};
 ghost use Rattle.sets.specs.Numbers.{empty, single, union, without, only-if, maxima, downs, count};
 ghost use Rattle.sets.specs.Words.{bits};
 ghost use Rattle.evaluate.specs.Words.{pauses-of, KeptWith};

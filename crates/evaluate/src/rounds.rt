@@ -9,6 +9,7 @@ use crate::pauses::pause_count;
 use crate::walk::must_can;
 use crate::words::Code;
 use crate::words::Heard;
+use crate::words::Mark;
 use crate::words::MustCan;
 ghost use mathlib.Core.Path.{_≡_};
 ghost use mathlib.Core.Bool.{cond, _&&_};
@@ -113,7 +114,7 @@ fn round_of(
     ensures { λ r. ⌜ Rounded (table (now (kinds .entry)) (now (operands .entry)) (now (sizes .entry))) (now (live .entry)) part inputs outputs given marks r ⌝ }
 {
     let e = heard_in(inputs, given, marks);
-    let a = must_can(kinds, operands, sizes, live, part, e);
+    let a = must_can(kinds, operands, sizes, live, Mark::Plus, part, e);
     let outs = outputs_of(inputs, outputs);
     marked_by(outs, marks, a)
 }

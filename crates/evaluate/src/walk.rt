@@ -1,9 +1,10 @@
-// Must and can of a statement at an event: must with can under plus in one walk, and can under open.
+// Must and can of a statement at an event, in one walk.
 use crate::form::Form;
 use crate::form::Part;
 use crate::form::form_of;
 use crate::words::Code;
 use crate::words::Heard;
+use crate::words::Mark;
 use crate::words::MustCan;
 use crate::words::Seen;
 use crate::words::Told;
@@ -12,20 +13,21 @@ use crate::words::caught_told;
 use crate::words::code_of;
 use crate::words::either_told;
 use crate::words::followed_told;
-use crate::words::gives_zero;
+use crate::words::goes_on;
 use crate::words::heard_with;
 use crate::words::hidden_told;
+use crate::words::mark_onward;
 use crate::words::nothing_told;
 use crate::words::saying;
-use crate::words::settled_open;
-use crate::words::settled_sure;
+use crate::words::settled_for;
 use crate::words::silent;
 use crate::words::status_at;
+use crate::words::still_unknown;
 ghost use mathlib.Core.Path.{_≡_};
-ghost use Prim.Native.Nat.{ℕ, _<_};
-ghost use Rattle.rules.specs.MustCan.{opened, can};
+ghost use Prim.Native.Nat.{_<_};
+ghost use Rattle.evaluate.specs.Words.{mark-of};
 ghost use Rattle.evaluate.specs.Forms.{table, Placed};
-ghost use Rattle.evaluate.specs.Walks.{Caught, Beside, Followed, Hidden, Doubted, Gives, Walked};
+ghost use Rattle.evaluate.specs.Walks.{Caught, Beside, Followed, Hidden, Doubted, Walked};
 
 // What is known to be given: must and can agree.
 fn sure(a: Told) -> MustCan
@@ -75,17 +77,18 @@ fn hidden(s: u16, a: MustCan) -> MustCan
     MustCan { must, can }
 }
 
-// Must, and can under plus.
+// Can under a mark, and must if the mark is plus.
 pub fn must_can(
     kinds: &[u16; 512],
     operands: &[u16; 512],
     sizes: &[u16; 512],
     live: &[bool; 512],
+    mark: Mark,
     part: Part,
     e: Heard,
 ) -> MustCan
     requires { ⌜ Placed (table (now kinds) (now operands) (now sizes)) (part .at) ⌝ }
-    ensures { λ r. ⌜ Walked (table (now (kinds .entry)) (now (operands .entry)) (now (sizes .entry))) (now (live .entry)) (Form.Same part) e r ⌝ }
+    ensures { λ r. ⌜ Walked (mark-of mark) (table (now (kinds .entry)) (now (operands .entry)) (now (sizes .entry))) (now (live .entry)) (Form.Same part) e r ⌝ }
 {
     let form = form_of(kinds, operands, sizes, live, part);
     match form {
@@ -95,45 +98,47 @@ pub fn must_can(
         Form::Say(s) => sure(saying(s)),
         Form::Leave(d) => sure(silent(code_of(d))),
         Form::Test(s, p, q) => match status_at(e, s) {
-            Seen::Present => must_can(kinds, operands, sizes, live, p, e),
-            Seen::Absent => must_can(kinds, operands, sizes, live, q, e),
+            Seen::Present => must_can(kinds, operands, sizes, live, mark, p, e),
+            Seen::Absent => must_can(kinds, operands, sizes, live, mark, q, e),
             Seen::Unknown => {
-                let a = can_open(kinds, operands, sizes, live, p, e);
-                doubted(a, can_open(kinds, operands, sizes, live, q, e))
+                let a = must_can(kinds, operands, sizes, live, Mark::Open, p, e);
+                let b = must_can(kinds, operands, sizes, live, Mark::Open, q, e);
+                doubted(a.can, b.can)
             }
         },
-        Form::Catch(p) => caught(must_can(kinds, operands, sizes, live, p, e)),
-        Form::Scope(s, p) => must_can_local(kinds, operands, sizes, live, s, p, e),
-        Form::Chain(p, q) => must_can_chain(kinds, operands, sizes, live, p, q, e),
+        Form::Catch(p) => caught(must_can(kinds, operands, sizes, live, mark, p, e)),
+        Form::Scope(s, p) => must_can_local(kinds, operands, sizes, live, mark, s, p, e),
+        Form::Chain(p, q) => must_can_chain(kinds, operands, sizes, live, mark, p, q, e),
         Form::Beside(p, q) => {
-            let a = must_can(kinds, operands, sizes, live, p, e);
-            beside(a, must_can(kinds, operands, sizes, live, q, e))
+            let a = must_can(kinds, operands, sizes, live, mark, p, e);
+            beside(a, must_can(kinds, operands, sizes, live, mark, q, e))
         }
-        Form::Same(p) => must_can(kinds, operands, sizes, live, p, e),
+        Form::Same(p) => must_can(kinds, operands, sizes, live, mark, p, e),
     }
 }
 
-// A local: its body with the signal unknown, and once more if that settled the signal.
+// A local: its body under plus with the signal unknown, and once more unless that is the answer.
 fn must_can_local(
     kinds: &[u16; 512],
     operands: &[u16; 512],
     sizes: &[u16; 512],
     live: &[bool; 512],
+    mark: Mark,
     s: u16,
     p: Part,
     e: Heard,
 ) -> MustCan
     requires { ⌜ Placed (table (now kinds) (now operands) (now sizes)) (p .at) ⌝ }
-    ensures { λ r. ⌜ Walked (table (now (kinds .entry)) (now (operands .entry)) (now (sizes .entry))) (now (live .entry)) (Form.Scope s p) e r ⌝ }
+    ensures { λ r. ⌜ Walked (mark-of mark) (table (now (kinds .entry)) (now (operands .entry)) (now (sizes .entry))) (now (live .entry)) (Form.Scope s p) e r ⌝ }
 {
     let doubt = heard_with(e, s, Seen::Unknown);
-    let a = must_can(kinds, operands, sizes, live, p, doubt);
-    let v = settled_sure(s, a);
-    if let Seen::Unknown = v {
+    let a = must_can(kinds, operands, sizes, live, Mark::Plus, p, doubt);
+    let v = settled_for(mark, s, a);
+    if still_unknown(mark, v) {
         return hidden(s, a);
     }
     let known = heard_with(e, s, v);
-    hidden(s, must_can(kinds, operands, sizes, live, p, known))
+    hidden(s, must_can(kinds, operands, sizes, live, mark, p, known))
 }
 
 // A sequence: the second part is asked under plus only if the first must give 0, and not at all if the first cannot.
@@ -142,71 +147,20 @@ fn must_can_chain(
     operands: &[u16; 512],
     sizes: &[u16; 512],
     live: &[bool; 512],
+    mark: Mark,
     p: Part,
     q: Part,
     e: Heard,
 ) -> MustCan
     requires { ⌜ Placed (table (now kinds) (now operands) (now sizes)) (p .at) × Placed (table (now kinds) (now operands) (now sizes)) (q .at) ⌝ }
-    ensures { λ r. ⌜ Walked (table (now (kinds .entry)) (now (operands .entry)) (now (sizes .entry))) (now (live .entry)) (Form.Chain p q) e r ⌝ }
+    ensures { λ r. ⌜ Walked (mark-of mark) (table (now (kinds .entry)) (now (operands .entry)) (now (sizes .entry))) (now (live .entry)) (Form.Chain p q) e r ⌝ }
 {
-    let a = must_can(kinds, operands, sizes, live, p, e);
-    if gives_zero(a.must.codes) {
-        let b = must_can(kinds, operands, sizes, live, q, e);
+    let a = must_can(kinds, operands, sizes, live, mark, p, e);
+    let onward = mark_onward(mark, a.must.codes);
+    if goes_on(onward, a.can.codes) {
+        let b = must_can(kinds, operands, sizes, live, onward, q, e);
         return followed(a, b.must, b.can);
     }
     let nothing = nothing_told();
-    if gives_zero(a.can.codes) {
-        let b = can_open(kinds, operands, sizes, live, q, e);
-        return followed(a, nothing, b);
-    }
     followed(a, nothing, nothing)
-}
-
-// Can under open.
-pub fn can_open(
-    kinds: &[u16; 512],
-    operands: &[u16; 512],
-    sizes: &[u16; 512],
-    live: &[bool; 512],
-    part: Part,
-    e: Heard,
-) -> Told
-    requires { ⌜ Placed (table (now kinds) (now operands) (now sizes)) (part .at) ⌝ }
-    ensures { λ r. ⌜ Gives (can opened) (table (now (kinds .entry)) (now (operands .entry)) (now (sizes .entry))) (now (live .entry)) (Form.Same part) e r ⌝ }
-{
-    let form = form_of(kinds, operands, sizes, live, part);
-    match form {
-        Form::Done => silent(Code(0)),
-        Form::Stay(_) => silent(Code(1)),
-        Form::Keep(_) => silent(Code(1)),
-        Form::Say(s) => saying(s),
-        Form::Leave(d) => silent(code_of(d)),
-        Form::Test(s, p, q) => match status_at(e, s) {
-            Seen::Present => can_open(kinds, operands, sizes, live, p, e),
-            Seen::Absent => can_open(kinds, operands, sizes, live, q, e),
-            Seen::Unknown => {
-                let a = can_open(kinds, operands, sizes, live, p, e);
-                either_told(a, can_open(kinds, operands, sizes, live, q, e))
-            }
-        },
-        Form::Catch(p) => caught_told(can_open(kinds, operands, sizes, live, p, e)),
-        Form::Scope(s, p) => {
-            let doubt = heard_with(e, s, Seen::Unknown);
-            let v = settled_open(s, must_can(kinds, operands, sizes, live, p, doubt));
-            let known = heard_with(e, s, v);
-            hidden_told(s, can_open(kinds, operands, sizes, live, p, known))
-        }
-        Form::Chain(p, q) => {
-            let a = can_open(kinds, operands, sizes, live, p, e);
-            if gives_zero(a.codes) {
-                return followed_told(a, can_open(kinds, operands, sizes, live, q, e));
-            }
-            followed_told(a, nothing_told())
-        }
-        Form::Beside(p, q) => {
-            let a = can_open(kinds, operands, sizes, live, p, e);
-            both_told(a, can_open(kinds, operands, sizes, live, q, e))
-        }
-        Form::Same(p) => can_open(kinds, operands, sizes, live, p, e),
-    }
 }

@@ -1,14 +1,14 @@
 // Words of signals, codes and statuses, and what the rules do to them: each rule is a function here with its own contract.
 ghost use mathlib.Core.Path.{_≡_};
-ghost use mathlib.Core.Bool.{_&&_};
+ghost use mathlib.Core.Bool.{true, false, _&&_};
 ghost use lib.Dec.{ltb};
 ghost use Prim.Native.Nat.{ℕ, _+_, _<_};
-ghost use Rattle.sets.specs.Numbers.{empty, single, union, without, only-if, some-to, maxima, downs};
+ghost use Rattle.sets.specs.Numbers.{single, union, without, only-if, some-to, maxima, downs};
 ghost use Rattle.sets.specs.Words.{bits};
 ghost use Rattle.rules.specs.Statements.{depth, code};
-ghost use Rattle.rules.specs.Events.{giving};
-ghost use Rattle.rules.specs.MustCan.{opened, must, can, nothing-known, either, caught, both, followed, settled, hidden};
-ghost use Rattle.evaluate.specs.Words.{event-of, given-of, seen-as, quiet, loud};
+ghost use Rattle.rules.specs.Events.{unknown, giving};
+ghost use Rattle.rules.specs.MustCan.{can, nothing-known, either, caught, both, followed, onward, marked, settled, hidden};
+ghost use Rattle.evaluate.specs.Words.{event-of, given-of, seen-as, mark-of, quiet, loud};
 
 // An event: the bit of a present signal and the bit of an absent one; neither is unknown.
 pub struct Heard {
@@ -22,10 +22,16 @@ pub struct Told {
     pub codes: u32,
 }
 
-// What must and can under plus give.
+// What must and can give; under open mark only can is meant.
 pub struct MustCan {
     pub must: Told,
     pub can: Told,
+}
+
+// Can's mark: plus (surely executed) or open.
+pub enum Mark {
+    Plus,
+    Open,
 }
 
 // A status.
@@ -233,26 +239,67 @@ pub fn hidden_told(s: u16, a: Told) -> Told
     }
 }
 
-// A local's status under must and under can with plus: present if in must, absent if not in can.
-pub fn settled_sure(s: u16, a: MustCan) -> Seen
-    ensures { λ r. ⌜ (s < 64 → seen-as r ≡ settled must s (given-of (a .must)) (given-of (a .can))) ⌝ }
+// A status that was unknown, marked: present if in must, absent if not in can.
+pub fn marked_as(sure: bool, may: bool) -> Seen
+    ensures { λ r. ⌜ seen-as r ≡ marked sure may unknown ⌝ }
 {
-    if has_signal(a.must.signals, s) {
+    if sure {
         Seen::Present
-    } else if has_signal(a.can.signals, s) {
+    } else if may {
         Seen::Unknown
     } else {
         Seen::Absent
     }
 }
 
-// A local's status under can with open mark: must is not asked.
-pub fn settled_open(s: u16, a: MustCan) -> Seen
-    ensures { λ r. ⌜ (s < 64 → seen-as r ≡ settled (can opened) s (given-of (a .must)) (given-of (a .can))) ⌝ }
+// A local's status, from its body with the signal unknown; must is asked only if the mark is plus.
+pub fn settled_for(mark: Mark, s: u16, a: MustCan) -> Seen
+    ensures { λ r. ⌜ (s < 64 → seen-as r ≡ settled (can (mark-of mark)) s (given-of (a .must)) (given-of (a .can))) ⌝ }
 {
-    if has_signal(a.can.signals, s) {
-        Seen::Unknown
-    } else {
-        Seen::Absent
+    let sure = has_signal(a.must.signals, s);
+    let may = has_signal(a.can.signals, s);
+    match mark {
+        Mark::Plus => marked_as(sure, may),
+        Mark::Open => marked_as(false, may),
+    }
+}
+
+// Whether a local's status is the one that its body was analysed with, under the same mark.
+pub fn still_unknown(mark: Mark, v: Seen) -> bool
+    ensures { λ r. ⌜ (r ≡ true → (mark ≡ Mark.Plus) × (v ≡ Seen.Unknown)) ⌝ }
+{
+    match mark {
+        Mark::Plus => match v {
+            Seen::Unknown => true,
+            Seen::Present => false,
+            Seen::Absent => false,
+        },
+        Mark::Open => false,
+    }
+}
+
+// The mark of a sequence's second part: plus only if it was plus and the first must give 0.
+pub fn mark_onward(mark: Mark, codes: u32) -> Mark
+    ensures { λ r. ⌜ can (mark-of r) ≡ onward (can (mark-of mark)) (bits codes 0) ⌝ }
+{
+    match mark {
+        Mark::Plus => {
+            if gives_zero(codes) {
+                Mark::Plus
+            } else {
+                Mark::Open
+            }
+        }
+        Mark::Open => Mark::Open,
+    }
+}
+
+// Whether a sequence's second part counts, under its mark, after these codes that the first can give.
+pub fn goes_on(mark: Mark, codes: u32) -> bool
+    ensures { λ r. ⌜ (r ≡ false → (mark ≡ Mark.Open) × (bits codes 0 ≡ false)) ⌝ }
+{
+    match mark {
+        Mark::Plus => true,
+        Mark::Open => gives_zero(codes),
     }
 }

@@ -1,16 +1,14 @@
-use Prim.Native.Nat.{_+_, _-_, _≤_}
-use mathlib.Core.Path.{_≡_, refl, sym, ap₂, _∙_}
+-- `evaluate::active::actives` meets its contract: the rows from i on are right; a row's children stand after it.
+-- Assumes nothing.
+use Prim.Native.Nat.{_-_, _≤_}
+use mathlib.Core.Path.{_≡_, refl, _∙_}
 use native.Mathlib.Omega.{arith}
-use lib.ListN.{length, length-replicate, length-set}
+use lib.ListN.{length, length-set}
 use Rattle.evaluate.specs.Words.{pauses-of}
-use Rattle.evaluate.specs.Forms.{table, Live, LiveFrom, pauses-in, among}
-use borrow.Author.Needs.{needs}
+use Rattle.evaluate.specs.Forms.{table, LiveFrom}
 use Rattle.evaluate.proofs.ActiveLaws.{live-none, live-step, live-all, pred-less, none-left}
 use Rattle.evaluate.proofs.active.actives.Statement.{statement}
 use Rattle.evaluate.proofs.active.actives.Tie as tie
-use Rattle.evaluate.proofs.active.actives.Reads as reads
-use Rattle.evaluate.proofs.active.actives.Lts as lts
-use Rattle.evaluate.proofs.active.holds_active.Reads as holds-active-reads
 
 abbrev Inv-loop : tie.InvT-loop
 Inv-loop kinds operands sizes set live₀ i₀ live i = (i ≤ 512) × (length live ≡ 512) × LiveFrom (table kinds operands sizes) (pauses-of set) live i

@@ -1,14 +1,11 @@
+-- `evaluate::active::held_one` meets its contract: by whether the pause is active.
+-- Assumes nothing.
 use Rattle.evaluate.proofs.ActiveLaws.{one-held, one-idle}
 use Rattle.evaluate.specs.Words.{pauses-of}
 use mathlib.Core.Path.{sym, _∙_}
 use borrow.Author.Needs.{needs}
 use Rattle.evaluate.proofs.active.held_one.Statement.{statement}
 use Rattle.evaluate.proofs.active.held_one.Tie as tie
-use Rattle.evaluate.proofs.active.held_one.Reads as reads
-use Rattle.evaluate.proofs.active.held_one.Lts as lts
-use Rattle.evaluate.proofs.pauses.has_pause.Reads as has-pause-reads
-use Rattle.evaluate.proofs.pauses.no_pause.Reads as no-pause-reads
-use Rattle.evaluate.proofs.pauses.one_pause.Reads as one-pause-reads
 
 has-pause-requires : tie.Need-has-pause-requires
 has-pause-requires c κs = search needs

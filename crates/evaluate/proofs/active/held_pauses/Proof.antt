@@ -1,21 +1,15 @@
+-- `evaluate::active::held_pauses` meets its contract: the rows passed have given their active pauses.
+-- Assumes nothing.
 use Rattle.evaluate.proofs.FormLaws.{row, in-table}
-use Prim.Native.Nat.{_+_, _-_, _≤_}
-use mathlib.Core.Path.{_≡_, refl, sym, ap₂, _∙_}
+use Prim.Native.Nat.{_-_, _≤_}
+use mathlib.Core.Path.{_≡_, ap₂, _∙_}
 use native.Mathlib.Omega.{arith}
-use lib.ListN.{length, length-replicate, length-set}
 use Rattle.evaluate.specs.Words.{pauses-of}
-use Rattle.evaluate.specs.Forms.{table, Live, LiveFrom, pauses-in, among}
-use borrow.Author.Needs.{needs}
+use Rattle.evaluate.specs.Forms.{table, pauses-in, among}
 use Rattle.evaluate.proofs.ActiveLaws.{rows-none, rows-more, rows-all, both-ways}
 use Rattle.sets.specs.Numbers.{union}
 use Rattle.evaluate.proofs.active.held_pauses.Statement.{statement}
 use Rattle.evaluate.proofs.active.held_pauses.Tie as tie
-use Rattle.evaluate.proofs.active.held_pauses.Reads as reads
-use Rattle.evaluate.proofs.active.held_pauses.Lts as lts
-use Rattle.evaluate.proofs.active.held_row.Reads as held-row-reads
-use Rattle.evaluate.proofs.form.wide.Reads as wide-reads
-use Rattle.evaluate.proofs.pauses.joined.Reads as joined-reads
-use Rattle.evaluate.proofs.pauses.no_pause.Reads as no-pause-reads
 
 abbrev Inv-loop : tie.InvT-loop
 Inv-loop kinds operands sizes set at size kept₀ n₀ kept n = (n ≤ size) × (pauses-of kept ≡ among (pauses-of set) (pauses-in (table kinds operands sizes) at n))

@@ -1,3 +1,5 @@
+-- `evaluate::active::held_row` meets its contract: by whether the row is a pause.
+-- Assumes nothing.
 use Rattle.evaluate.proofs.ActiveLaws.{row-own, row-none}
 use Rattle.evaluate.specs.Words.{pauses-of}
 use Rattle.evaluate.specs.Forms.{table}
@@ -5,10 +7,6 @@ use mathlib.Core.Path.{_∙_}
 use borrow.Author.Needs.{needs}
 use Rattle.evaluate.proofs.active.held_row.Statement.{statement}
 use Rattle.evaluate.proofs.active.held_row.Tie as tie
-use Rattle.evaluate.proofs.active.held_row.Reads as reads
-use Rattle.evaluate.proofs.active.held_row.Lts as lts
-use Rattle.evaluate.proofs.active.held_one.Reads as held-one-reads
-use Rattle.evaluate.proofs.pauses.no_pause.Reads as no-pause-reads
 
 mul-if1 : tie.Need-mul-if1
 mul-if1 c = search needs

@@ -1,3 +1,5 @@
+-- `evaluate::active::holds_active` meets its contract: each arm is the flag of its kind, from the flags of the children.
+-- Assumes nothing.
 use Rattle.evaluate.proofs.ActiveLaws.{active-at}
 use Rattle.evaluate.proofs.FormLaws.{row, some-kind}
 use mathlib.Core.Path.{refl, _∙_}
@@ -7,12 +9,6 @@ use lib.ListN.{getD}
 use borrow.Author.Needs.{needs}
 use Rattle.evaluate.proofs.active.holds_active.Statement.{statement}
 use Rattle.evaluate.proofs.active.holds_active.Tie as tie
-use Rattle.evaluate.proofs.active.holds_active.Reads as reads
-use Rattle.evaluate.proofs.active.holds_active.Lts as lts
-use Rattle.evaluate.proofs.active.or.Reads as or-reads
-use Rattle.evaluate.proofs.form.live_at.Reads as live-at-reads
-use Rattle.evaluate.proofs.form.second.Reads as second-reads
-use Rattle.evaluate.proofs.pauses.has_pause.Reads as has-pause-reads
 
 mul-kind : tie.Need-mul-kind
 mul-kind c = search needs

@@ -1,11 +1,11 @@
+-- `evaluate::form::arm` meets its contract: by the flag.
+-- Assumes nothing.
 use mathlib.Core.Path.{sym, ap}
 use mathlib.Core.Bool.{cond}
 use Rattle.evaluate.specs.declared.form.Part.{Part}
 use Rattle.evaluate.specs.declared.form.Going.the-variants.{Resumed, Idle}
 use Rattle.evaluate.proofs.form.arm.Statement.{statement}
 use Rattle.evaluate.proofs.form.arm.Tie as tie
-use Rattle.evaluate.proofs.form.arm.Reads as reads
-use Rattle.evaluate.proofs.form.arm.Lts as lts
 
 returns : tie.Need-returns
 returns c = ap {B = Part} (λ b. record { at = c .before .args .at; going = cond b Resumed Idle }) (sym (c .if1 .taken))

@@ -1,12 +1,10 @@
+-- `evaluate::form::form_of` meets its contract: by how the part is taken.
+-- Assumes nothing.
 use Rattle.evaluate.proofs.FormLaws.{idle-formed, keep-formed, going-formed}
 use Rattle.evaluate.specs.declared.form.Going.the-variants.{Started, Resumed}
 use borrow.Author.Needs.{needs}
 use Rattle.evaluate.proofs.form.form_of.Statement.{statement}
 use Rattle.evaluate.proofs.form.form_of.Tie as tie
-use Rattle.evaluate.proofs.form.form_of.Reads as reads
-use Rattle.evaluate.proofs.form.form_of.Lts as lts
-use Rattle.evaluate.proofs.form.resumed_form.Reads as resumed-form-reads
-use Rattle.evaluate.proofs.form.started_form.Reads as started-form-reads
 
 enum-told : tie.Need-enum-told
 enum-told c = search needs

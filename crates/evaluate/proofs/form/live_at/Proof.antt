@@ -1,9 +1,9 @@
+-- `evaluate::form::live_at` meets its contract: past the table nothing is asked.
+-- Assumes nothing.
 use native.Mathlib.Omega.{arith}
 use borrow.Author.Needs.{needs}
 use Rattle.evaluate.proofs.form.live_at.Statement.{statement}
 use Rattle.evaluate.proofs.form.live_at.Tie as tie
-use Rattle.evaluate.proofs.form.live_at.Reads as reads
-use Rattle.evaluate.proofs.form.live_at.Lts as lts
 
 element-copy-out-result : tie.Need-element-copy-out-result
 element-copy-out-result c = search needs

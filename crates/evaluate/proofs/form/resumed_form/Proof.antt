@@ -1,3 +1,5 @@
+-- `evaluate::form::resumed_form` meets its contract: each arm is the form of its kind; the kinds that are left are done.
+-- Assumes nothing.
 use Rattle.evaluate.proofs.FormLaws.{row, in-table, arm-part, resumed-formed, resumed-done, done-formed}
 use Rattle.evaluate.specs.Forms.{table, step-of, Formed}
 use mathlib.Core.Path.{sym, _∙_, subst⁻¹}
@@ -8,12 +10,6 @@ use Rattle.evaluate.specs.declared.form.Form.the-variants.{Beside, Same}
 use borrow.Author.Needs.{needs}
 use Rattle.evaluate.proofs.form.resumed_form.Statement.{statement}
 use Rattle.evaluate.proofs.form.resumed_form.Tie as tie
-use Rattle.evaluate.proofs.form.resumed_form.Reads as reads
-use Rattle.evaluate.proofs.form.resumed_form.Lts as lts
-use Rattle.evaluate.proofs.form.arm.Reads as arm-reads
-use Rattle.evaluate.proofs.form.chosen.Reads as chosen-reads
-use Rattle.evaluate.proofs.form.live_at.Reads as live-at-reads
-use Rattle.evaluate.proofs.form.second.Reads as second-reads
 
 mul-kind : tie.Need-mul-kind
 mul-kind c = search needs
@@ -39,17 +35,17 @@ live-at-requires c κs = search needs
 live-at-requires-2 : tie.Need-live-at-requires-2
 live-at-requires-2 c κs = search needs
 
-add-t13 : tie.Need-add-t13
-add-t13 c = search needs
+add-t16 : tie.Need-add-t16
+add-t16 c = search needs
+
+add-t16-2 : tie.Need-add-t16-2
+add-t16-2 c = search needs
+
+add-t16-3 : tie.Need-add-t16-3
+add-t16-3 c = search needs
 
 chosen-requires : tie.Need-chosen-requires
 chosen-requires c κs = search needs
-
-add-t22 : tie.Need-add-t22
-add-t22 c = search needs
-
-add-t29 : tie.Need-add-t29
-add-t29 c = search needs
 
 add-arm : tie.Need-add-arm
 add-arm c = search needs
@@ -100,10 +96,10 @@ resumed-form-spec =
     add-live-at
     live-at-requires
     live-at-requires-2
-    add-t13
+    add-t16
+    add-t16-2
+    add-t16-3
     chosen-requires
-    add-t22
-    add-t29
     add-arm
     arm-requires
     arm-requires-2

@@ -1,12 +1,11 @@
+-- `evaluate::form::started_form` meets its contract: each arm is the form of its kind; every statement has one of the eleven kinds.
+-- Assumes nothing.
 use Rattle.evaluate.proofs.FormLaws.{row, some-kind, in-table, started-formed, done-formed}
 use mathlib.Core.Path.{_∙_}
 use Rattle.evaluate.specs.Forms.{step-of}
 use borrow.Author.Needs.{needs}
 use Rattle.evaluate.proofs.form.started_form.Statement.{statement}
 use Rattle.evaluate.proofs.form.started_form.Tie as tie
-use Rattle.evaluate.proofs.form.started_form.Reads as reads
-use Rattle.evaluate.proofs.form.started_form.Lts as lts
-use Rattle.evaluate.proofs.form.second.Reads as second-reads
 
 mul-kind : tie.Need-mul-kind
 mul-kind c = search needs

@@ -1,3 +1,5 @@
+-- The proof of the cycle of calls {next_kept}: each way is a lemma of KeptSteps; the measure is the subtree's size.
+-- Assumes nothing.
 use mathlib.Core.Path.{sym, ap, _∙_}
 use lib.Dec.{lit<}
 use lib.ListN.{getD}
@@ -25,7 +27,7 @@ use Rattle.evaluate.proofs.walk.must_can.Reads as must-can-reads
 use Rattle.evaluate.proofs.words.code_of.Reads as code-of-reads
 use Rattle.evaluate.proofs.words.gives_zero.Reads as gives-zero-reads
 use Rattle.evaluate.proofs.words.heard_with.Reads as heard-with-reads
-use Rattle.evaluate.proofs.words.settled_sure.Reads as settled-sure-reads
+use Rattle.evaluate.proofs.words.settled_for.Reads as settled-for-reads
 use Rattle.evaluate.proofs.words.status_at.Reads as status-at-reads
 use Rattle.evaluate.proofs.next.+next_kept.{statement}
 use Rattle.evaluate.proofs.next.+next_kept.Tie.{close}
@@ -41,7 +43,7 @@ next-kept-below t =
     and 4 next-kept-kinds.ps (falls 4 next-kept-kinds.ps _<_ μ-next-kept t) next-kept.Pre
 
 abbrev next-kept-claims : ℕ → next-kept-lts.Claims
-next-kept-claims t = (form-of-reads.Asked, form-of-reads.Learnt, kept-none-reads.Asked, kept-none-reads.Learnt, one-pause-reads.Asked, one-pause-reads.Learnt, kept-here-reads.Asked, kept-here-reads.Learnt, held-pauses-reads.Asked, held-pauses-reads.Learnt, code-of-reads.Asked, code-of-reads.Learnt, status-at-reads.Asked, status-at-reads.Learnt, next-kept-below t, next-kept.Post, kept-again-reads.Asked, kept-again-reads.Learnt, kept-unknown-reads.Asked, kept-unknown-reads.Learnt, kept-caught-reads.Asked, kept-caught-reads.Learnt, heard-with-reads.Asked, heard-with-reads.Learnt, must-can-reads.Asked, must-can-reads.Learnt, settled-sure-reads.Asked, settled-sure-reads.Learnt, gives-zero-reads.Asked, gives-zero-reads.Learnt, kept-chain-reads.Asked, kept-chain-reads.Learnt, kept-beside-reads.Asked, kept-beside-reads.Learnt)
+next-kept-claims t = (form-of-reads.Asked, form-of-reads.Learnt, kept-none-reads.Asked, kept-none-reads.Learnt, one-pause-reads.Asked, one-pause-reads.Learnt, kept-here-reads.Asked, kept-here-reads.Learnt, held-pauses-reads.Asked, held-pauses-reads.Learnt, code-of-reads.Asked, code-of-reads.Learnt, status-at-reads.Asked, status-at-reads.Learnt, next-kept-below t, next-kept.Post, kept-again-reads.Asked, kept-again-reads.Learnt, kept-unknown-reads.Asked, kept-unknown-reads.Learnt, kept-caught-reads.Asked, kept-caught-reads.Learnt, heard-with-reads.Asked, heard-with-reads.Learnt, must-can-reads.Asked, must-can-reads.Learnt, settled-for-reads.Asked, settled-for-reads.Learnt, gives-zero-reads.Asked, gives-zero-reads.Learnt, kept-chain-reads.Asked, kept-chain-reads.Learnt, kept-beside-reads.Asked, kept-beside-reads.Learnt)
 
 next-kept-form-of-requires : (t : ℕ) → next-kept-lts.Need-form-of-requires (next-kept-claims t) (next-kept-at t) next-kept.Post
 next-kept-form-of-requires t c κs = c .pre .1
@@ -138,8 +140,8 @@ next-kept-must-can-requires : (t : ℕ) → next-kept-lts.Need-must-can-requires
 unfolding Below
 next-kept-must-can-requires t c κs = (formed (c .before .before .before .before .form-of .ensures) (c .before .before .form6 .given .1)) .below .placed
 
-next-kept-settled-sure-requires : (t : ℕ) → next-kept-lts.Need-settled-sure-requires (next-kept-claims t) (next-kept-at t) next-kept.Post
-next-kept-settled-sure-requires t c κs = tt
+next-kept-settled-for-requires : (t : ℕ) → next-kept-lts.Need-settled-for-requires (next-kept-claims t) (next-kept-at t) next-kept.Post
+next-kept-settled-for-requires t c κs = tt
 
 next-kept-heard-with-requires-2 : (t : ℕ) → next-kept-lts.Need-heard-with-requires-2 (next-kept-claims t) (next-kept-at t) next-kept.Post
 next-kept-heard-with-requires-2 t c κs = tt
@@ -226,7 +228,7 @@ next-kept-returns-10 : (t : ℕ) → next-kept-lts.Need-returns-10 (next-kept-cl
 next-kept-returns-10 t c = keep-form (formed (c .before .before .before .before .before .form-of .ensures) (c .before .before .before .form5 .given .1)) (keep-catch (c .kept-caught .ensures) (c .before .next-kept3 .ensures))
 
 next-kept-returns-11 : (t : ℕ) → next-kept-lts.Need-returns-11 (next-kept-claims t) (next-kept-at t) next-kept.Post
-next-kept-returns-11 t c = keep-form (formed (c .before .before .before .before .before .before .before .before .before .form-of .ensures) (c .before .before .before .before .before .before .before .form6 .given .1)) (keep-scope (seen-as (c .before .before .before .settled-sure .result)) (c .kept-again3 .ensures) (c .before .before .before .before .before .heard-with .ensures) (c .before .before .before .before .must-can .ensures) (c .before .before .before .settled-sure .ensures) (c .before .before .heard-with2 .ensures) (c .before .next-kept4 .ensures))
+next-kept-returns-11 t c = keep-form (formed (c .before .before .before .before .before .before .before .before .before .form-of .ensures) (c .before .before .before .before .before .before .before .form6 .given .1)) (keep-scope (seen-as (c .before .before .before .settled-for .result)) (c .kept-again3 .ensures) (c .before .before .before .before .before .heard-with .ensures) (c .before .before .before .before .must-can .ensures) (c .before .before .before .settled-for .ensures) (c .before .before .heard-with2 .ensures) (c .before .next-kept4 .ensures))
 
 next-kept-returns-12 : (t : ℕ) → next-kept-lts.Need-returns-12 (next-kept-claims t) (next-kept-at t) next-kept.Post
 next-kept-returns-12 t c = keep-form (formed (c .before .before .before .before .before .before .before .before .form-of .ensures) (c .before .before .before .before .before .before .form7 .given .1)) (keep-skip (c .before .kept-unknown2 .result) (c .kept-chain2 .ensures) (sym (c .before .before .before .gives-zero .ensures) ∙ c .before .before .if1 .left) (c .before .before .before .before .next-kept5 .ensures))
@@ -271,7 +273,7 @@ pub +next-kept-spec : {M : Type 1} → statement M
     (next-kept-enum-known-form-6 t)
     (next-kept-heard-with-requires t)
     (next-kept-must-can-requires t)
-    (next-kept-settled-sure-requires t)
+    (next-kept-settled-for-requires t)
     (next-kept-heard-with-requires-2 t)
     (next-kept-next-kept-requires-4 t)
     (next-kept-kept-again-requires-3 t)

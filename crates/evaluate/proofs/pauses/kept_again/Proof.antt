@@ -1,11 +1,10 @@
+-- `evaluate::pauses::kept_again` meets its contract: the codes and pauses of the part.
+-- Assumes nothing.
 use Rattle.evaluate.proofs.KeptSteps.{kept-of}
 use mathlib.Core.Path.{refl}
 use borrow.Author.Needs.{needs}
 use Rattle.evaluate.proofs.pauses.kept_again.Statement.{statement}
 use Rattle.evaluate.proofs.pauses.kept_again.Tie as tie
-use Rattle.evaluate.proofs.pauses.kept_again.Reads as reads
-use Rattle.evaluate.proofs.pauses.kept_again.Lts as lts
-use Rattle.evaluate.proofs.pauses.kept_with.Reads as kept-with-reads
 
 kept-with-requires : tie.Need-kept-with-requires
 kept-with-requires c κs = search needs

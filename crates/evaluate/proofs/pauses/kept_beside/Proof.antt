@@ -1,12 +1,9 @@
+-- `evaluate::pauses::kept_beside` meets its contract: the larger codes, and both sets of pauses.
+-- Assumes nothing.
 use Rattle.evaluate.proofs.KeptSteps.{kept-of}
 use borrow.Author.Needs.{needs}
 use Rattle.evaluate.proofs.pauses.kept_beside.Statement.{statement}
 use Rattle.evaluate.proofs.pauses.kept_beside.Tie as tie
-use Rattle.evaluate.proofs.pauses.kept_beside.Reads as reads
-use Rattle.evaluate.proofs.pauses.kept_beside.Lts as lts
-use Rattle.evaluate.proofs.pauses.joined.Reads as joined-reads
-use Rattle.evaluate.proofs.pauses.kept_with.Reads as kept-with-reads
-use Rattle.evaluate.proofs.words.larger.Reads as larger-reads
 
 larger-requires : tie.Need-larger-requires
 larger-requires c κs = search needs

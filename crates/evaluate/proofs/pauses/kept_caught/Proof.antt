@@ -1,12 +1,10 @@
+-- `evaluate::pauses::kept_caught` meets its contract: the codes are lowered.
+-- Assumes nothing.
 use Rattle.evaluate.proofs.KeptSteps.{kept-of}
 use mathlib.Core.Path.{refl}
 use borrow.Author.Needs.{needs}
 use Rattle.evaluate.proofs.pauses.kept_caught.Statement.{statement}
 use Rattle.evaluate.proofs.pauses.kept_caught.Tie as tie
-use Rattle.evaluate.proofs.pauses.kept_caught.Reads as reads
-use Rattle.evaluate.proofs.pauses.kept_caught.Lts as lts
-use Rattle.evaluate.proofs.pauses.kept_with.Reads as kept-with-reads
-use Rattle.evaluate.proofs.words.lowered.Reads as lowered-reads
 
 lowered-requires : tie.Need-lowered-requires
 lowered-requires c κs = search needs

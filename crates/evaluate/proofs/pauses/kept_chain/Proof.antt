@@ -1,3 +1,5 @@
+-- `evaluate::pauses::kept_chain` meets its contract: the second part counts by whether the first gives 0.
+-- Assumes nothing.
 use Rattle.evaluate.proofs.KeptSteps.{kept-of, with-later, without-later}
 use mathlib.Core.Path.{sym, _∙_}
 use Rattle.sets.specs.Words.{bits}
@@ -5,12 +7,6 @@ use Rattle.evaluate.specs.Words.{pauses-of}
 use borrow.Author.Needs.{needs}
 use Rattle.evaluate.proofs.pauses.kept_chain.Statement.{statement}
 use Rattle.evaluate.proofs.pauses.kept_chain.Tie as tie
-use Rattle.evaluate.proofs.pauses.kept_chain.Reads as reads
-use Rattle.evaluate.proofs.pauses.kept_chain.Lts as lts
-use Rattle.evaluate.proofs.pauses.joined.Reads as joined-reads
-use Rattle.evaluate.proofs.pauses.kept_with.Reads as kept-with-reads
-use Rattle.evaluate.proofs.words.followed_codes.Reads as followed-codes-reads
-use Rattle.evaluate.proofs.words.gives_zero.Reads as gives-zero-reads
 
 followed-codes-requires : tie.Need-followed-codes-requires
 followed-codes-requires c κs = search needs

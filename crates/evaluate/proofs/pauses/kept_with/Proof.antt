@@ -1,9 +1,9 @@
+-- `evaluate::pauses::kept_with` meets its contract: bit 1 of the codes decides.
+-- Assumes nothing.
 use Rattle.evaluate.proofs.PauseLaws.{kept-one, kept-other}
 use mathlib.Core.Path.{refl}
 use Rattle.evaluate.proofs.pauses.kept_with.Statement.{statement}
 use Rattle.evaluate.proofs.pauses.kept_with.Tie as tie
-use Rattle.evaluate.proofs.pauses.kept_with.Reads as reads
-use Rattle.evaluate.proofs.pauses.kept_with.Lts as lts
 
 returns : tie.Need-returns
 returns c = (refl, kept-one (c .before .args .codes) (c .before .args .pauses) (c .if1 .taken))

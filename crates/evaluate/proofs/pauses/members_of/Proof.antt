@@ -1,9 +1,9 @@
+-- `evaluate::pauses::members_of` meets its contract: the ones of a word are its members.
+-- Assumes nothing.
 use lib.Count.{ones-le}
 use Rattle.sets.proofs.Words.{ones-count}
 use Rattle.evaluate.proofs.pauses.members_of.Statement.{statement}
 use Rattle.evaluate.proofs.pauses.members_of.Tie as tie
-use Rattle.evaluate.proofs.pauses.members_of.Reads as reads
-use Rattle.evaluate.proofs.pauses.members_of.Lts as lts
 
 returns : tie.Need-returns
 returns c = (ones-le 64 (c .args .w) (c .fits .w .fits), ones-count 64 (c .fits .w .fits))

@@ -1,8 +1,8 @@
+-- `evaluate::pauses::no_pause` meets its contract: two empty words.
+-- Assumes nothing.
 use Rattle.evaluate.proofs.PauseLaws.{none-kept}
 use Rattle.evaluate.proofs.pauses.no_pause.Statement.{statement}
 use Rattle.evaluate.proofs.pauses.no_pause.Tie as tie
-use Rattle.evaluate.proofs.pauses.no_pause.Reads as reads
-use Rattle.evaluate.proofs.pauses.no_pause.Lts as lts
 
 returns : tie.Need-returns
 returns c = none-kept

@@ -1,11 +1,11 @@
+-- `evaluate::pauses::one_pause` meets its contract: the word that has the pause goes by the bound 64.
+-- Assumes nothing.
 use Rattle.evaluate.proofs.PauseLaws.{low-one, high-one}
 use Rattle.evaluate.proofs.WordLaws.{shifted}
 use native.Mathlib.Omega.{arith}
 use borrow.Author.Needs.{needs}
 use Rattle.evaluate.proofs.pauses.one_pause.Statement.{statement}
 use Rattle.evaluate.proofs.pauses.one_pause.Tie as tie
-use Rattle.evaluate.proofs.pauses.one_pause.Reads as reads
-use Rattle.evaluate.proofs.pauses.one_pause.Lts as lts
 
 shl-t4 : tie.Need-shl-t4
 shl-t4 c = search needs

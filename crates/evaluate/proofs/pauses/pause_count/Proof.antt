@@ -1,12 +1,11 @@
+-- `evaluate::pauses::pause_count` meets its contract: the members of both words are added.
+-- Assumes nothing.
 use Rattle.evaluate.proofs.PauseLaws.{pauses-counted}
 use mathlib.Core.Path.{ap₂, _∙_}
 use Prim.Native.Nat.{ℕ, _+_}
 use borrow.Author.Needs.{needs}
 use Rattle.evaluate.proofs.pauses.pause_count.Statement.{statement}
 use Rattle.evaluate.proofs.pauses.pause_count.Tie as tie
-use Rattle.evaluate.proofs.pauses.pause_count.Reads as reads
-use Rattle.evaluate.proofs.pauses.pause_count.Lts as lts
-use Rattle.evaluate.proofs.pauses.members_of.Reads as members-of-reads
 
 array-read-members-of : tie.Need-array-read-members-of
 array-read-members-of c = search needs

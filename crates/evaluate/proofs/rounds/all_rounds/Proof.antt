@@ -1,3 +1,5 @@
+-- `evaluate::rounds::all_rounds` meets its contract: after k rounds the rest of the fuel leads to the same end.
+-- Assumes nothing.
 use Rattle.evaluate.proofs.RoundLaws.{Progress, progress-none, progress-more, progress-stop, progress-end}
 use Prim.Native.Nat.{_+_, _-_, _≤_}
 use mathlib.Core.Path.{sym, _∙_}
@@ -5,10 +7,6 @@ use native.Mathlib.Omega.{arith}
 use Rattle.evaluate.specs.Forms.{table}
 use Rattle.evaluate.proofs.rounds.all_rounds.Statement.{statement}
 use Rattle.evaluate.proofs.rounds.all_rounds.Tie as tie
-use Rattle.evaluate.proofs.rounds.all_rounds.Reads as reads
-use Rattle.evaluate.proofs.rounds.all_rounds.Lts as lts
-use Rattle.evaluate.proofs.rounds.round_of.Reads as round-of-reads
-use Rattle.evaluate.proofs.rounds.same_marks.Reads as same-marks-reads
 
 abbrev Inv-loop : tie.InvT-loop
 Inv-loop kinds operands sizes live part inputs outputs given marks₀ rounds₀ marks rounds = (rounds ≤ outputs + 1) × Progress (table kinds operands sizes) live part inputs outputs given marks rounds

@@ -1,3 +1,5 @@
+-- `evaluate::rounds::answer_of` meets its contract: no legal code: not constructive; else the lowest, with every field as the definition's answer has it.
+-- Assumes nothing.
 use Rattle.evaluate.proofs.RoundLaws.{stands, not-known, is-known, kept-answer, no-code, the-code}
 use mathlib.Core.Path.{refl}
 use Rattle.sets.specs.Numbers.{lowest}
@@ -7,13 +9,6 @@ use Rattle.evaluate.proofs.PauseLaws.{none-kept}
 use borrow.Author.Needs.{needs}
 use Rattle.evaluate.proofs.rounds.answer_of.Statement.{statement}
 use Rattle.evaluate.proofs.rounds.answer_of.Tie as tie
-use Rattle.evaluate.proofs.rounds.answer_of.Reads as reads
-use Rattle.evaluate.proofs.rounds.answer_of.Lts as lts
-use Rattle.evaluate.proofs.pauses.pause_count.Reads as pause-count-reads
-use Rattle.evaluate.proofs.rounds.code_in.Reads as code-in-reads
-use Rattle.evaluate.proofs.rounds.kept_for.Reads as kept-for-reads
-use Rattle.evaluate.proofs.rounds.legal_codes.Reads as legal-codes-reads
-use Rattle.evaluate.proofs.rounds.undecided_of.Reads as undecided-of-reads
 
 undecided-of-requires : tie.Need-undecided-of-requires
 undecided-of-requires c κs = search needs

@@ -1,9 +1,9 @@
+-- `evaluate::rounds::below` meets its contract: a power less 1 has all bits below; 64 is apart, since no shift is by the width.
+-- Assumes nothing.
 use Rattle.evaluate.proofs.RoundLaws.{shift-pos, below-is, below-all}
 use borrow.Author.Needs.{needs}
 use Rattle.evaluate.proofs.rounds.below.Statement.{statement}
 use Rattle.evaluate.proofs.rounds.below.Tie as tie
-use Rattle.evaluate.proofs.rounds.below.Reads as reads
-use Rattle.evaluate.proofs.rounds.below.Lts as lts
 
 shl-result : tie.Need-shl-result
 shl-result c = search needs

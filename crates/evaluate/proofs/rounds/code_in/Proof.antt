@@ -1,8 +1,8 @@
+-- `evaluate::rounds::code_in` meets its contract: the trailing zeros of a set that has a member.
+-- Assumes nothing.
 use Rattle.evaluate.proofs.WordLaws.{lowest-there}
 use Rattle.evaluate.proofs.rounds.code_in.Statement.{statement}
 use Rattle.evaluate.proofs.rounds.code_in.Tie as tie
-use Rattle.evaluate.proofs.rounds.code_in.Reads as reads
-use Rattle.evaluate.proofs.rounds.code_in.Lts as lts
 
 returns : tie.Need-returns
 returns c = λ f. lowest-there (c .args .codes) (c .fits .codes .fits) f

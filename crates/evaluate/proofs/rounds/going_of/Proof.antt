@@ -1,3 +1,5 @@
+-- `evaluate::rounds::going_of` meets its contract: by the phase.
+-- Assumes nothing.
 use mathlib.Core.Path.{sym, ap}
 use Rattle.rules.specs.Instant.{started}
 use Rattle.rules.specs.States.{step}
@@ -6,8 +8,6 @@ use Rattle.evaluate.specs.Reacts.{state-of}
 use borrow.Author.Needs.{needs}
 use Rattle.evaluate.proofs.rounds.going_of.Statement.{statement}
 use Rattle.evaluate.proofs.rounds.going_of.Tie as tie
-use Rattle.evaluate.proofs.rounds.going_of.Reads as reads
-use Rattle.evaluate.proofs.rounds.going_of.Lts as lts
 
 enum-told : tie.Need-enum-told
 enum-told c = search needs

@@ -1,12 +1,11 @@
+-- `evaluate::rounds::heard_in` meets its contract: the event is that of the definition, signal by signal.
+-- Assumes nothing.
 use Rattle.evaluate.proofs.RoundLaws.{heard-event, fine-block}
 use mathlib.Core.Path.{sym, ap, _∙_}
 use lib.Dec.{ltb}
 use borrow.Author.Needs.{needs}
 use Rattle.evaluate.proofs.rounds.heard_in.Statement.{statement}
 use Rattle.evaluate.proofs.rounds.heard_in.Tie as tie
-use Rattle.evaluate.proofs.rounds.heard_in.Reads as reads
-use Rattle.evaluate.proofs.rounds.heard_in.Lts as lts
-use Rattle.evaluate.proofs.rounds.below.Reads as below-reads
 
 below-requires : tie.Need-below-requires
 below-requires c κs = search needs

@@ -1,3 +1,5 @@
+-- `evaluate::rounds::kept_for` meets its contract: by whether the code is 1.
+-- Assumes nothing.
 use mathlib.Core.Path.{sym, ap, _∙_}
 use mathlib.Core.Bool.{Bool, cond}
 use borrow.Author.Tests.{eq-eqb, ne-eqb}
@@ -6,8 +8,6 @@ use Rattle.evaluate.specs.Words.{pauses-of}
 use Rattle.evaluate.proofs.PauseLaws.{none-kept}
 use Rattle.evaluate.proofs.rounds.kept_for.Statement.{statement}
 use Rattle.evaluate.proofs.rounds.kept_for.Tie as tie
-use Rattle.evaluate.proofs.rounds.kept_for.Reads as reads
-use Rattle.evaluate.proofs.rounds.kept_for.Lts as lts
 
 returns : tie.Need-returns
 returns c = ap {A = Bool} {B = Numbers} (λ x. cond x (pauses-of (c .before .before .args .pauses)) empty) (sym (eq-eqb (c .before .before .args .c .0) 1 (c .if1 .taken)))

@@ -1,8 +1,8 @@
+-- `evaluate::rounds::legal_codes` meets its contract: a remainder by 2 ^ 18 keeps the bits below 18.
+-- Assumes nothing.
 use Rattle.evaluate.proofs.RoundLaws.{legal-is}
 use Rattle.evaluate.proofs.rounds.legal_codes.Statement.{statement}
 use Rattle.evaluate.proofs.rounds.legal_codes.Tie as tie
-use Rattle.evaluate.proofs.rounds.legal_codes.Reads as reads
-use Rattle.evaluate.proofs.rounds.legal_codes.Lts as lts
 
 returns : tie.Need-returns
 returns c = legal-is (c .args .codes)

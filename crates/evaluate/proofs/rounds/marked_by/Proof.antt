@@ -1,8 +1,8 @@
+-- `evaluate::rounds::marked_by` meets its contract: bit by bit.
+-- Assumes nothing.
 use Rattle.evaluate.proofs.RoundLaws.{marks-are}
 use Rattle.evaluate.proofs.rounds.marked_by.Statement.{statement}
 use Rattle.evaluate.proofs.rounds.marked_by.Tie as tie
-use Rattle.evaluate.proofs.rounds.marked_by.Reads as reads
-use Rattle.evaluate.proofs.rounds.marked_by.Lts as lts
 
 returns : tie.Need-returns
 returns c = marks-are (c .before .before .args .outs) (c .before .before .args .marks) (c .before .before .args .a)

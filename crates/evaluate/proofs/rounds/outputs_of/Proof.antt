@@ -1,10 +1,9 @@
+-- `evaluate::rounds::outputs_of` meets its contract: the signals below inputs plus outputs without the inputs.
+-- Assumes nothing.
 use Rattle.evaluate.proofs.RoundLaws.{outs-is}
 use borrow.Author.Needs.{needs}
 use Rattle.evaluate.proofs.rounds.outputs_of.Statement.{statement}
 use Rattle.evaluate.proofs.rounds.outputs_of.Tie as tie
-use Rattle.evaluate.proofs.rounds.outputs_of.Reads as reads
-use Rattle.evaluate.proofs.rounds.outputs_of.Lts as lts
-use Rattle.evaluate.proofs.rounds.below.Reads as below-reads
 
 below-requires : tie.Need-below-requires
 below-requires c κs = search needs

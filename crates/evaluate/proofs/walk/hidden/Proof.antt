@@ -1,9 +1,8 @@
+-- `evaluate::walk::hidden` meets its contract: both answers.
+-- Assumes nothing.
 use borrow.Author.Needs.{needs}
 use Rattle.evaluate.proofs.walk.hidden.Statement.{statement}
 use Rattle.evaluate.proofs.walk.hidden.Tie as tie
-use Rattle.evaluate.proofs.walk.hidden.Reads as reads
-use Rattle.evaluate.proofs.walk.hidden.Lts as lts
-use Rattle.evaluate.proofs.words.hidden_told.Reads as hidden-told-reads
 
 hidden-told-requires : tie.Need-hidden-told-requires
 hidden-told-requires c κs = search needs

@@ -1,10 +1,10 @@
+-- `evaluate::words::bit` meets its contract: a shifted 1 is the set of one signal, and no signal lies beyond.
+-- Assumes nothing.
 use Rattle.evaluate.proofs.WordLaws.{shifted}
 use native.Mathlib.Omega.{arith}
 use borrow.Author.Needs.{needs}
 use Rattle.evaluate.proofs.words.bit.Statement.{statement}
 use Rattle.evaluate.proofs.words.bit.Tie as tie
-use Rattle.evaluate.proofs.words.bit.Reads as reads
-use Rattle.evaluate.proofs.words.bit.Lts as lts
 
 shl-result : tie.Need-shl-result
 shl-result c = search needs

@@ -1,10 +1,9 @@
+-- `evaluate::words::both_told` meets its contract: the codes are those of `larger`.
+-- Assumes nothing.
 use Rattle.evaluate.proofs.WordLaws.{both-is}
 use borrow.Author.Needs.{needs}
 use Rattle.evaluate.proofs.words.both_told.Statement.{statement}
 use Rattle.evaluate.proofs.words.both_told.Tie as tie
-use Rattle.evaluate.proofs.words.both_told.Reads as reads
-use Rattle.evaluate.proofs.words.both_told.Lts as lts
-use Rattle.evaluate.proofs.words.larger.Reads as larger-reads
 
 larger-requires : tie.Need-larger-requires
 larger-requires c κs = search needs

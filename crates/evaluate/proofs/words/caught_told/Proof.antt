@@ -1,10 +1,9 @@
+-- `evaluate::words::caught_told` meets its contract: the codes are those of `lowered`.
+-- Assumes nothing.
 use Rattle.evaluate.proofs.WordLaws.{caught-is}
 use borrow.Author.Needs.{needs}
 use Rattle.evaluate.proofs.words.caught_told.Statement.{statement}
 use Rattle.evaluate.proofs.words.caught_told.Tie as tie
-use Rattle.evaluate.proofs.words.caught_told.Reads as reads
-use Rattle.evaluate.proofs.words.caught_told.Lts as lts
-use Rattle.evaluate.proofs.words.lowered.Reads as lowered-reads
 
 lowered-requires : tie.Need-lowered-requires
 lowered-requires c κs = search needs

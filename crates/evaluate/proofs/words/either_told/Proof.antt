@@ -1,8 +1,8 @@
+-- `evaluate::words::either_told` meets its contract: the unions of two words.
+-- Assumes nothing.
 use Rattle.evaluate.proofs.WordLaws.{either-is}
 use Rattle.evaluate.proofs.words.either_told.Statement.{statement}
 use Rattle.evaluate.proofs.words.either_told.Tie as tie
-use Rattle.evaluate.proofs.words.either_told.Reads as reads
-use Rattle.evaluate.proofs.words.either_told.Lts as lts
 
 returns : tie.Need-returns
 returns c = either-is (c .before .before .before .before .args .a) (c .before .before .before .before .args .b)

@@ -1,11 +1,10 @@
+-- `evaluate::words::followed_codes` meets its contract: by whether 0 is among the first codes.
+-- Assumes nothing.
 use Rattle.evaluate.proofs.WordLaws.{goes-on, stops}
 use mathlib.Core.Path.{sym, _∙_}
 use borrow.Author.Needs.{needs}
 use Rattle.evaluate.proofs.words.followed_codes.Statement.{statement}
 use Rattle.evaluate.proofs.words.followed_codes.Tie as tie
-use Rattle.evaluate.proofs.words.followed_codes.Reads as reads
-use Rattle.evaluate.proofs.words.followed_codes.Lts as lts
-use Rattle.evaluate.proofs.words.gives_zero.Reads as gives-zero-reads
 
 gives-zero-requires : tie.Need-gives-zero-requires
 gives-zero-requires c κs = search needs

@@ -1,12 +1,10 @@
+-- `evaluate::words::followed_told` meets its contract: by whether 0 is among the first codes.
+-- Assumes nothing.
 use Rattle.evaluate.proofs.WordLaws.{followed-on, followed-not}
 use mathlib.Core.Path.{sym, _∙_}
 use borrow.Author.Needs.{needs}
 use Rattle.evaluate.proofs.words.followed_told.Statement.{statement}
 use Rattle.evaluate.proofs.words.followed_told.Tie as tie
-use Rattle.evaluate.proofs.words.followed_told.Reads as reads
-use Rattle.evaluate.proofs.words.followed_told.Lts as lts
-use Rattle.evaluate.proofs.words.followed_codes.Reads as followed-codes-reads
-use Rattle.evaluate.proofs.words.gives_zero.Reads as gives-zero-reads
 
 followed-codes-requires : tie.Need-followed-codes-requires
 followed-codes-requires c κs = search needs

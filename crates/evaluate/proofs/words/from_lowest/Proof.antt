@@ -1,9 +1,9 @@
+-- `evaluate::words::from_lowest` meets its contract: the trailing zeros are the lowest code; an empty set has none.
+-- Assumes nothing.
 use Rattle.evaluate.proofs.WordLaws.{none-from, trailing-lt, shifted-pos, all-from}
 use borrow.Author.Needs.{needs}
 use Rattle.evaluate.proofs.words.from_lowest.Statement.{statement}
 use Rattle.evaluate.proofs.words.from_lowest.Tie as tie
-use Rattle.evaluate.proofs.words.from_lowest.Reads as reads
-use Rattle.evaluate.proofs.words.from_lowest.Lts as lts
 
 returns : tie.Need-returns
 returns c = none-from (c .before .args .codes) (c .if1 .taken)

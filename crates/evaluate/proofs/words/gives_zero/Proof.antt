@@ -1,9 +1,9 @@
+-- `evaluate::words::gives_zero` meets its contract: bit 0 is the remainder by 2.
+-- Assumes nothing.
 use Rattle.sets.proofs.Words.{bits-first}
 use mathlib.Core.Path.{sym}
 use Rattle.evaluate.proofs.words.gives_zero.Statement.{statement}
 use Rattle.evaluate.proofs.words.gives_zero.Tie as tie
-use Rattle.evaluate.proofs.words.gives_zero.Reads as reads
-use Rattle.evaluate.proofs.words.gives_zero.Lts as lts
 
 returns : tie.Need-returns
 returns c = sym (bits-first (c .args .codes))

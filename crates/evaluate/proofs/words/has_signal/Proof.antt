@@ -1,10 +1,9 @@
+-- `evaluate::words::has_signal` meets its contract: the test of a mask is the test of the bit.
+-- Assumes nothing.
 use Rattle.evaluate.proofs.WordLaws.{test-bit}
 use borrow.Author.Needs.{needs}
 use Rattle.evaluate.proofs.words.has_signal.Statement.{statement}
 use Rattle.evaluate.proofs.words.has_signal.Tie as tie
-use Rattle.evaluate.proofs.words.has_signal.Reads as reads
-use Rattle.evaluate.proofs.words.has_signal.Lts as lts
-use Rattle.evaluate.proofs.words.bit.Reads as bit-reads
 
 bit-requires : tie.Need-bit-requires
 bit-requires c κs = search needs

@@ -1,3 +1,5 @@
+-- `evaluate::words::heard_with` meets its contract: each status sets and clears its bits, and the match has told which it is.
+-- Assumes nothing.
 use Rattle.evaluate.proofs.WordLaws.{give-present, give-absent, give-unknown}
 use mathlib.Core.Path.{sym, ap, _∙_}
 use Rattle.rules.specs.Events.{giving}
@@ -5,9 +7,6 @@ use Rattle.evaluate.specs.Words.{event-of, seen-as}
 use borrow.Author.Needs.{needs}
 use Rattle.evaluate.proofs.words.heard_with.Statement.{statement}
 use Rattle.evaluate.proofs.words.heard_with.Tie as tie
-use Rattle.evaluate.proofs.words.heard_with.Reads as reads
-use Rattle.evaluate.proofs.words.heard_with.Lts as lts
-use Rattle.evaluate.proofs.words.bit.Reads as bit-reads
 
 bit-requires : tie.Need-bit-requires
 bit-requires c κs = search needs

@@ -1,10 +1,9 @@
+-- `evaluate::words::hidden_told` meets its contract: a bit is cleared.
+-- Assumes nothing.
 use Rattle.evaluate.proofs.WordLaws.{hidden-is}
 use borrow.Author.Needs.{needs}
 use Rattle.evaluate.proofs.words.hidden_told.Statement.{statement}
 use Rattle.evaluate.proofs.words.hidden_told.Tie as tie
-use Rattle.evaluate.proofs.words.hidden_told.Reads as reads
-use Rattle.evaluate.proofs.words.hidden_told.Lts as lts
-use Rattle.evaluate.proofs.words.bit.Reads as bit-reads
 
 bit-requires : tie.Need-bit-requires
 bit-requires c κs = search needs

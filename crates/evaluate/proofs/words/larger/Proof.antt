@@ -1,10 +1,9 @@
+-- `evaluate::words::larger` meets its contract: a code with one at or below it on the other side.
+-- Assumes nothing.
 use Rattle.evaluate.proofs.WordLaws.{larger-is}
 use borrow.Author.Needs.{needs}
 use Rattle.evaluate.proofs.words.larger.Statement.{statement}
 use Rattle.evaluate.proofs.words.larger.Tie as tie
-use Rattle.evaluate.proofs.words.larger.Reads as reads
-use Rattle.evaluate.proofs.words.larger.Lts as lts
-use Rattle.evaluate.proofs.words.from_lowest.Reads as from-lowest-reads
 
 from-lowest-requires : tie.Need-from-lowest-requires
 from-lowest-requires c κs = search needs

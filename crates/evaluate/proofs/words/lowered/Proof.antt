@@ -1,10 +1,10 @@
+-- `evaluate::words::lowered` meets its contract: the lowest digits are put together, and the rest is shifted down by one.
+-- Assumes nothing.
 use Rattle.evaluate.proofs.WordLaws.{lowered-is, lowered-digit}
 use native.Mathlib.Omega.{arith}
 use borrow.Author.Needs.{needs}
 use Rattle.evaluate.proofs.words.lowered.Statement.{statement}
 use Rattle.evaluate.proofs.words.lowered.Tie as tie
-use Rattle.evaluate.proofs.words.lowered.Reads as reads
-use Rattle.evaluate.proofs.words.lowered.Lts as lts
 
 mul-result : tie.Need-mul-result
 mul-result c = search needs

@@ -1,8 +1,8 @@
+-- `evaluate::words::nothing_told` meets its contract: two empty words.
+-- Assumes nothing.
 use Rattle.evaluate.proofs.WordLaws.{nothing-is}
 use Rattle.evaluate.proofs.words.nothing_told.Statement.{statement}
 use Rattle.evaluate.proofs.words.nothing_told.Tie as tie
-use Rattle.evaluate.proofs.words.nothing_told.Reads as reads
-use Rattle.evaluate.proofs.words.nothing_told.Lts as lts
 
 returns : tie.Need-returns
 returns c = nothing-is

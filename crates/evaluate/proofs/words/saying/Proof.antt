@@ -1,10 +1,9 @@
+-- `evaluate::words::saying` meets its contract: the set of one signal, and code 0.
+-- Assumes nothing.
 use Rattle.evaluate.proofs.WordLaws.{loud-is}
 use borrow.Author.Needs.{needs}
 use Rattle.evaluate.proofs.words.saying.Statement.{statement}
 use Rattle.evaluate.proofs.words.saying.Tie as tie
-use Rattle.evaluate.proofs.words.saying.Reads as reads
-use Rattle.evaluate.proofs.words.saying.Lts as lts
-use Rattle.evaluate.proofs.words.bit.Reads as bit-reads
 
 bit-requires : tie.Need-bit-requires
 bit-requires c κs = search needs

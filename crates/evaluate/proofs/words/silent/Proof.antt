@@ -1,10 +1,9 @@
+-- `evaluate::words::silent` meets its contract: no signal, and the set of one code.
+-- Assumes nothing.
 use Rattle.evaluate.proofs.WordLaws.{quiet-is}
 use borrow.Author.Needs.{needs}
 use Rattle.evaluate.proofs.words.silent.Statement.{statement}
 use Rattle.evaluate.proofs.words.silent.Tie as tie
-use Rattle.evaluate.proofs.words.silent.Reads as reads
-use Rattle.evaluate.proofs.words.silent.Lts as lts
-use Rattle.evaluate.proofs.words.code_bit.Reads as code-bit-reads
 
 code-bit-requires : tie.Need-code-bit-requires
 code-bit-requires c κs = search needs

@@ -1,11 +1,10 @@
+-- `evaluate::words::status_at` meets its contract: each way is one of the three statuses of two bits.
+-- Assumes nothing.
 use Rattle.evaluate.proofs.WordLaws.{seen-present, seen-absent, seen-unknown}
 use mathlib.Core.Path.{sym, _∙_}
 use borrow.Author.Needs.{needs}
 use Rattle.evaluate.proofs.words.status_at.Statement.{statement}
 use Rattle.evaluate.proofs.words.status_at.Tie as tie
-use Rattle.evaluate.proofs.words.status_at.Reads as reads
-use Rattle.evaluate.proofs.words.status_at.Lts as lts
-use Rattle.evaluate.proofs.words.has_signal.Reads as has-signal-reads
 
 has-signal-requires : tie.Need-has-signal-requires
 has-signal-requires c κs = search needs
