@@ -9,6 +9,7 @@ use libc::STDOUT_FILENO;
 use pages::again;
 use pages::block;
 use pages::header;
+use pages::nest;
 use pages::part;
 use pages::short;
 use pages::tree;
@@ -56,8 +57,8 @@ fn checked(name: &[u8], bytes: &[u8], expected: u64, at: usize) {
     }
 }
 
-// A block from words.
-fn words(name: &[u8], w: &[u16], expected: u64, at: usize) {
+// A block from bytes that give inputs, outputs, locals, then kind and operand of each statement.
+fn words(name: &[u8], w: &[u8], expected: u64, at: usize) {
     let mut page = [0u8; 4096];
     let n = block(&mut page, w);
     checked(name, part(&page, n), expected, at);
@@ -69,47 +70,62 @@ fn raw(name: &[u8], bytes: &[u8], expected: u64, at: usize) {
 }
 
 fn loops() {
-    words(b"loop nothing", &[0, 0, 0, 22, 0, 16, 0], 8, 14);
+    words(b"loop nothing", b"\x00\x00\x00\x16\x00\x10\x00", 8, 14);
     words(
         b"loop (present I then pause else nothing)",
-        &[1, 0, 0, 22, 0, 19, 0, 17, 0, 16, 0],
+        b"\x01\x00\x00\x16\x00\x13\x00\x11\x00\x10\x00",
         8,
         14,
     );
-    words(b"loop trap exit 0", &[0, 0, 0, 22, 0, 24, 0, 25, 0], 8, 14);
-    words(b"loop pause", &[0, 0, 0, 22, 0, 17, 0], 0, 0);
-    words(b"trap loop exit 0", &[0, 0, 0, 24, 0, 22, 0, 25, 0], 0, 0);
+    words(
+        b"loop trap exit 0",
+        b"\x00\x00\x00\x16\x00\x18\x00\x19\x00",
+        8,
+        14,
+    );
+    words(b"loop pause", b"\x00\x00\x00\x16\x00\x11\x00", 0, 0);
+    words(
+        b"trap loop exit 0",
+        b"\x00\x00\x00\x18\x00\x16\x00\x19\x00",
+        0,
+        0,
+    );
 }
 
 fn more_loops() {
-    words(b"loop loop nothing", &[0, 0, 0, 22, 0, 22, 0, 16, 0], 8, 18);
+    words(
+        b"loop loop nothing",
+        b"\x00\x00\x00\x16\x00\x16\x00\x10\x00",
+        8,
+        18,
+    );
     words(
         b"trap (exit 0; loop nothing)",
-        &[0, 0, 0, 24, 0, 21, 0, 25, 0, 22, 0, 16, 0],
+        b"\x00\x00\x00\x18\x00\x15\x00\x19\x00\x16\x00\x10\x00",
         8,
         28,
     );
     words(
         b"loop local S: present S then nothing else pause",
-        &[0, 0, 1, 22, 0, 26, 0, 19, 0, 16, 0, 17, 0],
+        b"\x00\x00\x01\x16\x00\x1a\x00\x13\x00\x10\x00\x11\x00",
         8,
         14,
     );
     words(
         b"loop (pause parallel nothing)",
-        &[0, 0, 0, 22, 0, 23, 0, 17, 0, 16, 0],
+        b"\x00\x00\x00\x16\x00\x17\x00\x11\x00\x10\x00",
         0,
         0,
     );
     words(
         b"loop trap (pause parallel exit 0)",
-        &[0, 0, 0, 22, 0, 24, 0, 23, 0, 17, 0, 25, 0],
+        b"\x00\x00\x00\x16\x00\x18\x00\x17\x00\x11\x00\x19\x00",
         8,
         14,
     );
     words(
         b"trap loop (exit 0; nothing)",
-        &[0, 0, 0, 24, 0, 22, 0, 21, 0, 25, 0, 16, 0],
+        b"\x00\x00\x00\x18\x00\x16\x00\x15\x00\x19\x00\x10\x00",
         0,
         0,
     );
@@ -190,9 +206,9 @@ fn kinds() {
         2,
         0,
     );
-    words(b"kind 15", &[0, 0, 0, 15, 0], 2, 14);
-    words(b"kind 16", &[0, 0, 0, 16, 0], 0, 0);
-    words(b"kind 27", &[0, 0, 0, 27, 0], 2, 14);
+    words(b"kind 15", b"\x00\x00\x00\x0f\x00", 2, 14);
+    words(b"kind 16", b"\x00\x00\x00\x10\x00", 0, 0);
+    words(b"kind 27", b"\x00\x00\x00\x1b\x00", 2, 14);
     raw(
         b"nothing of length 6",
         b"\x0e\x00\x01\x00\x01\x00\x00\x00\x00\x00\x00\x00\x00\x00\x06\x00\x10\x00\x00\x00",
@@ -229,16 +245,21 @@ fn editions() {
 }
 
 fn signals() {
-    words(b"64 signals", &[20, 44, 0, 16, 0], 0, 0);
-    words(b"65 signals", &[20, 45, 0, 16, 0], 4, 0);
-    words(b"65,536 signals", &[65535, 1, 0, 16, 0], 4, 0);
-    words(b"emit of an input", &[2, 2, 0, 18, 1], 5, 14);
-    words(b"emit of the first output", &[2, 2, 0, 18, 2], 0, 0);
-    words(b"emit of the last output", &[2, 2, 0, 18, 3], 0, 0);
-    words(b"emit past the outputs", &[2, 2, 0, 18, 4], 5, 14);
+    words(b"64 signals", b"\x14\x2c\x00\x10\x00", 0, 0);
+    words(b"65 signals", b"\x14\x2d\x00\x10\x00", 4, 0);
+    raw(
+        b"65,536 signals",
+        b"\x0e\x00\x01\x00\x01\x00\x07\x00\xff\xff\x01\x00\x00\x00\x04\x00\x10\x00",
+        4,
+        0,
+    );
+    words(b"emit of an input", b"\x02\x02\x00\x12\x01", 5, 14);
+    words(b"emit of the first output", b"\x02\x02\x00\x12\x02", 0, 0);
+    words(b"emit of the last output", b"\x02\x02\x00\x12\x03", 0, 0);
+    words(b"emit past the outputs", b"\x02\x02\x00\x12\x04", 5, 14);
     words(
         b"present of an input",
-        &[2, 2, 0, 19, 0, 16, 0, 16, 0],
+        b"\x02\x02\x00\x13\x00\x10\x00\x10\x00",
         0,
         0,
     );
@@ -247,52 +268,67 @@ fn signals() {
 fn scopes() {
     words(
         b"present past the outputs",
-        &[2, 2, 0, 19, 4, 16, 0, 16, 0],
+        b"\x02\x02\x00\x13\x04\x10\x00\x10\x00",
         5,
         14,
     );
-    words(b"suspend past the outputs", &[2, 2, 0, 20, 4, 17, 0], 5, 14);
-    words(b"local S: emit S", &[2, 2, 1, 26, 4, 18, 4], 0, 0);
-    words(b"local not the next", &[2, 2, 1, 26, 5, 18, 5], 5, 14);
-    words(b"local beyond the count", &[2, 2, 0, 26, 4, 18, 4], 5, 14);
+    words(
+        b"suspend past the outputs",
+        b"\x02\x02\x00\x14\x04\x11\x00",
+        5,
+        14,
+    );
+    words(b"local S: emit S", b"\x02\x02\x01\x1a\x04\x12\x04", 0, 0);
+    words(
+        b"local not the next",
+        b"\x02\x02\x01\x1a\x05\x12\x05",
+        5,
+        14,
+    );
+    words(
+        b"local beyond the count",
+        b"\x02\x02\x00\x1a\x04\x12\x04",
+        5,
+        14,
+    );
     words(
         b"(local S: nothing); emit S",
-        &[0, 0, 1, 21, 0, 26, 0, 16, 0, 18, 0],
+        b"\x00\x00\x01\x15\x00\x1a\x00\x10\x00\x12\x00",
         5,
         28,
     );
     words(
         b"(local S: emit S); local T: emit T",
-        &[0, 0, 2, 21, 0, 26, 0, 18, 0, 26, 1, 18, 1],
+        b"\x00\x00\x02\x15\x00\x1a\x00\x12\x00\x1a\x01\x12\x01",
         0,
         0,
     );
     words(
         b"(local S: emit S); local T: emit S",
-        &[0, 0, 2, 21, 0, 26, 0, 18, 0, 26, 1, 18, 0],
+        b"\x00\x00\x02\x15\x00\x1a\x00\x12\x00\x1a\x01\x12\x00",
         5,
         36,
     );
 }
 
 fn exits() {
-    words(b"exit 0", &[0, 0, 0, 25, 0], 6, 14);
-    words(b"trap exit 0", &[0, 0, 0, 24, 0, 25, 0], 0, 0);
-    words(b"trap exit 1", &[0, 0, 0, 24, 0, 25, 1], 6, 18);
+    words(b"exit 0", b"\x00\x00\x00\x19\x00", 6, 14);
+    words(b"trap exit 0", b"\x00\x00\x00\x18\x00\x19\x00", 0, 0);
+    words(b"trap exit 1", b"\x00\x00\x00\x18\x00\x19\x01", 6, 18);
     words(
         b"(trap nothing); exit 0",
-        &[0, 0, 0, 21, 0, 24, 0, 16, 0, 25, 0],
+        b"\x00\x00\x00\x15\x00\x18\x00\x10\x00\x19\x00",
         6,
         26,
     );
 }
 
 fn shapes() {
-    words(b"no statement", &[0, 0, 0], 7, 14);
-    words(b"sequence of one", &[0, 0, 0, 21, 0, 16, 0], 7, 22);
+    words(b"no statement", b"\x00\x00\x00", 7, 14);
+    words(b"sequence of one", b"\x00\x00\x00\x15\x00\x10\x00", 7, 22);
     words(
         b"a statement after the tree",
-        &[0, 0, 0, 16, 0, 16, 0],
+        b"\x00\x00\x00\x10\x00\x10\x00",
         7,
         18,
     );
@@ -302,10 +338,10 @@ fn shapes() {
         7,
         18,
     );
-    words(b"fewer locals", &[0, 0, 1, 16, 0], 7, 18);
+    words(b"fewer locals", b"\x00\x00\x01\x10\x00", 7, 18);
     words(
         b"fewer locals and an endless loop",
-        &[0, 0, 1, 22, 0, 16, 0],
+        b"\x00\x00\x01\x16\x00\x10\x00",
         7,
         22,
     );
@@ -355,65 +391,19 @@ fn trees() {
     checked(b"3,087 bytes", &page, 4, 0);
 }
 
+// Locals inside each other, where so many are declared.
+fn inside(name: &[u8], declared: u16, times: u16, expected: u64, at: usize) {
+    let mut page = [0u8; 4096];
+    let start = header(&mut page, 0, 0, declared);
+    let next = nest(&mut page, start, times);
+    let len = short(&mut page, next, 16);
+    checked(name, part(&page, len), expected, at);
+}
+
 fn nested() {
-    words(
-        b"6 nested locals",
-        &[0, 0, 6, 26, 0, 26, 1, 26, 2, 26, 3, 26, 4, 26, 5, 16, 0],
-        0,
-        0,
-    );
-    words(
-        b"7 nested locals",
-        &[
-            0,
-            0,
-            7,
-            26,
-            0,
-            26,
-            1,
-            26,
-            2,
-            26,
-            3,
-            26,
-            4,
-            26,
-            5,
-            26,
-            6,
-            16,
-            0,
-        ],
-        4,
-        50,
-    );
-    words(
-        b"7 nested locals beyond the count",
-        &[
-            0,
-            0,
-            6,
-            26,
-            0,
-            26,
-            1,
-            26,
-            2,
-            26,
-            3,
-            26,
-            4,
-            26,
-            5,
-            26,
-            6,
-            16,
-            0,
-        ],
-        4,
-        50,
-    );
+    inside(b"6 nested locals", 6, 6, 0, 0);
+    inside(b"7 nested locals", 7, 7, 4, 50);
+    inside(b"7 nested locals beyond the count", 6, 7, 4, 50);
 }
 
 // A fresh state into the first len bytes lent.

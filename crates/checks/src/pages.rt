@@ -48,12 +48,16 @@ fn statement(page: &mut [u8], at: usize, kind: u16, operand: u16) -> usize {
     }
 }
 
-fn word(words: &[u16], i: usize) -> u16 {
-    if i < words.len() { words[i] } else { 0 }
+fn wide(x: u8) -> u16 {
+    x as u16
+}
+
+fn word(words: &[u8], i: usize) -> u16 {
+    if i < words.len() { wide(words[i]) } else { 0 }
 }
 
 // A block from words: inputs, outputs, locals, then kind and operand of each statement.
-pub fn block(page: &mut [u8], words: &[u16]) -> usize {
+pub fn block(page: &mut [u8], words: &[u8]) -> usize {
     let mut at = header(page, word(words, 0), word(words, 1), word(words, 2));
     let mut i: usize = 3;
     while i < words.len() {
@@ -72,6 +76,17 @@ pub fn again(page: &mut [u8], from: usize, times: usize, kind: u16, operand: u16
     let mut i: usize = 0;
     while i < times {
         at = statement(page, at, kind, operand);
+        i += 1;
+    }
+    at
+}
+
+// Locals inside each other, numbered from 0.
+pub fn nest(page: &mut [u8], from: usize, times: u16) -> usize {
+    let mut at = from;
+    let mut i: u16 = 0;
+    while i < times {
+        at = long(page, at, 26, i);
         i += 1;
     }
     at
