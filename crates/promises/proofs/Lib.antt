@@ -1,0 +1,5 @@
+pub mod Records
+pub mod Telling
+pub mod Instants
+pub mod Runs
+pub mod Promises
