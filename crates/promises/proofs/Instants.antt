@@ -1,7 +1,7 @@
 -- One instant on bytes: with a good block, a record found legal and a declared input set no test fails, so the verdict is the rules' answer;
 -- demand 3 says the rest of it, and a legal state's record is found legal again. Assumes nothing.
-use mathlib.Core.Path.{_≡_, refl, sym, ap, _∙_, subst⁻¹}
-use mathlib.Core.Bool.{Bool, false}
+use mathlib.Core.Path.{_≡_, refl, ap, _∙_, subst⁻¹}
+use mathlib.Core.Bool.{false}
 use mathlib.Core.List.{List}
 use Prim.Native.Nat.{ℕ, _+_, _≤_}
 use native.Mathlib.Omega.{arith}
@@ -14,9 +14,9 @@ use Rattle.theorems.proofs.Instants.{reacts}
 use Rattle.theorems.proofs.Traces.{instant-not-stuck}
 use Rattle.block.specs.Format.{Good, good, reading}
 use Rattle.block.proofs.GoodReadings.{sound}
-use Rattle.reaction.specs.Instants.{block-of, Verdict, reacted, try-clash, try-state, try-block, verdict, told, state-after, instant-verdict}
+use Rattle.reaction.specs.Instants.{block-of, Verdict, reacted, try-clash, try-state, try-block, verdict, told, state-after}
 use Rattle.reaction.proofs.Ways.{all-pass}
-use Rattle.promises.specs.Promised.{Holds, Inputs, set-of, rules-answer, Tells, Promised}
+use Rattle.promises.specs.Promised.{Holds, Inputs, set-of, rules-answer, PromisedAnswer, Promised}
 use Rattle.promises.proofs.Records.{inputs-pass, checked, held-is-legal, legal-is-held}
 use Rattle.promises.proofs.Telling.{tells}
 
@@ -44,10 +44,8 @@ module _ (b : List ℕ) (g : Good) (e : reading b ≡ good g) (s : List ℕ) (st
   promised = record {
     is-reaction = all-tests-pass;
     not-stuck = stuck-not;
-    holds-after =
-        subst⁻¹ (λ (v : Verdict). Holds g (state-after s v) (after st (rules-answer g st w))) all-tests-pass
-        (after-holds (rules-answer g st w) (stuck-not .legal-after));
-    tells =
-        subst⁻¹ (λ (v : Verdict). Tells (block-of g) st (bits (w .number)) s (rules-answer g st w) (told v) (state-after s v)) all-tests-pass
-        (tells (block-of g) few st (bits (w .number)) s (rules-answer g st w) (stuck-not .only-reaction));
+    answer = subst⁻¹ (λ (v : Verdict). PromisedAnswer g s st w (told v) (state-after s v)) all-tests-pass (record {
+      tells = tells (block-of g) few st (bits (w .number)) s (rules-answer g st w) (stuck-not .only-reaction);
+      holds-after = after-holds (rules-answer g st w) (stuck-not .legal-after);
+    });
   }

@@ -1,16 +1,15 @@
 -- State records and legal states: for a good block a record is found legal exactly when it holds a legal state, since the reading counts
 -- the tree's pauses; and what is written is made of bytes. Assumes nothing.
-use mathlib.Core.Path.{_≡_, refl, sym, ap, ap₂, _∙_, subst}
-use mathlib.Core.Bool.{Bool, true, false, not}
+use mathlib.Core.Path.{_≡_, refl, sym, ap, _∙_, subst}
+use mathlib.Core.Bool.{false, not}
 use mathlib.Core.List.{List, [], _∷_, _++_}
 use Prim.Native.Nat.{ℕ, zero, suc, _+_, _/_, _%_, _^_, _≤_, _<_}
 use native.Mathlib.Omega.{arith}
-use lib.Dec.{T, eqb}
-use lib.ListN.{length, getD}
+use lib.Dec.{eqb}
+use lib.ListN.{getD}
 use Rattle.sets.specs.Words.{bits, word}
 use Rattle.sets.proofs.Members.{of-true, is-false}
-use Rattle.sets.proofs.Words.{bits-ext, bits-shift, bits-zero, word-empty}
-use Rattle.rules.specs.Statements.{pauses}
+use Rattle.sets.proofs.Words.{bits-ext, bits-shift, bits-zero}
 use Rattle.rules.specs.States.{State, fresh, phase-of, active-of, Legal}
 use Rattle.theorems.specs.Checked.{Checked}
 use Rattle.block.specs.Format.{Good, good, reading}

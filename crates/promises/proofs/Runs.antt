@@ -1,19 +1,19 @@
 -- Runs on bytes, by induction over the input sets: each instant leaves a record found legal, from which the next goes on as the rules do.
 -- With room in the log for every call, a logged run is the same run. Assumes nothing.
-use mathlib.Core.Path.{_≡_, refl, sym, ap, ap₂, _∙_}
+use mathlib.Core.Path.{_≡_, refl, ap, ap₂, _∙_}
 use mathlib.Core.List.{List, [], _∷_, map}
-use Prim.Native.Nat.{ℕ, suc, _+_, _*_, _≤_}
+use Prim.Native.Nat.{ℕ, _+_, _*_, _≤_}
 use native.Mathlib.Omega.{arith}
 use lib.ListN.{length}
 use Rattle.rules.specs.Statements.{Block}
 use Rattle.rules.specs.States.{State}
 use Rattle.rules.specs.Rounds.{Answer, answered, not-constructive}
-use Rattle.theorems.specs.Traces.{after, run, arrives}
+use Rattle.theorems.specs.Traces.{run, arrives}
 use Rattle.theorems.proofs.Traces.{never-stuck}
 use Rattle.block.specs.Format.{Good, good, reading}
 use Rattle.records.proofs.Logs.{room-has, logged-length}
 use Rattle.reaction.specs.Instants.{block-of, Verdict, refused, clash, reacted, verdict, Told, told, told-reaction, state-after, log-after, instant-verdict, logged-verdict}
-use Rattle.promises.specs.Promised.{Holds, Inputs, rules-answer}
+use Rattle.promises.specs.Promised.{Holds, Inputs}
 use Rattle.promises.specs.Runs.{verdicts, bytes-left, next-end, logged-verdicts, logged-bytes-left, numbers, sets, AtEach, PromisedRun}
 use Rattle.promises.proofs.Records.{checked, held-is-legal}
 use Rattle.promises.proofs.Instants.{promised}
@@ -26,19 +26,19 @@ all-told b (a ∷ all) = ap (λ (ts : List Told). told-reaction b a ∷ ts) (all
 module _ (b : List ℕ) (g : Good) (e : reading b ≡ good g) where
   at-each : (s : List ℕ) (st : State) → Holds g s st → (ws : List (Inputs g)) → AtEach b g s st ws
   at-each s st h [] = tt
-  at-each s st h (w ∷ ws) = let p = promised b g e s st h w in (p, at-each _ _ (p .holds-after) ws)
+  at-each s st h (w ∷ ws) = let p = promised b g e s st h w in (p, at-each _ _ (p .answer .holds-after) ws)
 
   rules-run : (s : List ℕ) (st : State) → Holds g s st → (ws : List (Inputs g)) → verdicts b s (numbers ws) ≡ map (reacted (block-of g)) (run (block-of g) st (sets ws))
   unfolding verdicts run
   rules-run s st h [] = refl
   rules-run s st h (w ∷ ws) =
       let p = promised b g e s st h w in
-      ap₂ (λ (v : Verdict) (vs : List Verdict). v ∷ vs) (p .is-reaction) (rules-run _ _ (p .holds-after) ws)
+      ap₂ (λ (v : Verdict) (vs : List Verdict). v ∷ vs) (p .is-reaction) (rules-run _ _ (p .answer .holds-after) ws)
 
   ends-held : (s : List ℕ) (st : State) → Holds g s st → (ws : List (Inputs g)) → Holds g (bytes-left b s (numbers ws)) (arrives (block-of g) st (sets ws))
   unfolding bytes-left arrives
   ends-held s st h [] = h
-  ends-held s st h (w ∷ ws) = ends-held _ _ (promised b g e s st h w .holds-after) ws
+  ends-held s st h (w ∷ ws) = ends-held _ _ (promised b g e s st h w .answer .holds-after) ws
 
   pub promised-run : (s : List ℕ) (st : State) → Holds g s st → (ws : List (Inputs g)) → PromisedRun b g s st ws
   promised-run s st h ws = record {

@@ -1,11 +1,11 @@
 -- What is told of an answered instant is the only coherent reaction: every coherent one has its outputs, its code and its next state, so
 -- its numbers are those told, bit by bit. Assumes nothing.
-use mathlib.Core.Path.{_≡_, refl, sym, ap, ap₂, _∙_, subst}
+use mathlib.Core.Path.{_≡_, refl, sym, ap, _∙_}
 use mathlib.Core.Bool.{Bool, true, false, cond, _&&_}
 use mathlib.Core.List.{List, [], _∷_, map}
-use Prim.Native.Nat.{ℕ, zero, suc, _+_, _-_, _≤_, _<_}
+use Prim.Native.Nat.{ℕ, zero, suc, _+_, _-_, _≤_}
 use native.Mathlib.Omega.{arith}
-use lib.Dec.{T, ltb, leb}
+use lib.Dec.{ltb, leb}
 use lib.ListN.{length, getD, List·getD-eq-default}
 use borrow.Author.Tests.{ltb-true, ltb-false, le-ltb, le-leb, lt-leb}
 use Rattle.sets.specs.Numbers.{Numbers, empty, count}
@@ -15,11 +15,11 @@ use Rattle.rules.specs.Statements.{Block}
 use Rattle.rules.specs.Events.{Status, present, unknown, known}
 use Rattle.rules.specs.States.{State, active-of}
 use Rattle.rules.specs.Rounds.{same, outputs-with, Answer, answered, not-constructive}
-use Rattle.rules.specs.Coherence.{world, Coherent}
-use Rattle.theorems.specs.Reactions.{OnlyReaction, OnlyIfAnswered}
+use Rattle.rules.specs.Coherence.{world}
+use Rattle.theorems.specs.Reactions.{OnlyIfAnswered}
 use Rattle.records.specs.StateRecord.{state-record}
-use Rattle.reaction.specs.Instants.{reacted, told, told-reaction, state-after, state-by}
-use Rattle.promises.specs.Promised.{Says, Tells}
+use Rattle.reaction.specs.Instants.{reacted, told, state-after}
+use Rattle.promises.specs.Promised.{Tells}
 
 same-known : (x : Bool) → same (known x) present ≡ x
 same-known true = refl

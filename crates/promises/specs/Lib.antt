@@ -1,2 +1,3 @@
 pub mod Promised
 pub mod Runs
+pub mod Calls

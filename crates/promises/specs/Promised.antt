@@ -61,13 +61,18 @@ abbrev pub Tells : Block → State → Numbers → List ℕ → Answer → Told 
 Tells b st given s (answered vs c st′ n) t s′ = TellsTheOnly b st given vs c st′ t s′
 Tells b st given s (not-constructive vs n) t s′ = Keeps s t s′
 
+-- What is promised of an answer and of the state's bytes after it, where the bytes before held st:
+pub record PromisedAnswer (g : Good) (s : List ℕ) (st : State) (w : Inputs g) (t : Told) (s′ : List ℕ) : Type 0 where
+  -- the only coherent reaction is told and written, or 13 is told and every byte kept,
+  pub tells : Tells (block-of g) st (bits (w .number)) s (rules-answer g st w) t s′
+  -- and the bytes after it are found legal again: they hold the state that the rules go on from.
+  pub holds-after : Holds g s′ (after st (rules-answer g st w))
+
 -- Of an instant of the block with bytes b, on the state's bytes s that hold st, with a declared input set:
 pub record Promised (b : List ℕ) (g : Good) (s : List ℕ) (st : State) (w : Inputs g) : Type 0 where
   -- it is none of the refusals 1 to 12, but the rules' answer from that state,
   pub is-reaction : instant-verdict b s (w .number) ≡ reacted (block-of g) (rules-answer g st w)
   -- of which demand 3 holds: the states before and after are legal, and an answer is the only coherent reaction;
   pub not-stuck : NotStuck (block-of g) st (set-of w) (rules-answer g st w)
-  -- the state's bytes afterwards are found legal again, and hold the state after it;
-  pub holds-after : Holds g (state-after s (instant-verdict b s (w .number))) (after st (rules-answer g st w))
-  -- and the only coherent reaction is told and written, or 13 is told and every byte kept.
-  pub tells : Tells (block-of g) st (bits (w .number)) s (rules-answer g st w) (told (instant-verdict b s (w .number))) (state-after s (instant-verdict b s (w .number)))
+  -- and so it is told and written.
+  pub answer : PromisedAnswer g s st w (told (instant-verdict b s (w .number))) (state-after s (instant-verdict b s (w .number)))

@@ -2,12 +2,12 @@
 use mathlib.Core.Path.{_≡_}
 use mathlib.Core.List.{List, [], _∷_, map}
 use Prim.Native.Nat.{ℕ, _+_}
-use Rattle.rules.specs.States.{State, Legal}
+use Rattle.rules.specs.States.{State}
 use Rattle.rules.specs.Rounds.{Answer, answered, not-constructive}
 use Rattle.theorems.specs.Traces.{InputSet, after, run, arrives}
 use Rattle.theorems.specs.Demand.{NeverStuck}
 use Rattle.block.specs.Format.{Good}
-use Rattle.reaction.specs.Instants.{block-of, Verdict, refused, clash, reacted, Told, told, told-reaction, state-after, log-after, instant-verdict, logged-verdict}
+use Rattle.reaction.specs.Instants.{block-of, Verdict, refused, clash, reacted, told, told-reaction, state-after, log-after, instant-verdict, logged-verdict}
 use Rattle.promises.specs.Promised.{Holds, Inputs, set-of, rules-answer, Promised}
 
 -- A run as a caller makes it: one call after the other, each on the state's bytes that the call before left. Block, state, input sets.
