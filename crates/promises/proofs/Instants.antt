@@ -1,0 +1,51 @@
+-- One instant on bytes: with a good block, a record found legal and a declared input set no test fails, so the verdict is the rules' answer;
+-- demand 3 says the rest of it, and a legal state's record is found legal again. Assumes nothing.
+use mathlib.Core.Path.{_≡_, refl, ap, _∙_, subst⁻¹}
+use mathlib.Core.Bool.{false}
+use mathlib.Core.List.{List}
+use Prim.Native.Nat.{ℕ, _+_, _≤_}
+use native.Mathlib.Omega.{arith}
+use Rattle.sets.specs.Words.{bits}
+use Rattle.rules.specs.States.{State, Legal}
+use Rattle.rules.specs.Rounds.{Answer, answered, not-constructive}
+use Rattle.theorems.specs.Traces.{after}
+use Rattle.theorems.specs.Demand.{NotStuck}
+use Rattle.theorems.proofs.Instants.{reacts}
+use Rattle.theorems.proofs.Traces.{instant-not-stuck}
+use Rattle.block.specs.Format.{Good, good, reading}
+use Rattle.block.proofs.GoodReadings.{sound}
+use Rattle.reaction.specs.Instants.{block-of, Verdict, reacted, try-clash, try-state, try-block, verdict, told, state-after}
+use Rattle.reaction.proofs.Ways.{all-pass}
+use Rattle.promises.specs.Promised.{Holds, Inputs, set-of, rules-answer, PromisedAnswer, Promised}
+use Rattle.promises.proofs.Records.{inputs-pass, checked, held-is-legal, legal-is-held}
+use Rattle.promises.proofs.Telling.{tells}
+
+module _ (b : List ℕ) (g : Good) (e : reading b ≡ good g) (s : List ℕ) (st : State) (h : Holds g s st) (w : Inputs g) where
+  all-tests-pass : verdict b s (w .number) false ≡ reacted (block-of g) (rules-answer g st w)
+  unfolding verdict try-block try-state try-clash
+  all-tests-pass =
+      ap (try-block s (w .number) false) e ∙ ap (try-state g (w .number) false) (h .found) ∙ ap (try-clash g st (w .number) false) (h .no-clash)
+      ∙ all-pass g st (w .number) false (inputs-pass g w) refl
+
+  few : g .header .inputs + g .header .outputs ≤ 64
+  few = omega (arith, sound b g e .signals)
+
+  stuck-not : NotStuck (block-of g) st (set-of w) (rules-answer g st w)
+  stuck-not =
+      instant-not-stuck (block-of g) (checked b g e) st (set-of w) (rules-answer g st w) (held-is-legal b g e s st h)
+      (reacts (block-of g) st (bits (w .number)) (checked b g e))
+
+  after-holds : (a : Answer) → Legal (g .body) (after st a) → Holds g (state-after s (reacted (block-of g) a)) (after st a)
+  unfolding state-after
+  after-holds (answered vs c st′ n) l = legal-is-held b g e st′ l
+  after-holds (not-constructive vs n) l = h
+
+  pub promised : Promised b g s st w
+  promised = record {
+    is-reaction = all-tests-pass;
+    not-stuck = stuck-not;
+    answer = subst⁻¹ (λ (v : Verdict). PromisedAnswer g s st w (told v) (state-after s v)) all-tests-pass (record {
+      tells = tells (block-of g) few st (bits (w .number)) s (rules-answer g st w) (stuck-not .only-reaction);
+      holds-after = after-holds (rules-answer g st w) (stuck-not .legal-after);
+    });
+  }

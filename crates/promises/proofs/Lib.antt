@@ -1,0 +1,6 @@
+pub mod Records
+pub mod Telling
+pub mod Instants
+pub mod Runs
+pub mod Calls
+pub mod Promises

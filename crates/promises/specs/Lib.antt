@@ -1,0 +1,3 @@
+pub mod Promised
+pub mod Runs
+pub mod Calls
