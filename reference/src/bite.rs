@@ -1,28 +1,28 @@
 //! Shows for each fault a generated case that tells it from the true evaluator.
 
-use crate::cases::cases;
+use crate::calls::told;
+use crate::cases::Case;
 use crate::fault::{all_faults, Fault};
 
-/// Prints for each fault how many cases it took; false if one is never told apart.
-pub fn print_bites(count: usize, seed: u64, each: bool) -> bool {
-    let cases = cases(count, seed);
-    let truth: Vec<String> = cases.iter().map(|case| case.answer(Fault::None)).collect();
-    let (mut told, mut missed) = (0, 0);
+/// Prints for each fault how many cases it took; false if one is never told apart by what a program prints.
+pub fn print_bites(cases: &[Case], each: bool) -> bool {
+    let truth: Vec<String> = cases.iter().map(|case| told(case, Fault::None)).collect();
+    let (mut found, mut missed) = (0, 0);
     for fault in all_faults() {
-        let at = cases.iter().zip(&truth).position(|(case, truth)| case.answer(fault) != *truth);
+        let at = cases.iter().zip(&truth).position(|(case, truth)| told(case, fault) != *truth);
         match at {
             Some(n) => {
-                told += 1;
+                found += 1;
                 if each {
                     println!("{fault:?}: told by case {} ({})", n + 1, fault.says());
                 }
             }
             None => {
                 missed += 1;
-                println!("{fault:?}: not told apart by {count} cases ({})", fault.says());
+                println!("{fault:?}: not told apart by {} cases ({})", cases.len(), fault.says());
             }
         }
     }
-    println!("{told} faults told apart, {missed} not");
+    println!("{found} faults told apart by {} cases, {missed} not", cases.len());
     missed == 0
 }

@@ -1,6 +1,6 @@
 //! Calls with all that is lent to them, and lines that give the complete answer and every lent byte after.
 
-use crate::block::Block;
+use crate::block::{decode, Block};
 use crate::chance::Chance;
 use crate::edge_calls::edge_calls;
 use crate::edges::edge_blocks;
@@ -42,17 +42,27 @@ fn fields(a: &Answer) -> String {
 }
 
 impl Case {
+    pub fn name(&self) -> &'static str {
+        match self.call {
+            Call::Check => "check",
+            Call::Fresh { .. } => "fresh",
+            Call::Instant { .. } => "instant",
+            Call::Logged { .. } => "logged",
+            Call::Excerpt { .. } => "excerpt",
+        }
+    }
+
     /// What is lent.
     pub fn given(&self) -> String {
-        let block = hex(&self.block);
+        let (name, block) = (self.name(), hex(&self.block));
         match &self.call {
-            Call::Check => format!("check {block}"),
-            Call::Fresh { state } => format!("fresh {block} {}", hex(state)),
-            Call::Instant { state, inputs } => format!("instant {block} {} {inputs:x}", hex(state)),
+            Call::Check => format!("{name} {block}"),
+            Call::Fresh { state } => format!("{name} {block} {}", hex(state)),
+            Call::Instant { state, inputs } => format!("{name} {block} {} {inputs:x}", hex(state)),
             Call::Logged { state, inputs, log, end } => {
-                format!("logged {block} {} {inputs:x} {} {end:x}", hex(state), hex(log))
+                format!("{name} {block} {} {inputs:x} {} {end:x}", hex(state), hex(log))
             }
-            Call::Excerpt { index } => format!("excerpt {block} {index:x}"),
+            Call::Excerpt { index } => format!("{name} {block} {index:x}"),
         }
     }
 
@@ -61,7 +71,9 @@ impl Case {
         match &self.call {
             Call::Check => {
                 let a = check(&self.block, fault);
-                format!("{:x} {:x}", a.number, a.place)
+                let [version, inputs, outputs, locals, statements, pauses] = a.summary;
+                let counts = format!("{inputs:x} {outputs:x} {locals:x} {statements:x} {pauses:x}");
+                format!("{:x} {:x} {version:x} {counts}", a.number, a.place)
             }
             Call::Fresh { state } => {
                 let mut state = state.clone();
@@ -92,33 +104,53 @@ impl Case {
     }
 }
 
-/// All edges first, then random cases.
-pub fn cases(count: usize, seed: u64) -> Vec<Case> {
+/// So many cases: all edges first, then random ones, an equal share from each seed.
+pub fn cases(count: usize, seeds: &[u64]) -> Vec<Case> {
+    let share = count / seeds.len() + 1;
+    let random = seeds.iter().flat_map(|&seed| {
+        let mut chance = Chance::new(seed);
+        (0..share).map(move |_| some_case(&mut chance))
+    });
+    edge_cases().into_iter().chain(random).take(count).collect()
+}
+
+/// Every refusal at its boundary.
+pub fn edge_cases() -> Vec<Case> {
     let blocks = edge_blocks().into_iter().map(|edge| Case { block: edge.bytes, call: Call::Check });
-    let calls = edge_calls().into_iter().map(|edge| edge.0);
-    let mut chance = Chance::new(seed);
-    let random = (0..count).map(|_| some_case(&mut chance));
-    blocks.chain(calls).chain(random).take(count).collect()
+    blocks.chain(edge_calls().into_iter().map(|edge| edge.0)).collect()
 }
 
 /// A random call on a good, a changed or an edge block.
 pub fn some_case(chance: &mut Chance) -> Case {
-    let (mut bytes, block) = match chance.weighed(&[50, 45, 5]) {
+    let (mut bytes, block) = match chance.weighed(&[45, 38, 5, 6, 6]) {
         0 => some_mixed_block(chance, 1, 20),
         1 => {
             let wish = Wish::some(chance, 5, 60);
             some_block(chance, wish)
         }
-        _ => {
+        2 => {
             let wish = Wish { inputs: chance.below(20) as u16, outputs: 20, ..Wish::some(chance, 60, 480) };
             some_block(chance, wish)
         }
+        3 => {
+            let wish = Wish::wide(chance);
+            some_block(chance, wish)
+        }
+        _ => some_edge_block(chance),
     };
     let call = some_call(&block, chance);
-    if chance.percent(12) {
+    if !bytes.is_empty() && chance.percent(12) {
         spoil(&mut bytes, chance);
     }
     Case { block: bytes, call }
+}
+
+/// A block at a boundary; where it is refused, a small block stands in for what else is lent.
+fn some_edge_block(chance: &mut Chance) -> (Vec<u8>, Block) {
+    let mut edges = edge_blocks();
+    let bytes = edges.swap_remove(chance.below(edges.len())).bytes;
+    let block = decode(&bytes, Fault::None).unwrap_or_else(|_| some_mixed_block(chance, 1, 20).1);
+    (bytes, block)
 }
 
 fn some_call(block: &Block, chance: &mut Chance) -> Call {
@@ -198,6 +230,7 @@ fn spoil(bytes: &mut Vec<u8>, chance: &mut Chance) {
 }
 
 /// Prints the lines of the cases.
-pub fn print_cases(count: usize, seed: u64) {
-    cases(count, seed).iter().for_each(|case| println!("{}", case.line()));
+pub fn print_cases(cases: &[Case]) -> bool {
+    cases.iter().for_each(|case| println!("{}", case.line()));
+    true
 }

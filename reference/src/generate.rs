@@ -17,6 +17,8 @@ pub struct Wish {
     pub outputs: u16,
     /// Weights of present, suspend, sequence, loop, parallel, trap, local.
     pub weights: [usize; 7],
+    /// The weight of a pause among the leaves.
+    pub pauses: usize,
 }
 
 const WHOLES: [Form; 7] =
@@ -39,6 +41,18 @@ impl Wish {
             inputs: chance.pick(&[0, 0, 1, 1, 2]),
             outputs: chance.pick(&[0, 1, 1, 1, 2, 2, 3]),
             weights: chance.pick(&STYLES),
+            pauses: 3,
+        }
+    }
+
+    /// Many signals, and many pauses that stand beside each other.
+    pub fn wide(chance: &mut Chance) -> Wish {
+        Wish {
+            size: 200 + chance.below(200),
+            inputs: chance.below(30) as u16,
+            outputs: 1 + chance.below(30) as u16,
+            weights: [2, 1, 3, 1, 7, 1, 1],
+            pauses: 9,
         }
     }
 }
@@ -148,7 +162,7 @@ impl<'a> Maker<'a> {
         let emitted = self.signal(around, self.wish.inputs);
         let weights = [
             1,
-            if self.pauses < 128 { 3 } else { 0 },
+            if self.pauses < 128 { self.wish.pauses } else { 0 },
             if emitted.is_some() { 5 } else { 0 },
             if around.traps > 0 { 2 } else { 0 },
         ];

@@ -4,17 +4,21 @@ mod all;
 mod antt;
 mod bite;
 mod block;
+mod calls;
 mod cases;
 mod chance;
 mod codes;
 mod coherence;
+mod counts;
 mod edge_calls;
 mod edge_limits;
 mod edges;
 mod fault;
+mod few;
 mod generate;
 mod known;
 mod loops;
+mod met;
 mod mutate;
 mod proof;
 mod reaction;
@@ -35,16 +39,25 @@ mod worked;
 use std::env;
 use std::process;
 
+use cases::Case;
+
 const USAGE: &str = "subcommands:
   worked            every worked case of the document
   coherence [SIZE]  the coherence law over all blocks up to SIZE statements (5)
-  bite [N SEED]     a generated case for each fault
+  bite [CASES]      a case for each fault
   run FOLDER        the run program
-  cases N SEED      lines of calls with their complete answers
+  cases [CASES]     lines of calls with their complete answers
+  calls [CASES]     the calls as bytes, for a program that answers them
+  answers [CASES]   the lines which that program is to print
+  counts [CASES]    how many cases of each sort
+  few [CASES]       the calls of a few of these, as bytes: all edges, each sort, each fault
+  show K [CASES]    the case K of these, with its block as a statement
+  pick K [CASES]    the call of case K alone, as bytes
   antt N SEED       rows of small blocks with their answers
   proof N SEED      the same as a module of the proof language
   antt-bite SEED    the smallest row for each wrong rule
-  selftest          worked, edges, coherence and bite together";
+  selftest          all of these that can fail
+CASES are N SEED.. (20000 1 2 3 4) or a file of calls";
 
 fn main() {
     let words: Vec<String> = env::args().skip(1).collect();
@@ -52,13 +65,8 @@ fn main() {
     let good = match words.first().map(|word| word.as_str()) {
         Some("worked") => worked::print_worked(),
         Some("coherence") => sweep::sweep(number(1, 5) as usize).print(),
-        Some("bite") => bite::print_bites(number(1, 20_000) as usize, number(2, 1), true),
         Some("run") if words.len() == 2 => {
             print!("{}", run::run_folder(&words[1]));
-            true
-        }
-        Some("cases") => {
-            cases::print_cases(number(1, 1000) as usize, number(2, 1));
             true
         }
         Some("antt") => {
@@ -71,12 +79,44 @@ fn main() {
         }
         Some("antt-bite") => antt::print_smallest(number(1, 1)),
         Some("selftest") => selftest::selftest(),
-        _ => usage(),
+        Some("show") => calls::show(&one(&named(&words, 2), number(1, 0))),
+        Some("pick") => calls::write(&[one(&named(&words, 2), number(1, 0))]),
+        Some(word) => on_cases(word, &named(&words, 1)),
+        None => usage(),
     };
     process::exit(if good { 0 } else { 1 });
 }
 
+/// The subcommands on all of some cases.
+fn on_cases(word: &str, cases: &[Case]) -> bool {
+    match word {
+        "bite" => bite::print_bites(cases, true),
+        "cases" => cases::print_cases(cases),
+        "calls" => calls::write(cases),
+        "answers" => calls::print_answers(cases),
+        "counts" => counts::print_counts(cases),
+        "few" => calls::write(&few::few(cases)),
+        _ => usage(),
+    }
+}
+
+/// The cases that the words from this one on name.
+fn named(words: &[String], from: usize) -> Vec<Case> {
+    let words = words.get(from..).unwrap_or_else(|| usage());
+    calls::named(words).unwrap_or_else(|why| stop(&why))
+}
+
+/// The case with this number, counted from 1.
+fn one(cases: &[Case], number: u64) -> Case {
+    let at = (number as usize).checked_sub(1);
+    at.and_then(|at| cases.get(at)).cloned().unwrap_or_else(|| stop("there is no case with that number"))
+}
+
 fn usage() -> ! {
-    eprintln!("{USAGE}");
+    stop(USAGE)
+}
+
+fn stop(why: &str) -> ! {
+    eprintln!("{why}");
     process::exit(2)
 }

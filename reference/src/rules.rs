@@ -3,6 +3,7 @@
 use crate::block::{Form, Statement};
 use crate::codes::{down, exit_code, maxima, members, pairwise, Depth};
 use crate::fault::Fault;
+use crate::met::{note, Met};
 use crate::values::{signal_bit, Can, Event, Mark, Must, Part, Run, Status};
 
 /// The rules, true ones where no fault is planted.
@@ -43,6 +44,7 @@ impl Rules {
 
     /// What can be emitted and which codes can be given under this event and mark.
     pub fn can(&self, (p, run): Part, mark: Mark, e: Event) -> Can {
+        note(if mark == Mark::Plus { Met::Plus } else { Met::Open });
         match p.form {
             Form::Nothing => Can::code(0),
             Form::Pause => Can::code(self.pause_code(run)),
@@ -119,6 +121,7 @@ impl Rules {
         if let Some(branch) = self.branch(p, run, e) {
             return self.can(branch, mark, e);
         }
+        note(Met::UnknownPresent);
         let mark = if self.planted(Fault::UnknownPresentKeepsMark) { mark } else { Mark::Open };
         let (then, other) = (&p.parts[0], &p.parts[1]);
         let then = self.can((then, run_of(then, run)), mark, e);
@@ -146,7 +149,10 @@ impl Rules {
         let body = (&p.parts[0], run);
         match self.suspend_status(p, run, e) {
             Status::Present if self.planted(Fault::SuspendedEmits) => Must { code: Some(1), ..self.must(body, e) },
-            Status::Present => Must::code(1),
+            Status::Present => {
+                note(Met::Held);
+                Must::code(1)
+            }
             Status::Absent => self.must(body, e),
             Status::Unknown if self.planted(Fault::UnknownSuspendRuns) => self.must(body, e),
             Status::Unknown => Must::nothing_known(),
@@ -162,6 +168,7 @@ impl Rules {
             Status::Absent => self.can(body, mark, e),
             Status::Unknown if self.planted(Fault::UnknownSuspendWithoutOne) => self.can(body, Mark::Open, e),
             Status::Unknown => {
+                note(Met::UnknownSuspend);
                 let mark = if self.planted(Fault::UnknownSuspendKeepsMark) { mark } else { Mark::Open };
                 self.can(body, mark, e).union(Can::code(1))
             }
@@ -190,6 +197,12 @@ impl Rules {
         let one = self.must(first, e);
         match second {
             Some(second) if one.code == Some(0) || self.planted(Fault::SecondMustAlways) => {
+                if p.form == Form::Loop {
+                    note(Met::Restart);
+                    if declared(p) != 0 {
+                        note(Met::ScopeRestart);
+                    }
+                }
                 let other = self.must(second, self.event_of_second(p, one, e));
                 let code = if one.code == Some(0) { other.code } else { one.code };
                 Must { signals: one.signals | other.signals, code }

@@ -2,6 +2,7 @@
 
 use crate::block::Statement;
 use crate::fault::Fault;
+use crate::met::{note, Met};
 use crate::rules::Rules;
 use crate::values::{Can, Event, Mark, Run, Status};
 
@@ -15,6 +16,7 @@ impl Rules {
         }
         // If s is in the body's must, with s present.
         if self.must(body, e).has(s) && !self.planted(Fault::LocalNeverPresent) {
+            note(Met::LocalPresent);
             return e.with_present(s);
         }
         if self.planted(Fault::LocalAbsentUnasked) {
@@ -23,14 +25,17 @@ impl Rules {
         // If s is not in the body's can under plus, with s absent.
         let mark = if self.planted(Fault::MustAsksCanUnderOpen) { Mark::Open } else { Mark::Plus };
         if !self.can(body, mark, e).has(s) && !self.planted(Fault::LocalNeverAbsent) {
+            note(Met::LocalAbsent);
             return e.with_absent(s);
         }
         // Else with s unknown.
+        note(Met::LocalUnknown);
         if self.planted(Fault::LocalTriedBothWays) { self.tried_both_ways(p, run, e) } else { e }
     }
 
     /// Can for a local, with the order and the marks of the three cases.
     pub fn can_local(&self, p: &Statement, run: Run, mark: Mark, e: Event) -> Can {
+        note(if mark == Mark::Plus { Met::LocalUnderPlus } else { Met::LocalUnderOpen });
         let (s, body) = (p.operand, (&p.parts[0], run));
         let (mark, event) = if e.status(s) == Status::Present {
             (mark, e)

@@ -2,7 +2,10 @@
 
 use crate::bite::print_bites;
 use crate::block::{decode, encode};
+use crate::calls::{bytes, read, COUNT, SEEDS};
+use crate::cases::{cases, Case};
 use crate::chance::Chance;
+use crate::counts::print_counts;
 use crate::edge_calls::edge_calls;
 use crate::edges::edge_blocks;
 use crate::fault::Fault;
@@ -17,8 +20,21 @@ pub fn selftest() -> bool {
     let edges = print_edges();
     let coherent = sweep(5).print();
     let random = random_coherence(20_000, 1).print();
-    let bites = print_bites(20_000, 1, false);
-    worked && edges && coherent && random && bites
+    let cases = cases(COUNT, &SEEDS);
+    let kept = print_kept(&cases);
+    let sorts = print_counts(&cases);
+    let bites = print_bites(&cases, false);
+    worked && edges && coherent && random && kept && sorts && bites
+}
+
+/// Whether cases written as bytes are read back as they were.
+fn print_kept(cases: &[Case]) -> bool {
+    let all: Vec<u8> = cases.iter().flat_map(bytes).collect();
+    let back = read(&all).unwrap_or_default();
+    let same = back.len() == cases.len() && back.iter().zip(cases).all(|(one, other)| one.line() == other.line());
+    let how = if same { "as they were" } else { "otherwise" };
+    println!("{} cases as {} bytes, read back {how}", cases.len(), all.len());
+    same
 }
 
 /// Compares every edge with the number and place worked out by hand.

@@ -1,6 +1,8 @@
 //! The state record, the log record and the calls with all they give back; a refused call changes no byte.
 
-use crate::block::{decode, Block, Form, Refusal, Statement};
+use std::mem::swap;
+
+use crate::block::{decode, Block, Form, Header, Refusal, Statement};
 use crate::fault::Fault;
 use crate::reaction::{active_of, Phase, Reaction};
 use crate::rules::Rules;
@@ -30,6 +32,8 @@ pub struct Answer {
     pub rounds: u32,
     pub active: u32,
     pub end: u64,
+    /// Of a good block: version, inputs, outputs, locals, statements, pauses.
+    pub summary: [usize; 6],
 }
 
 impl Answer {
@@ -57,7 +61,19 @@ pub fn state_record(phase: Phase) -> Vec<u8> {
 
 /// Tests a block.
 pub fn check(block: &[u8], fault: Fault) -> Answer {
-    decode(block, fault).map_or_else(Answer::of_block, |_| Answer::default())
+    let good = |read: Block| Answer { summary: summary(&read, fault), ..Answer::default() };
+    decode(block, fault).map_or_else(Answer::of_block, good)
+}
+
+/// Version, inputs, outputs, locals, statements, pauses.
+fn summary(block: &Block, fault: Fault) -> [usize; 6] {
+    let Header { version, inputs, outputs, locals } = block.header;
+    let version = if fault == Fault::VersionNotGiven { 1 } else { version };
+    let (mut statements, mut pauses) = (block.statements, block.pauses);
+    if fault == Fault::CountsTurnedRound {
+        swap(&mut statements, &mut pauses);
+    }
+    [version as usize, inputs as usize, outputs as usize, locals as usize, statements, pauses]
 }
 
 /// Writes a fresh state; after 1 to 8, a size other than 22 gets 9.
@@ -151,6 +167,9 @@ fn settle(state: &mut [u8], reaction: Reaction, fault: Fault) -> Answer {
         return Answer { number: NOT_CONSTRUCTIVE, absent: reaction.absent, undecided, ..answer };
     }
     state[..STATE_SIZE].copy_from_slice(&state_record(reaction.next));
+    if fault == Fault::UpperWordUnwritten {
+        state[STATE_SIZE - 8..STATE_SIZE].fill(0);
+    }
     let active = active_of(reaction.next).count_ones();
     Answer {
         code: reaction.code.unwrap_or(0),
@@ -223,6 +242,11 @@ fn bits(state: &[u8]) -> u128 {
     u128::from_le_bytes(sixteen)
 }
 
+/// The active set as an instant takes it up.
+fn taken_up(active: u128, fault: Fault) -> u128 {
+    if fault == Fault::UpperWordUnread && active as u64 != 0 { active & u64::MAX as u128 } else { active }
+}
+
 /// STATE: anything but 22 bytes of a good phase with the bits it may have.
 fn read_state(state: &[u8], block: &Block, fault: Fault) -> Option<Phase> {
     let size_good = state.len() == STATE_SIZE || fault == Fault::StateOfAnySize && state.len() > STATE_SIZE;
@@ -239,7 +263,7 @@ fn read_state(state: &[u8], block: &Block, fault: Fault) -> Option<Phase> {
     }
     match word(state, 4) {
         0 if active == 0 || fault == Fault::BitsWhileFresh => Some(Phase::Fresh),
-        1 if active != 0 => Some(Phase::Running(active)),
+        1 if active != 0 => Some(Phase::Running(taken_up(active, fault))),
         1 if fault == Fault::RunningWithoutPauses => Some(Phase::Finished),
         2 if active == 0 || fault == Fault::BitsWhileFinished => Some(Phase::Finished),
         3 if fault == Fault::PhaseThreeAllowed => Some(Phase::Finished),

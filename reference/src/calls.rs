@@ -1,0 +1,115 @@
+//! Cases as bytes, for a program that answers them, and the lines that it is held to.
+
+use std::convert::TryInto;
+use std::fs;
+use std::io::{self, Write};
+
+use crate::block::decode;
+use crate::cases::{cases, Call, Case};
+use crate::fault::Fault;
+use crate::text::write_statement;
+
+/// Without other words: so many cases in all, from these seeds. The gate compares these, and shows the faults by these.
+pub const COUNT: usize = 20_000;
+pub const SEEDS: [u64; 4] = [1, 2, 3, 4];
+
+const HEAD: usize = 24;
+
+/// The cases that words name: the gate's, `N SEED..`, or a file of calls.
+pub fn named(words: &[String]) -> Result<Vec<Case>, String> {
+    let numbers: Result<Vec<u64>, _> = words.iter().map(|word| word.parse::<u64>()).collect();
+    match (words, numbers) {
+        ([], _) => Ok(cases(COUNT, &SEEDS)),
+        (_, Ok(numbers)) if numbers.len() == 1 => Ok(cases(numbers[0] as usize, &SEEDS)),
+        (_, Ok(numbers)) => Ok(cases(numbers[0] as usize, &numbers[1..])),
+        ([file], _) => read(&fs::read(file).map_err(|error| format!("{file}: {error}"))?),
+        _ => Err("cases are named by a count and seeds, or by one file of calls".to_string()),
+    }
+}
+
+/// A case as bytes: its head, the block, the state, the log.
+pub fn bytes(case: &Case) -> Vec<u8> {
+    let empty: &[u8] = &[];
+    let (kind, state, log, inputs, other) = match &case.call {
+        Call::Check => (1, empty, empty, 0, 0),
+        Call::Fresh { state } => (2, &state[..], empty, 0, 0),
+        Call::Instant { state, inputs } => (3, &state[..], empty, *inputs, 0),
+        Call::Logged { state, inputs, log, end } => (4, &state[..], &log[..], *inputs, *end),
+        Call::Excerpt { index } => (5, empty, empty, 0, *index),
+    };
+    let mut all = vec![kind, state.len() as u8];
+    all.extend((log.len() as u16).to_le_bytes());
+    all.extend((case.block.len() as u32).to_le_bytes());
+    all.extend(u64::to_le_bytes(inputs));
+    all.extend(u64::to_le_bytes(other));
+    [&all[..], &case.block[..], state, log].concat()
+}
+
+/// Reads cases back.
+pub fn read(bytes: &[u8]) -> Result<Vec<Case>, String> {
+    let mut cases = Vec::new();
+    let mut rest = bytes;
+    while !rest.is_empty() {
+        let (case, after) = first(rest).ok_or_else(|| format!("the calls end within case {}", cases.len() + 1))?;
+        cases.push(case);
+        rest = after;
+    }
+    Ok(cases)
+}
+
+/// The first case and what comes after it.
+fn first(bytes: &[u8]) -> Option<(Case, &[u8])> {
+    let head = bytes.get(..HEAD)?;
+    let number = |at: usize| u64::from_le_bytes(head[at..at + 8].try_into().expect("eight bytes"));
+    let (inputs, other) = (number(8), number(16));
+    let log_size = u16::from_le_bytes([head[2], head[3]]) as usize;
+    let block_size = u32::from_le_bytes([head[4], head[5], head[6], head[7]]) as usize;
+    let state_at = HEAD + block_size;
+    let log_at = state_at + head[1] as usize;
+    let end = log_at + log_size;
+    let block = bytes.get(HEAD..state_at)?.to_vec();
+    let state = bytes.get(state_at..log_at)?.to_vec();
+    let log = bytes.get(log_at..end)?.to_vec();
+    let call = match head[0] {
+        1 => Call::Check,
+        2 => Call::Fresh { state },
+        3 => Call::Instant { state, inputs },
+        4 => Call::Logged { state, inputs, log, end: other },
+        5 => Call::Excerpt { index: other },
+        _ => return None,
+    };
+    Some((Case { block, call }, &bytes[end..]))
+}
+
+/// The line that a program is to print for a case: its answer, but for an excerpt's offset, which the part does not show.
+pub fn told(case: &Case, fault: Fault) -> String {
+    let answer = case.answer(fault);
+    let words: Vec<&str> = answer.split(' ').collect();
+    match case.call {
+        Call::Excerpt { .. } => format!("{} {} {} {}", case.name(), words[0], words[1], words[3]),
+        _ => format!("{} {answer}", case.name()),
+    }
+}
+
+/// Prints all of a case: what is lent, what comes back, and a good block as a statement.
+pub fn show(case: &Case) -> bool {
+    println!("{}", case.line());
+    if let Ok(block) = decode(&case.block, Fault::None) {
+        let header = block.header;
+        let signals = format!("{} inputs, {} outputs, {} locals", header.inputs, header.outputs, header.locals);
+        println!("{signals}: {}", write_statement(&block.root.tokens()));
+    }
+    true
+}
+
+/// Writes the cases as bytes to standard output.
+pub fn write(cases: &[Case]) -> bool {
+    let all: Vec<u8> = cases.iter().flat_map(bytes).collect();
+    io::stdout().write_all(&all).is_ok()
+}
+
+/// Prints what a program is to print for the cases.
+pub fn print_answers(cases: &[Case]) -> bool {
+    let lines: String = cases.iter().map(|case| told(case, Fault::None) + "\n").collect();
+    io::stdout().write_all(lines.as_bytes()).is_ok()
+}

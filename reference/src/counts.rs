@@ -1,0 +1,155 @@
+//! How many cases there are of each sort, so that nobody has to believe that chance met them all.
+
+use std::collections::HashMap;
+
+use crate::block::{decode, Block, Form, Statement};
+use crate::calls::told;
+use crate::cases::{Call, Case};
+use crate::fault::Fault;
+use crate::met::{holds, taken, Met};
+
+/// A case with what it came to.
+struct Seen<'a> {
+    case: &'a Case,
+    block: Option<Block>,
+    /// The numbers of its line; those of lent bytes are left out.
+    words: Vec<u64>,
+    met: u32,
+}
+
+/// The place of the rounds in the line of an instant.
+const ROUNDS: usize = 8;
+
+type Sort = (&'static str, fn(&Seen) -> bool);
+
+const SORTS: [Sort; 24] = [
+    ("fresh states", |seen| seen.phase() == Some(0)),
+    ("running states", |seen| seen.phase() == Some(1)),
+    ("finished states", |seen| seen.phase() == Some(2)),
+    ("two or more active pauses", |seen| seen.active().count_ones() > 1),
+    ("active pauses from 64 on", |seen| seen.active() >> 64 != 0),
+    ("inputs or outputs from 32 on", |seen| seen.has(|block| block.header.inputs + block.header.outputs > 32)),
+    ("100 statements or more", |seen| seen.has(|block| block.statements >= 100)),
+    ("6 nested locals", |seen| seen.has(|block| nested(&block.root, Form::Local) == 6)),
+    ("4 nested traps or more", |seen| seen.has(|block| nested(&block.root, Form::Trap) >= 4)),
+    ("exits over 2 traps or more", |seen| seen.has(|block| exits_far(&block.root))),
+    ("3 rounds or more", |seen| seen.ran() && seen.words[ROUNDS] >= 3),
+    ("can under plus", |seen| seen.met(Met::Plus)),
+    ("can under open", |seen| seen.met(Met::Open)),
+    ("a local's can under plus", |seen| seen.met(Met::LocalUnderPlus)),
+    ("a local's can under open", |seen| seen.met(Met::LocalUnderOpen)),
+    ("locals found present", |seen| seen.met(Met::LocalPresent)),
+    ("locals found absent", |seen| seen.met(Met::LocalAbsent)),
+    ("locals left unknown", |seen| seen.met(Met::LocalUnknown)),
+    ("present of an unknown signal", |seen| seen.met(Met::UnknownPresent)),
+    ("suspend of an unknown signal", |seen| seen.met(Met::UnknownSuspend)),
+    ("bodies held by suspend", |seen| seen.met(Met::Held)),
+    ("loops restarted", |seen| seen.met(Met::Restart)),
+    ("loops restarted around a local", |seen| seen.met(Met::ScopeRestart)),
+    ("logs not at their front", |seen| seen.ran() && matches!(seen.case.call, Call::Logged { end, .. } if end > 0)),
+];
+
+impl<'a> Seen<'a> {
+    fn new(case: &'a Case) -> Seen<'a> {
+        taken();
+        let line = told(case, Fault::None);
+        let met = taken();
+        let words = line.split(' ').skip(1).filter_map(|word| u64::from_str_radix(word, 16).ok()).collect();
+        Seen { case, block: decode(&case.block, Fault::None).ok(), words, met }
+    }
+
+    fn number(&self) -> usize {
+        self.words[0] as usize
+    }
+
+    /// Whether an instant was evaluated: answered, or 13.
+    fn ran(&self) -> bool {
+        matches!(self.case.call, Call::Instant { .. } | Call::Logged { .. }) && matches!(self.number(), 0 | 13)
+    }
+
+    fn has(&self, what: fn(&Block) -> bool) -> bool {
+        self.ran() && self.block.as_ref().map_or(false, what)
+    }
+
+    fn met(&self, met: Met) -> bool {
+        self.ran() && holds(self.met, met)
+    }
+
+    fn state(&self) -> &[u8] {
+        match &self.case.call {
+            Call::Instant { state, .. } | Call::Logged { state, .. } if self.ran() => state,
+            _ => &[],
+        }
+    }
+
+    fn phase(&self) -> Option<u8> {
+        self.state().get(4).copied()
+    }
+
+    fn active(&self) -> u128 {
+        self.state().iter().skip(6).rev().fold(0, |all, &byte| all << 8 | byte as u128)
+    }
+}
+
+/// How many of a form stand inside each other at most.
+fn nested(p: &Statement, form: Form) -> usize {
+    let below = p.parts.iter().map(|part| nested(part, form)).max().unwrap_or(0);
+    below + (p.form == form) as usize
+}
+
+fn exits_far(p: &Statement) -> bool {
+    p.form == Form::Exit && p.operand >= 2 || p.parts.iter().any(exits_far)
+}
+
+const CALLS: [&str; 5] = ["check", "fresh", "instant", "logged", "excerpt"];
+
+/// Whether a call can give this number at all.
+fn possible(call: &str, number: usize) -> bool {
+    match call {
+        "check" => number <= 8,
+        "fresh" => number <= 9,
+        "instant" => number <= 13 && number != 12,
+        "logged" => number <= 13,
+        _ => number <= 8 || number == 14,
+    }
+}
+
+fn numbered(call: &str, number: usize) -> String {
+    format!("{call} {number}")
+}
+
+/// The sorts that a case is of: its call with the number given, and all else that it met.
+pub fn sorts(case: &Case) -> Vec<String> {
+    let seen = Seen::new(case);
+    let mut sorts = vec![numbered(case.name(), seen.number())];
+    sorts.extend(SORTS.iter().filter(|sort| (sort.1)(&seen)).map(|sort| sort.0.to_string()));
+    sorts
+}
+
+/// Every sort there is.
+pub fn all_sorts() -> Vec<String> {
+    let mut all: Vec<String> = SORTS.iter().map(|sort| sort.0.to_string()).collect();
+    for call in CALLS.iter() {
+        all.extend((0..=14).filter(|&number| possible(call, number)).map(|number| numbered(call, number)));
+    }
+    all
+}
+
+/// Prints how many cases there are of each sort; false if one has none.
+pub fn print_counts(cases: &[Case]) -> bool {
+    let mut counts: HashMap<String, usize> = HashMap::new();
+    cases.iter().flat_map(sorts).for_each(|sort| *counts.entry(sort).or_insert(0) += 1);
+    let count = |sort: &str| counts.get(sort).copied().unwrap_or(0);
+    println!("{:>8}{}", "number", CALLS.iter().map(|call| format!("{call:>9}")).collect::<String>());
+    for number in 0..=14 {
+        let cell = |call: &&str| match possible(call, number) {
+            true => format!("{:9}", count(&numbered(call, number))),
+            false => format!("{:>9}", "."),
+        };
+        println!("{number:8}{}", CALLS.iter().map(cell).collect::<String>());
+    }
+    SORTS.iter().for_each(|sort| println!("{:8}  {}", count(sort.0), sort.0));
+    let missing = all_sorts().iter().filter(|sort| count(sort) == 0).count();
+    println!("{} cases, {missing} sorts without a case", cases.len());
+    missing == 0
+}

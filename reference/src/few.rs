@@ -1,0 +1,31 @@
+//! A few cases out of many that still have every sort and tell every fault, to be committed.
+
+use crate::calls::{bytes, told};
+use crate::cases::{edge_cases, Case};
+use crate::counts::{all_sorts, sorts};
+use crate::fault::{all_faults, Fault};
+
+/// As they come after the edges; the smallest of each sort.
+const PLAIN: usize = 200;
+const EACH: usize = 3;
+
+/// All edges, some as they come, the smallest of each sort, and for each fault the smallest that tells it.
+pub fn few(cases: &[Case]) -> Vec<Case> {
+    let plain = edge_cases().len() + PLAIN;
+    let mut chosen: Vec<bool> = (0..cases.len()).map(|n| n < plain).collect();
+    let mut order: Vec<usize> = (0..cases.len()).collect();
+    order.sort_by_key(|&n| bytes(&cases[n]).len());
+    let kinds: Vec<Vec<String>> = cases.iter().map(sorts).collect();
+    for sort in all_sorts() {
+        let smallest = order.iter().filter(|&&n| kinds[n].contains(&sort));
+        smallest.take(EACH).for_each(|&n| chosen[n] = true);
+    }
+    let truth: Vec<String> = cases.iter().map(|case| told(case, Fault::None)).collect();
+    for fault in all_faults() {
+        let tells = |n: usize| told(&cases[n], fault) != truth[n];
+        if !(0..cases.len()).any(|n| chosen[n] && tells(n)) {
+            order.iter().find(|&&n| tells(n)).into_iter().for_each(|&n| chosen[n] = true);
+        }
+    }
+    cases.iter().zip(chosen).filter(|pair| pair.1).map(|pair| pair.0.clone()).collect()
+}
