@@ -1,4 +1,5 @@
 // Blocks written for the cases: a page of bytes, filled from its front.
+use crate::lines::word;
 
 // One byte more, while there is room.
 fn put(page: &mut [u8], at: usize, byte: u8) -> usize {
@@ -10,26 +11,26 @@ fn put(page: &mut [u8], at: usize, byte: u8) -> usize {
 }
 
 // Two bytes, little-endian.
-pub fn two(page: &mut [u8], at: usize, x: u16) -> usize {
+fn two(page: &mut [u8], at: usize, x: u16) -> usize {
     let next = put(page, at, (x % 256) as u8);
     put(page, next, (x / 256 % 256) as u8)
 }
 
 // A record without an operand.
-pub fn short(page: &mut [u8], at: usize, kind: u16) -> usize {
+fn short(page: &mut [u8], at: usize, kind: u16) -> usize {
     let next = two(page, at, 4);
     two(page, next, kind)
 }
 
 // A record with one.
-pub fn long(page: &mut [u8], at: usize, kind: u16, operand: u16) -> usize {
+fn long(page: &mut [u8], at: usize, kind: u16, operand: u16) -> usize {
     let next = two(page, at, 6);
     let last = two(page, next, kind);
     two(page, last, operand)
 }
 
 // A header of edition 1 and version 7.
-pub fn header(page: &mut [u8], inputs: u16, outputs: u16, locals: u16) -> usize {
+fn header(page: &mut [u8], inputs: u16, outputs: u16, locals: u16) -> usize {
     let a = two(page, 0, 14);
     let b = two(page, a, 1);
     let c = two(page, b, 1);
@@ -48,21 +49,13 @@ fn statement(page: &mut [u8], at: usize, kind: u16, operand: u16) -> usize {
     }
 }
 
-fn wide(x: u8) -> u16 {
-    x as u16
-}
-
-fn word(words: &[u8], i: usize) -> u16 {
-    if i < words.len() { wide(words[i]) } else { 0 }
-}
-
-// A block from words: inputs, outputs, locals, then kind and operand of each statement.
-pub fn block(page: &mut [u8], words: &[u8]) -> usize {
-    let mut at = header(page, word(words, 0), word(words, 1), word(words, 2));
-    let mut i: usize = 3;
-    while i < words.len() {
-        at = statement(page, at, word(words, i), word(words, i + 1));
-        if words.len() - i < 2 {
+// Records from pairs of kind and operand.
+fn records(page: &mut [u8], given: &[u16], count: usize) -> usize {
+    let mut at = header(page, word(given, 3), word(given, 4), word(given, 5));
+    let mut i: usize = 6;
+    while i < count {
+        at = statement(page, at, word(given, i), word(given, i + 1));
+        if count - i < 2 {
             return at;
         }
         i += 2;
@@ -70,8 +63,19 @@ pub fn block(page: &mut [u8], words: &[u8]) -> usize {
     at
 }
 
+// Bytes as they are given.
+fn bytes(page: &mut [u8], given: &[u16], count: usize) -> usize {
+    let mut at: usize = 0;
+    let mut i: usize = 3;
+    while i < count {
+        at = put(page, at, (word(given, i) % 256) as u8);
+        i += 1;
+    }
+    at
+}
+
 // The same record some times over.
-pub fn again(page: &mut [u8], from: usize, times: usize, kind: u16, operand: u16) -> usize {
+fn again(page: &mut [u8], from: usize, times: usize, kind: u16, operand: u16) -> usize {
     let mut at = from;
     let mut i: usize = 0;
     while i < times {
@@ -82,7 +86,7 @@ pub fn again(page: &mut [u8], from: usize, times: usize, kind: u16, operand: u16
 }
 
 // Locals inside each other, numbered from 0.
-pub fn nest(page: &mut [u8], from: usize, times: u16) -> usize {
+fn nest(page: &mut [u8], from: usize, times: u16) -> usize {
     let mut at = from;
     let mut i: u16 = 0;
     while i < times {
@@ -93,7 +97,7 @@ pub fn nest(page: &mut [u8], from: usize, times: u16) -> usize {
 }
 
 // A tree of n statements: two children (kind, operand) where n is odd, one (single, 0) where two are left, and leaves.
-pub fn tree(page: &mut [u8], at: usize, n: usize, kind: u16, single: u16, leaf: u16) -> usize {
+fn tree(page: &mut [u8], at: usize, n: usize, kind: u16, single: u16, leaf: u16) -> usize {
     if n < 2 {
         return statement(page, at, leaf, 0);
     }
@@ -107,11 +111,52 @@ pub fn tree(page: &mut [u8], at: usize, n: usize, kind: u16, single: u16, leaf: 
     tree(page, last, n - 1 - half, kind, single, leaf)
 }
 
-// The written part of a page.
-pub fn part(page: &[u8], len: usize) -> &[u8] {
-    if len <= page.len() {
-        &page[..len]
-    } else {
-        &page[..0]
+// A statement of one kind some times over a leaf, one on a path.
+fn path(page: &mut [u8], times: usize, kind: u16, leaf: u16) -> usize {
+    let start = header(page, 1, 0, 0);
+    let next = again(page, start, times, kind, 0);
+    short(page, next, leaf)
+}
+
+// A pause before a tree.
+fn pause_first(page: &mut [u8], n: usize, kind: u16, single: u16, leaf: u16) -> usize {
+    let start = header(page, 0, 0, 0);
+    let first = short(page, start, 21);
+    let next = short(page, first, 17);
+    tree(page, next, n, kind, single, leaf)
+}
+
+// Locals inside each other, where so many are declared.
+fn inside(page: &mut [u8], declared: u16, times: u16) -> usize {
+    let start = header(page, 0, 0, declared);
+    let next = nest(page, start, times);
+    short(page, next, 16)
+}
+
+fn large(page: &mut [u8], n: usize, kind: u16, single: u16, leaf: u16) -> usize {
+    let start = header(page, 0, 1, 0);
+    tree(page, start, n, kind, single, leaf)
+}
+
+fn wide(x: u16) -> usize {
+    x as usize
+}
+
+// The block of a case, by its form, the third of the given numbers. 0: inputs, outputs, locals, then kind and operand of each statement.
+// 1: bytes. 2: times, kind and leaf of a path. 3: statements, kinds with two children, with one and with none of a tree. 4: the same
+// after a pause. 5: declared locals, and how many are inside each other. 6: how many bytes, all 0.
+pub fn block(page: &mut [u8], given: &[u16], count: usize) -> usize {
+    let a = word(given, 3);
+    let b = word(given, 4);
+    let c = word(given, 5);
+    let d = word(given, 6);
+    match word(given, 2) {
+        0 => records(page, given, count),
+        1 => bytes(page, given, count),
+        2 => path(page, wide(a), b, c),
+        3 => large(page, wide(a), b, c, d),
+        4 => pause_first(page, wide(a), b, c, d),
+        5 => inside(page, a, b),
+        _ => wide(a),
     }
 }

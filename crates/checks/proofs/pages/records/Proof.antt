@@ -1,22 +1,22 @@
--- `pages::block` is safe and ends: the page keeps its length, and the measure is what is left of the words.
+-- `pages::records` is safe and ends: the page keeps its length, and the measure is what is left of the numbers.
 -- Assumes nothing.
 use mathlib.Core.Path.{_≡_, refl, _∙_}
-use Prim.Native.Nat.{_-_}
+use Prim.Native.Nat.{_-_, _<_}
 use native.Mathlib.Omega.{arith}
 use lib.ListN.{length}
-use Rattle.checks.proofs.pages.block.Statement.{statement}
-use Rattle.checks.proofs.pages.block.Tie as tie
-use Rattle.checks.proofs.pages.block.Reads as reads
-use Rattle.checks.proofs.pages.block.Lts as lts
+use Rattle.checks.proofs.pages.records.Statement.{statement}
+use Rattle.checks.proofs.pages.records.Tie as tie
+use Rattle.checks.proofs.pages.records.Reads as reads
+use Rattle.checks.proofs.pages.records.Lts as lts
+use Rattle.checks.proofs.lines.word.Reads as word-reads
 use Rattle.checks.proofs.pages.header.Reads as header-reads
 use Rattle.checks.proofs.pages.statement.Reads as statement-reads
-use Rattle.checks.proofs.pages.word.Reads as word-reads
 
 abbrev Inv-loop : tie.InvT-loop
-Inv-loop page₀ words at₀ i₀ page at i = length page ≡ length page₀
+Inv-loop page₀ given count at₀ i₀ page at i = length page ≡ length page₀
 
 abbrev μ-loop : tie.MeasureT-loop
-μ-loop page₀ words at₀ i₀ page at i = length words - i
+μ-loop page₀ given count at₀ i₀ page at i = count - i
 
 word-requires : tie.Need-word-requires Inv-loop μ-loop
 word-requires c κs = tt
@@ -37,7 +37,7 @@ word-requires-4 : tie.Need-word-requires-4 Inv-loop μ-loop
 word-requires-4 c κs = tt
 
 add-word : tie.Need-add-word Inv-loop μ-loop
-add-word c = omega (arith, c .before .before .loop-test .taken)
+add-word c = omega (arith, c .before .before .loop-test .taken, c .before .before .before .before .before .before .before .before .before .before .before .before .before .fits .count)
 
 word-requires-5 : tie.Need-word-requires-5 Inv-loop μ-loop
 word-requires-5 c κs = tt
@@ -55,7 +55,7 @@ returns : tie.Need-returns Inv-loop μ-loop
 returns c = tt
 
 add-i : tie.Need-add-i Inv-loop μ-loop
-add-i c = omega (arith, c .before .before .before .before .before .before .before .loop-test .taken, c .if1 .left)
+add-i c = omega (arith, c .before .before .before .before .before .before .before .loop-test .taken, c .if1 .left, c .before .before .before .before .before .before .before .before .before .before .before .before .before .before .before .before .before .before .fits .count)
 
 loop-less : tie.Need-loop-less Inv-loop μ-loop
 loop-less c = omega (arith, c .before .before .before .before .before .before .before .loop-test .taken, c .if1 .left)
@@ -69,8 +69,8 @@ same-length-2 c = c .before .loop .inv ∙ c .before .before .before .before .he
 returns-2 : tie.Need-returns-2 Inv-loop μ-loop
 returns-2 c = tt
 
-pub block-spec : {M : Type 1} → statement M
-block-spec =
+pub records-spec : {M : Type 1} → statement M
+records-spec =
     tie.close
     (tie.spec
     Inv-loop
