@@ -1,6 +1,7 @@
 // Sets of completion codes as words, and what the rules do to them.
 use crate::kinds::Code;
 use crate::kinds::Depth;
+use crate::kinds::code_of;
 ghost use mathlib.Core.Path.{_≡_};
 ghost use mathlib.Core.Bool.{cond, _&&_, _||_};
 ghost use Prim.Native.Nat.{_<_};
@@ -32,7 +33,7 @@ pub fn exit_codes(d: Depth) -> u32
     if 16 <= d.0 {
         return 0;
     }
-    code_bit(d.to_code())
+    code_bit(code_of(d))
 }
 
 // Codes down: 0 and 2 become 0, 1 stays 1, k above 2 becomes k - 1.
@@ -52,7 +53,7 @@ pub fn without_zero(codes: u32) -> u32
 }
 
 // A sequence's codes: the second part counts if 0 is in the first's codes, which is then removed.
-pub fn followed(a: u32, b: u32) -> u32
+pub fn followed_codes(a: u32, b: u32) -> u32
     ensures { λ r. ⌜ bits r ≡ union (without 0 (bits a)) (only-if (bits a 0) (bits b)) ⌝ }
 {
     if has_code(a, 0) {
@@ -114,7 +115,7 @@ pub(crate) fn codes_for(kind: u16, operand: u16, first: u32, second: u32) -> u32
         17 => 2,
         19 => first | second,
         20 | 26 => first,
-        21 => followed(first, second),
+        21 => followed_codes(first, second),
         22 => without_zero(first),
         23 => larger(first, second),
         24 => lowered(first),

@@ -10,16 +10,13 @@ ghost use Rattle.block.specs.Format.{length-of, children-of};
 pub struct Depth(pub u16);
 
 // A completion code.
-pub struct Code(pub u16);
+pub struct Code(pub u32);
 
-impl Depth {
-    // The one conversion.
-    pub fn to_code(self) -> Code
-        requires { ⌜ self .0 < 16 ⌝ }
-        ensures { λ r. ⌜ r .0 ≡ code (depth (self .0)) ⌝ }
-    {
-        Code(self.0 + 2)
-    }
+// The one conversion.
+pub fn code_of(d: Depth) -> Code
+    ensures { λ r. ⌜ r .0 ≡ code (depth (d .0)) ⌝ }
+{
+    Code((d.0 as u32) + 2)
 }
 
 // A record's length, how many operands it has, and how many children the statement has.

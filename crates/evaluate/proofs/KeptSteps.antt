@@ -15,7 +15,7 @@ use Rattle.rules.specs.States.{kept, executed-as}
 use Rattle.block.specs.Table.{Table}
 use Rattle.evaluate.specs.declared.words.Heard.{Heard}
 use Rattle.evaluate.specs.declared.words.MustCan.{MustCan}
-use Rattle.evaluate.specs.declared.words.Depth.{Depth}
+use Rattle.block.specs.declared.kinds.Depth.{Depth}
 use Rattle.evaluate.specs.declared.pauses.Kept.{Kept}
 use Rattle.evaluate.specs.declared.form.Part.{Part}
 use Rattle.evaluate.specs.declared.form.Form.{Form}

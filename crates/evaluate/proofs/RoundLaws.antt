@@ -35,7 +35,8 @@ use Rattle.evaluate.specs.declared.rounds.Reacted.{Reacted}
 use Rattle.evaluate.specs.Words.{status-of, event-of, given-of, pauses-of}
 use Rattle.evaluate.specs.Forms.{At, Live, step-of, Does, Shows}
 use Rattle.evaluate.specs.Walks.{Walked, Keeping}
-use Rattle.evaluate.specs.Reacts.{outs-from, statuses, marks-of, Fine, Marks, Sized, Rounded, Ends, state-of, undecided, outputs-with, active-in, Stands, Answered, Undecided, Answers, Reacts}
+use Rattle.rules.specs.Rounds.{undecided}
+use Rattle.evaluate.specs.Reacts.{outs-from, statuses, marks-of, Fine, Marks, Sized, Rounded, Ends, state-of, outputs-with, active-in, Stands, Answered, Undecided, Answers, Reacts}
 use Rattle.evaluate.proofs.WordLaws.{shifted, power-of, below-power}
 
 -- Masks.

@@ -16,7 +16,7 @@ use Rattle.evaluate.specs.declared.words.Heard.{Heard}
 use Rattle.evaluate.specs.declared.words.Told.{Told}
 use Rattle.evaluate.specs.declared.words.MustCan.{MustCan}
 use Rattle.evaluate.specs.declared.words.Seen.{Seen}
-use Rattle.evaluate.specs.declared.words.Depth.{Depth}
+use Rattle.block.specs.declared.kinds.Depth.{Depth}
 use Rattle.evaluate.specs.declared.form.Part.{Part}
 use Rattle.evaluate.specs.declared.form.Form.{Form}
 use Rattle.evaluate.specs.declared.form.Form.the-variants.{Done, Stay, Keep, Say, Leave, Test, Catch, Scope, Chain, Beside, Same}

@@ -119,44 +119,6 @@ pub either-is : (a b : Told) → given-of (record { signals = bitOr (a .signals)
 unfolding given-of
 either-is a b = given-eq (union-is (a .signals) (b .signals)) (union-is (a .codes) (b .codes))
 
--- Codes down.
-same-first : (x y : ℕ) → x % 2 ≡ y % 2 → bits x 0 ≡ bits y 0
-same-first x y e = bits-first x ∙ ap (λ (z : ℕ). eqb z 1) e ∙ sym (bits-first y)
-
-pub lowered-digit : (c : ℕ) → bitOr (c % 2) (c / 4 % 2) < 2
-lowered-digit c = or-lt 1 (c % 2) (c / 4 % 2) (omega arith) (omega arith)
-
-pub lowered-is : (c : ℕ) → bits (c / 8 * 4 + c / 2 % 2 * 2 + bitOr (c % 2) (c / 4 % 2)) ≡ downs (bits c)
-unfolding downs
-lowered-is c = ext go
-  where
-    z : ℕ
-    z = bitOr (c % 2) (c / 4 % 2)
-
-    small : z < 2
-    small = lowered-digit c
-
-    r : ℕ
-    r = c / 8 * 4 + c / 2 % 2 * 2 + z
-
-    third : bits c 2 ≡ bits (c / 4) 0
-    third = bits-suc c 1 ∙ bits-suc (c / 2) 0 ∙ ap (λ (x : ℕ). bits x 0) (omega arith)
-
-    first : bits r 0 ≡ (bits c 0 || bits c 2)
-    first =
-        same-first r z (omega (arith, small)) ∙ bits-or (c % 2) (c / 4 % 2) 0
-        ∙ ap₂ (λ (x y : Bool). x || y) (same-first (c % 2) c (omega arith)) (same-first (c / 4 % 2) (c / 4) (omega arith) ∙ sym third)
-
-    next : bits r 1 ≡ bits c 1
-    next = bits-suc r 0 ∙ same-first (r / 2) (c / 2) (omega (arith, small)) ∙ sym (bits-suc c 0)
-
-    go : (n : ℕ) → bits r n ≡ downs (bits c) n
-    go zero = first
-    go (suc zero) = next
-    go (suc (suc n)) =
-        bits-suc r (suc n) ∙ bits-suc (r / 2) n ∙ ap (λ (x : ℕ). bits x n) (omega (arith, small))
-        ∙ sym (bits-suc (c / 2 / 2) n) ∙ sym (bits-suc (c / 2) (suc n)) ∙ sym (bits-suc c (suc (suc n)))
-
 -- From the lowest code on.
 lowest-zero : (c : ℕ) → c < 2 ^ 32 → lowest 32 (bits c) ≡ none → c ≡ 0
 lowest-zero c h e = bits-ext (λ n. go n (decLt n 32) ∙ sym (bits-zero n))
@@ -172,75 +134,12 @@ lowest-there c h f = go (lowest 32 (bits c)) refl
     go none e = absurd (f (lowest-zero c h e))
     go (some k) e = e ∙ ap some (sym (trailing-some 32 c e))
 
-pub trailing-lt : (c : ℕ) → c < 2 ^ 32 → (c ≡ 0 → ⊥) → trailingZeros 32 c < 32
-trailing-lt c h f = lowest-some 32 (bits c) (lowest-there c h f) .0
-
-pub shifted-pos : (c : ℕ) → c < 2 ^ 32 → (c ≡ 0 → ⊥) → 1 ≤ (1 * 2 ^ trailingZeros 32 c) % 2 ^ 32
-shifted-pos c h f = omega (arith, power-of ((1 * 2 ^ trailingZeros 32 c) % 2 ^ 32) (trailingZeros 32 c) (shifted 32 (trailing-lt c h f)), pow-pos (trailingZeros 32 c))
-
-pub none-from : (c : ℕ) → c ≡ 0 → (n : ℕ) → bits 0 n ≡ (ltb n 32 && some-to (bits c) n)
-none-from c e n = bits-zero n ∙ sym (go (ltb n 32) (is-false (some-to (bits c) n) clear))
-  where
-    clear : T (some-to (bits c) n) → ⊥
-    clear t = let r = some-to-out (bits c) n t in of-false (ap (λ (x : ℕ). bits x (r .0)) e ∙ bits-zero (r .0)) (r .2)
-
-    go : (b : Bool) {x : Bool} → x ≡ false → (b && x) ≡ false
-    go true q = q
-    go false q = refl
-
 pub below-power : (k n : ℕ) → bits (2 ^ k - 1) n ≡ ltb n k
 below-power k n = ap (λ (x : ℕ). bits x n) (omega arith) ∙ bits-not k 0 n (pow-pos k) ∙ ap (λ (b : Bool). ltb n k && not b) (bits-zero n) ∙ go (ltb n k)
   where
     go : (b : Bool) → (b && true) ≡ b
     go true = refl
     go false = refl
-
-pub all-from : (c : ℕ) → c < 2 ^ 32 → (c ≡ 0 → ⊥)
-    → (n : ℕ) → bits (4294967295 - ((1 * 2 ^ trailingZeros 32 c) % 2 ^ 32 - 1)) n ≡ (ltb n 32 && some-to (bits c) n)
-all-from c h f n =
-    ap (λ (x : ℕ). bits (4294967295 - (x - 1)) n) (power-of ((1 * 2 ^ k) % 2 ^ 32) k (shifted 32 k-lt))
-    ∙ bits-not 32 (2 ^ k - 1) n (omega (arith, pow-lt k-lt, pow-pos k)) ∙ ap (λ (b : Bool). ltb n 32 && b) (ap not (below-power k n) ∙ above)
-  where
-    k : ℕ
-    k = trailingZeros 32 c
-
-    k-lt : k < 32
-    k-lt = trailing-lt c h f
-
-    low : (k < 32) × T (bits c k) × ((j : ℕ) → j < k → T (bits c j) → ⊥)
-    low = lowest-some 32 (bits c) (lowest-there c h f)
-
-    above : not (ltb n k) ≡ some-to (bits c) n
-    above = go (decLt n k)
-      where
-        go : Dec (n < k) → not (ltb n k) ≡ some-to (bits c) n
-        go (yes l) =
-            ap not (is-true (ltb n k) (lt→ltb n k l))
-            ∙ sym (is-false (some-to (bits c) n) (λ t. let r = some-to-out (bits c) n t in low .2 (r .0) (omega (arith, r .1)) (r .2)))
-        go (no l) =
-            ap not (is-false (ltb n k) (λ t. l (ltb→lt n k t)))
-            ∙ sym (is-true (some-to (bits c) n) (some-to-in (bits c) n (omega arith) (low .1)))
-
--- The larger of two codes.
-absorbed : (a n : ℕ) (x : Bool) → a < 2 ^ 32 → (bits a n && (ltb n 32 && x)) ≡ (bits a n && x)
-absorbed a n x h = go (decLt n 32)
-  where
-    go : Dec (n < 32) → (bits a n && (ltb n 32 && x)) ≡ (bits a n && x)
-    go (yes l) = ap (λ (b : Bool). bits a n && (b && x)) (is-true (ltb n 32) (lt→ltb n 32 l))
-    go (no l) =
-        let e = bits-high 32 {a = a} {n = n} h (omega arith) in
-        ap (λ (b : Bool). b && (ltb n 32 && x)) e ∙ sym (ap (λ (b : Bool). b && x) e)
-
-pub larger-is : (a b u v : ℕ) → a < 2 ^ 32 → b < 2 ^ 32 → ((n : ℕ) → bits u n ≡ (ltb n 32 && some-to (bits b) n)) → ((n : ℕ) → bits v n ≡ (ltb n 32 && some-to (bits a) n))
-    → bits (bitOr (bitAnd a u) (bitAnd b v)) ≡ maxima (bits a) (bits b)
-unfolding maxima
-larger-is a b u v h l f g = ext go
-  where
-    side : (x y w n : ℕ) → x < 2 ^ 32 → ((m : ℕ) → bits w m ≡ (ltb m 32 && some-to (bits y) m)) → bits (bitAnd x w) n ≡ (bits x n && some-to (bits y) n)
-    side x y w n k q = bits-and x w n ∙ ap (λ (z : Bool). bits x n && z) (q n) ∙ absorbed x n (some-to (bits y) n) k
-
-    go : (n : ℕ) → bits (bitOr (bitAnd a u) (bitAnd b v)) n ≡ (bits a n && some-to (bits b) n || bits b n && some-to (bits a) n)
-    go n = bits-or (bitAnd a u) (bitAnd b v) n ∙ ap₂ (λ (p q : Bool). p || q) (side a b u n h f) (side b a v n l g)
 
 pub caught-is : (a : Told) (w : ℕ) → bits w ≡ downs (bits (a .codes)) → given-of (record { signals = a .signals; codes = w }) ≡ caught (given-of a)
 unfolding given-of
@@ -260,9 +159,6 @@ rest-is a = ext (λ n. without-bit a 1 0 (is-set (is-single 0)) n)
 
 pub goes-on : (a b : ℕ) → bits a 0 ≡ true → bits (bitOr (bitAnd a (bitXor a 1)) b) ≡ union (without 0 (bits a)) (only-if (bits a 0) (bits b))
 goes-on a b e = union-is (bitAnd a (bitXor a 1)) b ∙ ap₂ (λ (x : Numbers) (z : Bool). union x (only-if z (bits b))) (rest-is a) (sym e)
-
-pub stops : (a b : ℕ) → bits a 0 ≡ false → bits (bitAnd a (bitXor a 1)) ≡ union (without 0 (bits a)) (only-if (bits a 0) (bits b))
-stops a b e = rest-is a ∙ or-empty (without 0 (bits a)) ∙ ap (λ (z : Bool). union (without 0 (bits a)) (only-if z (bits b))) (sym e)
 
 module _ (a b : Told) (w : ℕ) (codes : bits w ≡ union (without 0 (bits (a .codes))) (only-if (bits (a .codes) 0) (bits (b .codes)))) where
   pub followed-on : bits (a .codes) 0 ≡ true → given-of (record { signals = bitOr (a .signals) (b .signals); codes = w }) ≡ followed (given-of a) (given-of b)

@@ -12,7 +12,7 @@ use Rattle.rules.specs.Events.{Status, present, absent, unknown}
 use Rattle.rules.specs.Instant.{Step}
 use Rattle.rules.specs.MustCan.{marked}
 use Rattle.rules.specs.States.{State, fresh, running, finished, next}
-use Rattle.rules.specs.Rounds.{round, begin, settle, same, Answer, answered, not-constructive, react}
+use Rattle.rules.specs.Rounds.{round, begin, settle, same, Answer, answered, not-constructive, react, undecided}
 use Rattle.block.specs.Table.{Table}
 use Rattle.evaluate.specs.declared.words.Heard.{Heard}
 use Rattle.evaluate.specs.declared.words.MustCan.{MustCan}
@@ -72,13 +72,9 @@ state-of Fresh A = fresh
 state-of Running A = running A
 state-of Finished A = finished
 
--- The outputs with a status, the first of them signal i; how many have none.
+-- The outputs with a status, the first of them signal i.
 abbrev pub outputs-with : Status → ℕ → List Status → Numbers
 outputs-with v i outs k = leb i k && same (getD outs (k - i) unknown) v
-
-unfoldable pub undecided : List Status → ℕ
-undecided [] = 0
-undecided (v ∷ vs) = cond (same v unknown) 1 0 + undecided vs
 
 -- The pauses that a state has active.
 abbrev pub active-in : State → Numbers

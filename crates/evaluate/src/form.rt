@@ -1,5 +1,5 @@
 // What a statement of the table has to do in this instant, started or resumed.
-use crate::words::Depth;
+use block::kinds::Depth;
 ghost use mathlib.Core.Path.{_≡_};
 ghost use mathlib.Core.Bool.{Bool, cond, false};
 ghost use mathlib.Core.List.{List};

@@ -1,10 +1,10 @@
 // Sets of pauses: 128 bits in two words, by value.
-use crate::words::Code;
-use crate::words::code_bit;
-use crate::words::followed_codes;
 use crate::words::gives_zero;
-use crate::words::larger;
-use crate::words::lowered;
+use block::codes::code_bit;
+use block::codes::followed_codes;
+use block::codes::larger;
+use block::codes::lowered;
+use block::kinds::Code;
 ghost use mathlib.Core.Path.{_≡_};
 ghost use mathlib.Core.Bool.{_&&_};
 ghost use lib.Dec.{ltb};

@@ -7,10 +7,10 @@ use crate::pauses::Kept;
 use crate::pauses::members_of;
 use crate::pauses::pause_count;
 use crate::walk::must_can;
-use crate::words::Code;
 use crate::words::Heard;
 use crate::words::Mark;
 use crate::words::MustCan;
+use block::kinds::Code;
 ghost use mathlib.Core.Path.{_≡_};
 ghost use mathlib.Core.Bool.{cond, _&&_};
 ghost use mathlib.Core.Option.{some};
@@ -21,10 +21,10 @@ ghost use Rattle.sets.specs.Words.{bits};
 ghost use Rattle.rules.specs.Statements.{Block, Stmt};
 ghost use Rattle.rules.specs.Events.{event};
 ghost use Rattle.rules.specs.States.{step};
-ghost use Rattle.rules.specs.Rounds.{answer, code-width};
+ghost use Rattle.rules.specs.Rounds.{undecided, answer, code-width};
 ghost use Rattle.evaluate.specs.Words.{event-of, pauses-of};
 ghost use Rattle.evaluate.specs.Forms.{table, At, Placed, step-of};
-ghost use Rattle.evaluate.specs.Reacts.{outs-from, statuses, marks-of, Fine, Marks, Sized, Rounded, Ends, state-of, undecided, Answers, Reacts};
+ghost use Rattle.evaluate.specs.Reacts.{outs-from, statuses, marks-of, Fine, Marks, Sized, Rounded, Ends, state-of, Answers, Reacts};
 
 // A state's phase; the active set stands beside it.
 pub enum Phase {

@@ -1,4 +1,9 @@
 // Words of signals, codes and statuses, and what the rules do to them: each rule is a function here with its own contract.
+use block::codes::code_bit;
+use block::codes::followed_codes;
+use block::codes::larger;
+use block::codes::lowered;
+use block::kinds::Code;
 ghost use mathlib.Core.Path.{_≡_};
 ghost use mathlib.Core.Bool.{true, false, _&&_};
 ghost use lib.Dec.{ltb};
@@ -41,31 +46,11 @@ pub enum Seen {
     Unknown,
 }
 
-// An exit's depth, and a completion code: two types, joined only by `code_of`.
-pub struct Depth(pub u16);
-
-pub struct Code(pub u32);
-
-// The one conversion.
-pub fn code_of(d: Depth) -> Code
-    ensures { λ r. ⌜ r .0 ≡ code (depth (d .0)) ⌝ }
-{
-    Code((d.0 as u32) + 2)
-}
-
 // The set of one signal.
 pub fn bit(s: u16) -> u64
     ensures { λ r. ⌜ (s < 64 → bits r ≡ single s) ⌝ }
 {
     if s < 64 { 1u64 << s } else { 0 }
-}
-
-// The set of one code.
-pub fn code_bit(c: Code) -> u32
-    ensures { λ r. ⌜ (c .0 < 32 → bits r ≡ single (c .0)) ⌝ }
-{
-    let n = c.0;
-    if n < 32 { 1u32 << n } else { 0 }
 }
 
 // Whether a signal is in a set.
@@ -146,15 +131,6 @@ pub fn either_told(a: Told, b: Told) -> Told
     }
 }
 
-// Codes down: 0 and 2 become 0, 1 stays 1, k above 2 becomes k - 1.
-pub fn lowered(codes: u32) -> u32
-    ensures { λ r. ⌜ bits r ≡ downs (bits codes) ⌝ }
-{
-    let zero = codes % 2 | codes / 4 % 2;
-    let one = codes / 2 % 2;
-    codes / 8 * 4 + one * 2 + zero
-}
-
 // A trap.
 pub fn caught_told(a: Told) -> Told
     ensures { λ r. ⌜ given-of r ≡ caught (given-of a) ⌝ }
@@ -164,24 +140,6 @@ pub fn caught_told(a: Told) -> Told
         signals: a.signals,
         codes,
     }
-}
-
-// All codes from the lowest of a set on.
-pub fn from_lowest(codes: u32) -> u32
-    ensures { λ r. ⌜ ((n : ℕ) → bits r n ≡ (ltb n 32 && some-to (bits codes) n)) ⌝ }
-{
-    if codes == 0 {
-        return 0;
-    }
-    let k = u32::trailing_zeros(codes);
-    0xffff_ffff - ((1u32 << k) - 1)
-}
-
-// The larger of two codes, one of each set, for every such pair.
-pub fn larger(a: u32, b: u32) -> u32
-    ensures { λ r. ⌜ bits r ≡ maxima (bits a) (bits b) ⌝ }
-{
-    a & from_lowest(b) | b & from_lowest(a)
 }
 
 // A parallel.
@@ -200,14 +158,6 @@ pub fn gives_zero(codes: u32) -> bool
     ensures { λ r. ⌜ r ≡ bits codes 0 ⌝ }
 {
     codes % 2 == 1
-}
-
-// A sequence's codes.
-pub fn followed_codes(a: u32, b: u32) -> u32
-    ensures { λ r. ⌜ bits r ≡ union (without 0 (bits a)) (only-if (bits a 0) (bits b)) ⌝ }
-{
-    let rest = a & (a ^ 1);
-    if gives_zero(a) { rest | b } else { rest }
 }
 
 // A sequence.

@@ -70,11 +70,6 @@ module _ (g : Good) (st : State) (given : ℕ) (roomless : Bool) where
   all-pass e r = rw (e, r)
 
 -- the evaluator's words for sets and counts are the rules'
-same-undecided : (outs : List Status) → evaluate.undecided outs ≡ undecided outs
-unfolding evaluate.undecided undecided
-same-undecided [] = refl
-same-undecided (v ∷ vs) = ap (λ (n : ℕ). mathlib.Core.Bool.cond (same v unknown) 1 0 + n) (same-undecided vs)
-
 same-active : (st : State) → evaluate.active-in st ≡ active-of st
 unfolding active-of
 same-active fresh = refl
@@ -160,7 +155,7 @@ module _ (b : Block) (r : Reacted) (fits : Fitting r) (o : Outcome) where
         second = 0;
         present-outputs = outputs-word present b outs (r .present) (a .stands .present-is) (fits .present-fits) i;
         absent-outputs = outputs-word absent b outs (r .absent) (a .stands .absent-is) (fits .absent-fits) i;
-        undecided-outputs = (a .stands .undecided-is ∙ same-undecided outs) i;
+        undecided-outputs = a .stands .undecided-is i;
         rounds = a .stands .rounds-is i;
         code = 0;
         active = 0;

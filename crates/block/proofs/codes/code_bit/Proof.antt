@@ -9,9 +9,6 @@ use Rattle.block.proofs.codes.code_bit.Tie as tie
 use Rattle.block.proofs.codes.code_bit.Reads as reads
 use Rattle.block.proofs.codes.code_bit.Lts as lts
 
-cast-result : tie.Need-cast-result
-cast-result c = search needs
-
 shl-result : tie.Need-shl-result
 shl-result c = search needs
 
@@ -22,4 +19,4 @@ returns-2 : tie.Need-returns-2
 returns-2 c = λ h. absurd (omega (arith, c .if1 .left, h))
 
 pub code-bit-spec : {M : Type 1} → statement M
-code-bit-spec = tie.close (tie.spec cast-result shl-result returns returns-2)
+code-bit-spec = tie.close (tie.spec shl-result returns returns-2)

@@ -11,13 +11,13 @@ use Rattle.block.proofs.codes.codes_for.Tie as tie
 use Rattle.block.proofs.codes.codes_for.Reads as reads
 use Rattle.block.proofs.codes.codes_for.Lts as lts
 use Rattle.block.proofs.codes.exit_codes.Reads as exit-codes-reads
-use Rattle.block.proofs.codes.followed.Reads as followed-reads
+use Rattle.block.proofs.codes.followed_codes.Reads as followed-codes-reads
 use Rattle.block.proofs.codes.larger.Reads as larger-reads
 use Rattle.block.proofs.codes.lowered.Reads as lowered-reads
 use Rattle.block.proofs.codes.without_zero.Reads as without-zero-reads
 
-followed-requires : tie.Need-followed-requires
-followed-requires c κs = search needs
+followed-codes-requires : tie.Need-followed-codes-requires
+followed-codes-requires c κs = search needs
 
 without-zero-requires : tie.Need-without-zero-requires
 without-zero-requires c κs = search needs
@@ -45,7 +45,7 @@ returns-3 c = λ h. code-at-either 20 26 (c .before .args .operand) (bits (c .be
 
 returns-4 : tie.Need-returns-4
 unfolding codes-for
-returns-4 c = λ h. code-at 21 (c .before .before .args .operand) (bits (c .before .before .args .first)) (bits (c .before .before .args .second)) (c .before .match .keys4) (c .followed .ensures)
+returns-4 c = λ h. code-at 21 (c .before .before .args .operand) (bits (c .before .before .args .first)) (bits (c .before .before .args .second)) (c .before .match .keys4) (c .followed-codes .ensures)
 
 returns-5 : tie.Need-returns-5
 unfolding codes-for
@@ -73,7 +73,7 @@ pub codes-for-spec : {M : Type 1} → statement M
 codes-for-spec =
     tie.close
     (tie.spec
-    followed-requires
+    followed-codes-requires
     without-zero-requires
     larger-requires
     lowered-requires

@@ -11,19 +11,19 @@ use Rattle.block.proofs.codes.exit_codes.Tie as tie
 use Rattle.block.proofs.codes.exit_codes.Reads as reads
 use Rattle.block.proofs.codes.exit_codes.Lts as lts
 use Rattle.block.proofs.codes.code_bit.Reads as code-bit-reads
-use Rattle.block.proofs.kinds.Depth.to_code.Reads as to-code-reads
+use Rattle.block.proofs.kinds.code_of.Reads as code-of-reads
 
 returns : tie.Need-returns
 returns c = λ h. absurd (omega (arith, c .if1 .taken, h))
 
-to-code-requires : tie.Need-to-code-requires
-to-code-requires c κs = search needs
+code-of-requires : tie.Need-code-of-requires
+code-of-requires c κs = search needs
 
 code-bit-requires : tie.Need-code-bit-requires
 code-bit-requires c κs = search needs
 
 returns-2 : tie.Need-returns-2
-returns-2 c = λ h. c .code-bit .ensures (small-code _ _ h (c .before .to-code .ensures)) ∙ ap (λ (n : ℕ). single n) (c .before .to-code .ensures)
+returns-2 c = λ h. c .code-bit .ensures (small-code _ _ h (c .before .code-of .ensures)) ∙ ap (λ (n : ℕ). single n) (c .before .code-of .ensures)
 
 pub exit-codes-spec : {M : Type 1} → statement M
-exit-codes-spec = tie.close (tie.spec returns to-code-requires code-bit-requires returns-2)
+exit-codes-spec = tie.close (tie.spec returns code-of-requires code-bit-requires returns-2)

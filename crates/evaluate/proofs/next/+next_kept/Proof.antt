@@ -24,7 +24,7 @@ use Rattle.evaluate.proofs.pauses.kept_none.Reads as kept-none-reads
 use Rattle.evaluate.proofs.pauses.kept_unknown.Reads as kept-unknown-reads
 use Rattle.evaluate.proofs.pauses.one_pause.Reads as one-pause-reads
 use Rattle.evaluate.proofs.walk.must_can.Reads as must-can-reads
-use Rattle.evaluate.proofs.words.code_of.Reads as code-of-reads
+use Rattle.block.proofs.kinds.code_of.Reads as code-of-reads
 use Rattle.evaluate.proofs.words.gives_zero.Reads as gives-zero-reads
 use Rattle.evaluate.proofs.words.heard_with.Reads as heard-with-reads
 use Rattle.evaluate.proofs.words.settled_for.Reads as settled-for-reads

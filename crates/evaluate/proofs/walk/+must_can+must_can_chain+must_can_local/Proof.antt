@@ -26,7 +26,7 @@ use Rattle.evaluate.proofs.walk.doubted.Reads as doubted-reads
 use Rattle.evaluate.proofs.walk.followed.Reads as followed-reads
 use Rattle.evaluate.proofs.walk.hidden.Reads as hidden-reads
 use Rattle.evaluate.proofs.walk.sure.Reads as sure-reads
-use Rattle.evaluate.proofs.words.code_of.Reads as code-of-reads
+use Rattle.block.proofs.kinds.code_of.Reads as code-of-reads
 use Rattle.evaluate.proofs.words.goes_on.Reads as goes-on-reads
 use Rattle.evaluate.proofs.words.heard_with.Reads as heard-with-reads
 use Rattle.evaluate.proofs.words.mark_onward.Reads as mark-onward-reads

@@ -1,13 +1,13 @@
--- `codes::followed` meets its contract, by whether 0 is among the first codes.
+-- `codes::followed_codes` meets its contract, by whether 0 is among the first codes.
 -- Assumes nothing.
 use mathlib.Core.Path.{_≡_, refl, sym, _∙_, ap}
 use lib.Dec.{lit<}
 use Rattle.block.proofs.CodeLaws.{goes-on, stops}
 use borrow.Author.Needs.{needs}
-use Rattle.block.proofs.codes.followed.Statement.{statement}
-use Rattle.block.proofs.codes.followed.Tie as tie
-use Rattle.block.proofs.codes.followed.Reads as reads
-use Rattle.block.proofs.codes.followed.Lts as lts
+use Rattle.block.proofs.codes.followed_codes.Statement.{statement}
+use Rattle.block.proofs.codes.followed_codes.Tie as tie
+use Rattle.block.proofs.codes.followed_codes.Reads as reads
+use Rattle.block.proofs.codes.followed_codes.Lts as lts
 use Rattle.block.proofs.codes.has_code.Reads as has-code-reads
 use Rattle.block.proofs.codes.without_zero.Reads as without-zero-reads
 
@@ -26,7 +26,7 @@ returns c = goes-on _ _ _ (c .without-zero .ensures) (sym (c .before .before .ha
 returns-2 : tie.Need-returns-2
 returns-2 c = stops _ _ _ (c .without-zero2 .ensures) (sym (c .before .before .has-code .ensures (lit< tt)) ∙ c .before .if1 .left)
 
-pub followed-spec : {M : Type 1} → statement M
-followed-spec =
+pub followed-codes-spec : {M : Type 1} → statement M
+followed-codes-spec =
     tie.close
     (tie.spec has-code-requires without-zero-requires without-zero-requires-2 returns returns-2)

@@ -1,10 +1,10 @@
--- `evaluate::words::code_of` meets its contract: a depth plus 2 is the code by the definition.
+-- `block::kinds::code_of` meets its contract: a depth plus 2 is the code by the definition.
 -- Assumes nothing.
 use Rattle.rules.specs.Statements.{code}
 use mathlib.Core.Path.{refl}
 use borrow.Author.Needs.{needs}
-use Rattle.evaluate.proofs.words.code_of.Statement.{statement}
-use Rattle.evaluate.proofs.words.code_of.Tie as tie
+use Rattle.block.proofs.kinds.code_of.Statement.{statement}
+use Rattle.block.proofs.kinds.code_of.Tie as tie
 
 cast-t2 : tie.Need-cast-t2
 cast-t2 c = search needs
