@@ -1,3 +1,5 @@
+-- `kinds::Depth::to_code` meets its contract: the code adds 2.
+-- Assumes nothing.
 use borrow.Author.Needs.{needs}
 use mathlib.Core.Path.{refl}
 use Rattle.rules.specs.Statements.{code}
