@@ -61,7 +61,7 @@ fn checked(name: &[u8], bytes: &[u8], expected: u64, at: usize) {
 // The check of a case: its name, and its numbers after the bar: number and place expected, the form of the block, and what it is made of.
 fn case(text: &[u8], from: usize) -> usize {
     let bar = bar_after(text, from);
-    let mut given = [0u16; 64];
+    let mut given = [0u16; 1200];
     let next = numbers(text, bar + 2, &mut given);
     let mut page = [0u8; 4096];
     let len = block(&mut page, &given, next.count);
@@ -113,12 +113,19 @@ fn byte(bytes: &[u8], i: usize) -> u64 {
     if i < bytes.len() { wide(bytes[i]) } else { 256 }
 }
 
-fn states(state: &mut [u8]) {
-    let good = b"\x0e\x00\x01\x00\x01\x00\x00\x00\x00\x00\x00\x00\x00\x00\x04\x00\x10\x00";
+// A block of one nothing.
+fn nothing() -> [u8; 18] {
+    [14, 0, 1, 0, 1, 0, 0, 0, 0, 0, 0, 0, 0, 0, 4, 0, 16, 0]
+}
+
+fn turned_down(good: &[u8], state: &mut [u8]) {
     begun(b"fresh into 21 bytes ", good, state, 21, 9, 0);
     begun(b"fresh into 23 bytes ", good, state, 23, 9, 0);
     begun(b"fresh of a bad block ", b"\x0e", state, 22, 1, 0);
     say(b"first byte kept ", byte(state, 0), 0, 7, 0);
+}
+
+fn written(good: &[u8], state: &mut [u8]) {
     begun(b"fresh into 22 bytes ", good, state, 22, 0, 0);
     say(b"first byte ", byte(state, 0), 0, 22, 0);
     say(b"third byte ", byte(state, 2), 0, 2, 0);
@@ -127,8 +134,10 @@ fn states(state: &mut [u8]) {
 }
 
 fn fresh_states() {
+    let good = nothing();
     let mut state = [7u8; 23];
-    states(&mut state);
+    turned_down(&good, &mut state);
+    written(&good, &mut state);
 }
 
 // The excerpt of a statement of a block: number and place, then first byte of its kind and its length.
@@ -152,7 +161,7 @@ fn excerpts() {
 }
 
 fn main() {
-    let mut text = io::buffer();
+    let mut text = io::large_buffer();
     let n = io::read_full(STDIN_FILENO, &mut text);
     cases(part(&text, n));
     fresh_states();

@@ -74,89 +74,12 @@ fn bytes(page: &mut [u8], given: &[u16], count: usize) -> usize {
     at
 }
 
-// The same record some times over.
-fn again(page: &mut [u8], from: usize, times: usize, kind: u16, operand: u16) -> usize {
-    let mut at = from;
-    let mut i: usize = 0;
-    while i < times {
-        at = statement(page, at, kind, operand);
-        i += 1;
-    }
-    at
-}
-
-// Locals inside each other, numbered from 0.
-fn nest(page: &mut [u8], from: usize, times: u16) -> usize {
-    let mut at = from;
-    let mut i: u16 = 0;
-    while i < times {
-        at = long(page, at, 26, i);
-        i += 1;
-    }
-    at
-}
-
-// A tree of n statements: two children (kind, operand) where n is odd, one (single, 0) where two are left, and leaves.
-fn tree(page: &mut [u8], at: usize, n: usize, kind: u16, single: u16, leaf: u16) -> usize {
-    if n < 2 {
-        return statement(page, at, leaf, 0);
-    }
-    if n < 3 {
-        let next = statement(page, at, single, 0);
-        return statement(page, next, leaf, 0);
-    }
-    let half = (n - 1) / 2;
-    let next = statement(page, at, kind, 0);
-    let last = tree(page, next, half, kind, single, leaf);
-    tree(page, last, n - 1 - half, kind, single, leaf)
-}
-
-// A statement of one kind some times over a leaf, one on a path.
-fn path(page: &mut [u8], times: usize, kind: u16, leaf: u16) -> usize {
-    let start = header(page, 1, 0, 0);
-    let next = again(page, start, times, kind, 0);
-    short(page, next, leaf)
-}
-
-// A pause before a tree.
-fn pause_first(page: &mut [u8], n: usize, kind: u16, single: u16, leaf: u16) -> usize {
-    let start = header(page, 0, 0, 0);
-    let first = short(page, start, 21);
-    let next = short(page, first, 17);
-    tree(page, next, n, kind, single, leaf)
-}
-
-// Locals inside each other, where so many are declared.
-fn inside(page: &mut [u8], declared: u16, times: u16) -> usize {
-    let start = header(page, 0, 0, declared);
-    let next = nest(page, start, times);
-    short(page, next, 16)
-}
-
-fn large(page: &mut [u8], n: usize, kind: u16, single: u16, leaf: u16) -> usize {
-    let start = header(page, 0, 1, 0);
-    tree(page, start, n, kind, single, leaf)
-}
-
-fn wide(x: u16) -> usize {
-    x as usize
-}
-
 // The block of a case, by its form, the third of the given numbers. 0: inputs, outputs, locals, then kind and operand of each statement.
-// 1: bytes. 2: times, kind and leaf of a path. 3: statements, kinds with two children, with one and with none of a tree. 4: the same
-// after a pause. 5: declared locals, and how many are inside each other. 6: how many bytes, all 0.
+// 1: bytes. 2: how many bytes, all 0.
 pub fn block(page: &mut [u8], given: &[u16], count: usize) -> usize {
-    let a = word(given, 3);
-    let b = word(given, 4);
-    let c = word(given, 5);
-    let d = word(given, 6);
     match word(given, 2) {
         0 => records(page, given, count),
         1 => bytes(page, given, count),
-        2 => path(page, wide(a), b, c),
-        3 => large(page, wide(a), b, c, d),
-        4 => pause_first(page, wide(a), b, c, d),
-        5 => inside(page, a, b),
-        _ => wide(a),
+        _ => word(given, 3) as usize,
     }
 }

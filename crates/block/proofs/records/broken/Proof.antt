@@ -1,3 +1,5 @@
+-- `records::broken` meets its contract: the three tests one after the other.
+-- Assumes nothing.
 use borrow.Author.Needs.{needs}
 use mathlib.Core.Path.{sym}
 use Rattle.block.proofs.Tests.{few-left, too-short, long-enough}
