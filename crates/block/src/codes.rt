@@ -12,7 +12,7 @@ ghost use Rattle.rules.specs.Statements.{depth, code};
 ghost use Rattle.block.specs.Codes.{codes-for};
 
 // Whether a code is in a set.
-pub fn has_code(codes: u32, n: u32) -> bool
+pub(crate) fn has_code(codes: u32, n: u32) -> bool
     ensures { λ r. ⌜ (n < 32 → r ≡ bits codes n) ⌝ }
 {
     if n < 32 { (codes >> n) % 2 == 1 } else { false }
@@ -27,7 +27,7 @@ pub fn code_bit(c: Code) -> u32
 }
 
 // The code of an exit.
-pub fn exit_codes(d: Depth) -> u32
+pub(crate) fn exit_codes(d: Depth) -> u32
     ensures { λ r. ⌜ (d .0 < 16 → bits r ≡ single (code (depth (d .0)))) ⌝ }
 {
     if 16 <= d.0 {
@@ -46,7 +46,7 @@ pub fn lowered(codes: u32) -> u32
 }
 
 // A set without the code 0.
-pub fn without_zero(codes: u32) -> u32
+pub(crate) fn without_zero(codes: u32) -> u32
     ensures { λ r. ⌜ bits r ≡ without 0 (bits codes) ⌝ }
 {
     codes & (codes ^ 1)

@@ -52,7 +52,7 @@ fn holds_active(
 }
 
 // Which statements hold an active pause: from the last row to the first, so that a statement's children are done before it.
-pub fn actives(
+pub(crate) fn actives(
     kinds: &[u16; 512],
     operands: &[u16; 512],
     sizes: &[u16; 512],
@@ -94,7 +94,7 @@ fn held_row(kinds: &[u16; 512], operands: &[u16; 512], set: [u64; 2], at: usize)
 }
 
 // The active pauses that the statement at a place holds.
-pub fn held_pauses(
+pub(crate) fn held_pauses(
     kinds: &[u16; 512],
     operands: &[u16; 512],
     sizes: &[u16; 512],

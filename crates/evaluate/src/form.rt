@@ -38,14 +38,14 @@ pub enum Form {
 }
 
 // A number of the table as an index.
-pub fn wide(x: u16) -> usize
+pub(crate) fn wide(x: u16) -> usize
     ensures { λ r. ⌜ (r ≡ x) × (r < 65536) ⌝ }
 {
     x as usize
 }
 
 // The second child's number.
-pub fn second(sizes: &[u16; 512], at: usize) -> usize
+pub(crate) fn second(sizes: &[u16; 512], at: usize) -> usize
     requires { ⌜ at < 512 ⌝ }
     ensures { λ r. ⌜ (at + 1 < 512 → r ≡ at + 1 + getD (now (sizes .entry)) (at + 1) 0) ⌝ }
 {
@@ -58,7 +58,7 @@ pub fn second(sizes: &[u16; 512], at: usize) -> usize
 }
 
 // Whether a statement holds an active pause.
-pub fn live_at(live: &[bool; 512], at: usize) -> bool
+pub(crate) fn live_at(live: &[bool; 512], at: usize) -> bool
     ensures { λ r. ⌜ (at < 512 → r ≡ getD (now (live .entry)) at false) ⌝ }
 {
     if at < 512 { live[at] } else { false }
@@ -169,7 +169,7 @@ fn resumed_form(
     }
 }
 
-pub fn form_of(
+pub(crate) fn form_of(
     kinds: &[u16; 512],
     operands: &[u16; 512],
     sizes: &[u16; 512],

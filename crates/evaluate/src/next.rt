@@ -27,7 +27,7 @@ ghost use Rattle.evaluate.specs.Forms.{table, Placed};
 ghost use Rattle.evaluate.specs.Walks.{Keeping};
 
 // Must's codes, and the pauses that the part keeps.
-pub fn next_kept(
+pub(crate) fn next_kept(
     kinds: &[u16; 512],
     operands: &[u16; 512],
     sizes: &[u16; 512],

@@ -19,13 +19,13 @@ pub struct Kept {
     pub pauses: [u64; 2],
 }
 
-pub fn no_pause() -> [u64; 2]
+pub(crate) fn no_pause() -> [u64; 2]
     ensures { λ r. ⌜ pauses-of r ≡ empty ⌝ }
 {
     [0, 0]
 }
 
-pub fn one_pause(n: u16) -> [u64; 2]
+pub(crate) fn one_pause(n: u16) -> [u64; 2]
     ensures { λ r. ⌜ (n < 128 → pauses-of r ≡ single n) ⌝ }
 {
     if n < 64 {
@@ -37,14 +37,14 @@ pub fn one_pause(n: u16) -> [u64; 2]
     [0, 0]
 }
 
-pub fn joined(a: [u64; 2], b: [u64; 2]) -> [u64; 2]
+pub(crate) fn joined(a: [u64; 2], b: [u64; 2]) -> [u64; 2]
     ensures { λ r. ⌜ pauses-of r ≡ union (pauses-of a) (pauses-of b) ⌝ }
 {
     [a[0] | b[0], a[1] | b[1]]
 }
 
 // Whether a pause is in a set.
-pub fn has_pause(a: [u64; 2], n: u16) -> bool
+pub(crate) fn has_pause(a: [u64; 2], n: u16) -> bool
     ensures { λ r. ⌜ r ≡ (ltb n 128 && pauses-of a n) ⌝ }
 {
     if n < 64 {
@@ -57,7 +57,7 @@ pub fn has_pause(a: [u64; 2], n: u16) -> bool
 }
 
 // A statement with code other than 1 keeps no pause.
-pub fn kept_with(codes: u32, pauses: [u64; 2]) -> Kept
+pub(crate) fn kept_with(codes: u32, pauses: [u64; 2]) -> Kept
     ensures { λ r. ⌜ (r .codes ≡ codes) × (pauses-of (r .pauses) ≡ only-if (bits codes 1) (pauses-of pauses)) ⌝ }
 {
     if codes / 2 % 2 == 1 {
@@ -71,21 +71,21 @@ pub fn kept_with(codes: u32, pauses: [u64; 2]) -> Kept
 }
 
 // How many members a word has.
-pub fn members_of(w: u64) -> u32
+pub(crate) fn members_of(w: u64) -> u32
     ensures { λ r. ⌜ (r ≤ 64) × (r ≡ count 64 (bits w)) ⌝ }
 {
     u64::count_ones(w)
 }
 
 // How many pauses are in a set.
-pub fn pause_count(a: [u64; 2]) -> u32
+pub(crate) fn pause_count(a: [u64; 2]) -> u32
     ensures { λ r. ⌜ r ≡ count 128 (pauses-of a) ⌝ }
 {
     members_of(a[0]) + members_of(a[1])
 }
 
 // A code and no pause.
-pub fn kept_none(c: Code) -> Kept
+pub(crate) fn kept_none(c: Code) -> Kept
     ensures { λ r. ⌜ (pauses-of (r .pauses) ≡ empty) × (c .0 < 32 → bits (r .codes) ≡ single (c .0)) ⌝ }
 {
     let codes = code_bit(c);
@@ -96,7 +96,7 @@ pub fn kept_none(c: Code) -> Kept
 }
 
 // No code and no pause.
-pub fn kept_unknown() -> Kept
+pub(crate) fn kept_unknown() -> Kept
     ensures { λ r. ⌜ (bits (r .codes) ≡ empty) × (pauses-of (r .pauses) ≡ empty) ⌝ }
 {
     Kept {
@@ -106,14 +106,14 @@ pub fn kept_unknown() -> Kept
 }
 
 // Code 1 and these pauses.
-pub fn kept_here(pauses: [u64; 2]) -> Kept
+pub(crate) fn kept_here(pauses: [u64; 2]) -> Kept
     ensures { λ r. ⌜ (bits (r .codes) ≡ single 1) × (r .pauses ≡ pauses) ⌝ }
 {
     Kept { codes: 2, pauses }
 }
 
 // A part that is chosen, or a local's body.
-pub fn kept_again(a: Kept) -> Kept
+pub(crate) fn kept_again(a: Kept) -> Kept
     ensures { λ r. ⌜ KeptWith r (bits (a .codes)) (pauses-of (a .pauses)) ⌝ }
 {
     let pauses = a.pauses;
@@ -121,7 +121,7 @@ pub fn kept_again(a: Kept) -> Kept
 }
 
 // A trap.
-pub fn kept_caught(a: Kept) -> Kept
+pub(crate) fn kept_caught(a: Kept) -> Kept
     ensures { λ r. ⌜ KeptWith r (downs (bits (a .codes))) (pauses-of (a .pauses)) ⌝ }
 {
     let pauses = a.pauses;
@@ -129,7 +129,7 @@ pub fn kept_caught(a: Kept) -> Kept
 }
 
 // A parallel.
-pub fn kept_beside(a: Kept, b: Kept) -> Kept
+pub(crate) fn kept_beside(a: Kept, b: Kept) -> Kept
     ensures { λ r. ⌜ KeptWith r (maxima (bits (a .codes)) (bits (b .codes))) (union (pauses-of (a .pauses)) (pauses-of (b .pauses))) ⌝ }
 {
     let left = a.pauses;
@@ -138,7 +138,7 @@ pub fn kept_beside(a: Kept, b: Kept) -> Kept
 }
 
 // A sequence.
-pub fn kept_chain(a: Kept, b: Kept) -> Kept
+pub(crate) fn kept_chain(a: Kept, b: Kept) -> Kept
     ensures { λ r. ⌜ KeptWith r (union (without 0 (bits (a .codes))) (only-if (bits (a .codes) 0) (bits (b .codes)))) (union (pauses-of (a .pauses)) (only-if (bits (a .codes) 0) (pauses-of (b .pauses)))) ⌝ }
 {
     let codes = followed_codes(a.codes, b.codes);

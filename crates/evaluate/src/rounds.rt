@@ -52,7 +52,7 @@ pub struct Reacted {
 }
 
 // The signals below a number.
-pub fn below(n: u16) -> u64
+pub(crate) fn below(n: u16) -> u64
     requires { ⌜ n ≤ 64 ⌝ }
     ensures { λ r. ⌜ ((k : ℕ) → bits r k ≡ ltb k n) ⌝ }
 {
@@ -64,7 +64,7 @@ pub fn below(n: u16) -> u64
 }
 
 // The outputs' signals.
-pub fn outputs_of(inputs: u16, outputs: u16) -> u64
+pub(crate) fn outputs_of(inputs: u16, outputs: u16) -> u64
     requires { ⌜ inputs + outputs ≤ 64 ⌝ }
     ensures { λ r. ⌜ ((k : ℕ) → bits r k ≡ outs-from inputs outputs k) ⌝ }
 {
@@ -74,7 +74,7 @@ pub fn outputs_of(inputs: u16, outputs: u16) -> u64
 }
 
 // The event of a round: an input is present when it is in the input set and else absent, the outputs have their marks.
-pub fn heard_in(inputs: u16, given: u64, marks: Heard) -> Heard
+pub(crate) fn heard_in(inputs: u16, given: u64, marks: Heard) -> Heard
     requires { ⌜ inputs ≤ 64 ⌝ }
     ensures { λ r. ⌜ ((b : Block) (n : ℕ) → Sized b inputs n → Fine (outs-from inputs n) marks → event-of r ≡ event b (bits given) (marks-of b marks)) ⌝ }
 {
@@ -86,7 +86,7 @@ pub fn heard_in(inputs: u16, given: u64, marks: Heard) -> Heard
 }
 
 // Present the outputs in must, absent those not in can, the others as they were.
-pub fn marked_by(outs: u64, marks: Heard, a: MustCan) -> Heard
+pub(crate) fn marked_by(outs: u64, marks: Heard, a: MustCan) -> Heard
     ensures { λ r. ⌜ Marks (bits outs) marks a r ⌝ }
 {
     let must = a.must.signals;
@@ -130,7 +130,7 @@ fn same_marks(a: Heard, b: Heard) -> bool
 }
 
 // All rounds: the last is the first that changes nothing.
-pub fn all_rounds(
+pub(crate) fn all_rounds(
     kinds: &[u16; 512],
     operands: &[u16; 512],
     sizes: &[u16; 512],

@@ -78,7 +78,7 @@ fn hidden(s: u16, a: MustCan) -> MustCan
 }
 
 // Can under a mark, and must if the mark is plus.
-pub fn must_can(
+pub(crate) fn must_can(
     kinds: &[u16; 512],
     operands: &[u16; 512],
     sizes: &[u16; 512],

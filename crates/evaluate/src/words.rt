@@ -47,21 +47,21 @@ pub enum Seen {
 }
 
 // The set of one signal.
-pub fn bit(s: u16) -> u64
+pub(crate) fn bit(s: u16) -> u64
     ensures { λ r. ⌜ (s < 64 → bits r ≡ single s) ⌝ }
 {
     if s < 64 { 1u64 << s } else { 0 }
 }
 
 // Whether a signal is in a set.
-pub fn has_signal(w: u64, s: u16) -> bool
+pub(crate) fn has_signal(w: u64, s: u16) -> bool
     ensures { λ r. ⌜ (s < 64 → r ≡ bits w s) ⌝ }
 {
     w & bit(s) != 0
 }
 
 // A signal's status.
-pub fn status_at(e: Heard, s: u16) -> Seen
+pub(crate) fn status_at(e: Heard, s: u16) -> Seen
     ensures { λ r. ⌜ (s < 64 → seen-as r ≡ event-of e s) ⌝ }
 {
     if has_signal(e.present, s) {
@@ -74,7 +74,7 @@ pub fn status_at(e: Heard, s: u16) -> Seen
 }
 
 // The event with a signal given a status.
-pub fn heard_with(e: Heard, s: u16, v: Seen) -> Heard
+pub(crate) fn heard_with(e: Heard, s: u16, v: Seen) -> Heard
     ensures { λ r. ⌜ (s < 64 → event-of r ≡ giving (event-of e) s (seen-as v)) ⌝ }
 {
     let b = bit(s);
@@ -96,7 +96,7 @@ pub fn heard_with(e: Heard, s: u16, v: Seen) -> Heard
 }
 
 // No signal and one code.
-pub fn silent(c: Code) -> Told
+pub(crate) fn silent(c: Code) -> Told
     ensures { λ r. ⌜ (c .0 < 32 → given-of r ≡ quiet (c .0)) ⌝ }
 {
     let codes = code_bit(c);
@@ -104,7 +104,7 @@ pub fn silent(c: Code) -> Told
 }
 
 // One signal and code 0.
-pub fn saying(s: u16) -> Told
+pub(crate) fn saying(s: u16) -> Told
     ensures { λ r. ⌜ (s < 64 → given-of r ≡ loud s) ⌝ }
 {
     let signals = bit(s);
@@ -112,7 +112,7 @@ pub fn saying(s: u16) -> Told
 }
 
 // No signal and no code.
-pub fn nothing_told() -> Told
+pub(crate) fn nothing_told() -> Told
     ensures { λ r. ⌜ given-of r ≡ nothing-known ⌝ }
 {
     Told {
@@ -122,7 +122,7 @@ pub fn nothing_told() -> Told
 }
 
 // The union of two branches.
-pub fn either_told(a: Told, b: Told) -> Told
+pub(crate) fn either_told(a: Told, b: Told) -> Told
     ensures { λ r. ⌜ given-of r ≡ either (given-of a) (given-of b) ⌝ }
 {
     Told {
@@ -132,7 +132,7 @@ pub fn either_told(a: Told, b: Told) -> Told
 }
 
 // A trap.
-pub fn caught_told(a: Told) -> Told
+pub(crate) fn caught_told(a: Told) -> Told
     ensures { λ r. ⌜ given-of r ≡ caught (given-of a) ⌝ }
 {
     let codes = lowered(a.codes);
@@ -143,7 +143,7 @@ pub fn caught_told(a: Told) -> Told
 }
 
 // A parallel.
-pub fn both_told(a: Told, b: Told) -> Told
+pub(crate) fn both_told(a: Told, b: Told) -> Told
     ensures { λ r. ⌜ given-of r ≡ both (given-of a) (given-of b) ⌝ }
 {
     let codes = larger(a.codes, b.codes);
@@ -154,14 +154,14 @@ pub fn both_told(a: Told, b: Told) -> Told
 }
 
 // Whether 0 is among the codes.
-pub fn gives_zero(codes: u32) -> bool
+pub(crate) fn gives_zero(codes: u32) -> bool
     ensures { λ r. ⌜ r ≡ bits codes 0 ⌝ }
 {
     codes % 2 == 1
 }
 
 // A sequence.
-pub fn followed_told(a: Told, b: Told) -> Told
+pub(crate) fn followed_told(a: Told, b: Told) -> Told
     ensures { λ r. ⌜ given-of r ≡ followed (given-of a) (given-of b) ⌝ }
 {
     let codes = followed_codes(a.codes, b.codes);
@@ -179,7 +179,7 @@ pub fn followed_told(a: Told, b: Told) -> Told
 }
 
 // A local's signal removed.
-pub fn hidden_told(s: u16, a: Told) -> Told
+pub(crate) fn hidden_told(s: u16, a: Told) -> Told
     ensures { λ r. ⌜ (s < 64 → given-of r ≡ hidden s (given-of a)) ⌝ }
 {
     let b = bit(s);
@@ -190,7 +190,7 @@ pub fn hidden_told(s: u16, a: Told) -> Told
 }
 
 // A status that was unknown, marked: present if in must, absent if not in can.
-pub fn marked_as(sure: bool, may: bool) -> Seen
+pub(crate) fn marked_as(sure: bool, may: bool) -> Seen
     ensures { λ r. ⌜ seen-as r ≡ marked sure may unknown ⌝ }
 {
     if sure {
@@ -203,7 +203,7 @@ pub fn marked_as(sure: bool, may: bool) -> Seen
 }
 
 // A local's status, from its body with the signal unknown; must is asked only if the mark is plus.
-pub fn settled_for(mark: Mark, s: u16, a: MustCan) -> Seen
+pub(crate) fn settled_for(mark: Mark, s: u16, a: MustCan) -> Seen
     ensures { λ r. ⌜ (s < 64 → seen-as r ≡ settled (can (mark-of mark)) s (given-of (a .must)) (given-of (a .can))) ⌝ }
 {
     let sure = has_signal(a.must.signals, s);
@@ -215,7 +215,7 @@ pub fn settled_for(mark: Mark, s: u16, a: MustCan) -> Seen
 }
 
 // Whether a local's status is the one that its body was analysed with, under the same mark.
-pub fn still_unknown(mark: Mark, v: Seen) -> bool
+pub(crate) fn still_unknown(mark: Mark, v: Seen) -> bool
     ensures { λ r. ⌜ (r ≡ true → (mark ≡ Mark.Plus) × (v ≡ Seen.Unknown)) ⌝ }
 {
     match mark {
@@ -229,7 +229,7 @@ pub fn still_unknown(mark: Mark, v: Seen) -> bool
 }
 
 // The mark of a sequence's second part: plus only if it was plus and the first must give 0.
-pub fn mark_onward(mark: Mark, codes: u32) -> Mark
+pub(crate) fn mark_onward(mark: Mark, codes: u32) -> Mark
     ensures { λ r. ⌜ can (mark-of r) ≡ onward (can (mark-of mark)) (bits codes 0) ⌝ }
 {
     match mark {
@@ -245,7 +245,7 @@ pub fn mark_onward(mark: Mark, codes: u32) -> Mark
 }
 
 // Whether a sequence's second part counts, under its mark, after these codes that the first can give.
-pub fn goes_on(mark: Mark, codes: u32) -> bool
+pub(crate) fn goes_on(mark: Mark, codes: u32) -> bool
     ensures { λ r. ⌜ (r ≡ false → (mark ≡ Mark.Open) × (bits codes 0 ≡ false)) ⌝ }
 {
     match mark {

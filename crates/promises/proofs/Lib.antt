@@ -4,3 +4,4 @@ pub mod Instants
 pub mod Runs
 pub mod Calls
 pub mod Promises
+pub mod OneAnswer

@@ -14,7 +14,7 @@ pub fn no_room(len: usize, end: usize) -> bool
 }
 
 // A record at the front of the lent part; what lies behind it stays.
-pub fn write_record(part: &mut [u8], inputs: u64, present: u64, code: u16, rounds: u16)
+pub(crate) fn write_record(part: &mut [u8], inputs: u64, present: u64, code: u16, rounds: u16)
     requires { ⌜ 24 ≤ length (now part) ⌝ }
     ensures { λ _. ⌜ now (part .exit) ≡ log-record (record { inputs = inputs; present = present; code = code; rounds = rounds }) ++ drop 24 (now (part .entry)) ⌝ }
 {
