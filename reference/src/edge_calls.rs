@@ -13,7 +13,8 @@ pub fn edge_calls() -> Vec<EdgeCall> {
     // Pauses 0 and 1 are compatible with each other, 2 with neither.
     let block = block_of(1, 1, "(seq (par pause pause) (seq pause (emit 1)))");
     let stuck = block_of(1, 1, "(seq pause (present 1 (emit 1) nothing))");
-    let mut calls = state_calls(&block);
+    let mut calls = worked_calls();
+    calls.extend(state_calls(&block));
     calls.extend(log_calls(&block, &stuck));
     let parts = [(0, "0 0 e"), (1, "0 0 12"), (3, "0 0 1a"), (6, "0 0 26"), (7, "e 0 0 -"), (u64::MAX, "e 0 0 -")];
     for (index, wanted) in parts {
@@ -26,6 +27,41 @@ pub fn edge_calls() -> Vec<EdgeCall> {
     calls.push((Case { block: block[..20].to_vec(), call: Call::Fresh { state: Vec::new() } }, "1 12"));
     calls
 }
+
+/// The worked instants by their letters, H twice, and the state cases: number, place, pair, present, absent, undecided, code, rounds, active.
+fn worked_calls() -> Vec<EdgeCall> {
+    let undecided = "d 0 0 0 0 0 1 0 1 0";
+    let settled = "0 0 0 0 0 0 0 0 2 0";
+    let held = "0 0 0 0 2 0 0 1 2 1";
+    let restarted = "(loop (local 2 (seq (present 2 (emit 0) (emit 1)) (seq pause (emit 2)))))";
+    let (fresh, first, both) = (Phase::Fresh, Phase::Running(1), Phase::Running(3));
+    let cases = [
+        (0, 0, "nothing", fresh, 0, "0 0 0 0 0 0 0 0 1 0"),
+        (0, 1, "(present 0 (emit 0) nothing)", fresh, 0, undecided),
+        (0, 1, "(present 0 (emit 0) (emit 0))", fresh, 0, undecided),
+        (0, 1, "(seq (present 0 nothing nothing) (emit 0))", fresh, 0, undecided),
+        (0, 1, GUARDED, fresh, 0, settled),
+        (0, 2, restarted, fresh, 0, held),
+        (0, 2, restarted, first, 0, held),
+        (0, 1, "(seq (trap (par (exit 0) pause)) (emit 0))", fresh, 0, "0 0 0 0 1 0 0 0 2 0"),
+        (1, 2, "(present 0 (present 2 (emit 1) nothing) (present 1 (emit 2) nothing))", fresh, 1, "0 0 0 0 0 0 0 0 3 0"),
+        (0, 1, NESTED, fresh, 0, settled),
+        (0, 0, "(seq pause pause)", both, 0, "a 0 0 1"),
+        (0, 0, "(par pause pause)", both, 0, "0 0 0 0 0 0 0 0 1 0"),
+    ];
+    let mut calls = Vec::new();
+    for (given, outputs, text, phase, inputs, wanted) in cases {
+        let (block, state) = (block_of(given, outputs, text), state_record(phase));
+        calls.push((Case { block: block.clone(), call: Call::Instant { state: state.clone(), inputs } }, wanted));
+        let call = Call::Logged { state, inputs, log: vec![0xA5; 40], end: 8 };
+        calls.push((Case { block, call }, wanted));
+    }
+    calls
+}
+
+const GUARDED: &str = "(trap (local 1 (seq (emit 1) (present 0 (seq (present 1 (exit 0) nothing) (emit 0)) nothing))))";
+const NESTED: &str = "(present 0 (local 1 (seq (local 2 (seq (emit 2) (present 2 nothing (emit 1)))) \
+                      (present 1 (emit 0) nothing))) nothing)";
 
 /// State records with inputs: what each gets on a block of three pauses and one input.
 fn states() -> Vec<(Vec<u8>, u64, &'static str)> {
