@@ -1,12 +1,12 @@
 -- The loop check on the table: a statement's codes from its row and its children's codes. Assumes nothing.
 use mathlib.Core.Path.{_≡_}
-use mathlib.Core.Bool.{Bool, true, false, cond, _&&_, _||_}
+use mathlib.Core.Bool.{cond}
 use mathlib.Core.Option.{Option, none, some}
 use mathlib.Core.List.{List}
-use Prim.Native.Nat.{ℕ, zero, suc, _<_}
+use Prim.Native.Nat.{ℕ, _<_}
 use lib.ListN.{getD}
 use lib.Dec.{eqb}
-use Rattle.sets.specs.Numbers.{Numbers, single, union, without, only-if, some-to, maxima, downs}
+use Rattle.sets.specs.Numbers.{Numbers, single, union, without, only-if, maxima, downs}
 use Rattle.sets.specs.Words.{bits}
 use Rattle.rules.specs.Statements.{depth, code, Stmt, nothing, pause, emit, present?_then_else_, suspend_on_, _⨾_, loop, _parallel_, trap, exit, local}
 use Rattle.rules.specs.Loops.{codes-of}
@@ -40,11 +40,6 @@ Fed (p parallel q) v w = (bits v ≡ codes-of p) × (bits w ≡ codes-of q)
 Fed (trap p) v w = bits v ≡ codes-of p
 Fed (exit d) v w = Unit {0}
 Fed (local s p) v w = bits v ≡ codes-of p
-
--- Some number below n is a member.
-unfoldable pub some-below : Numbers → ℕ → Bool
-some-below a zero = false
-some-below a (suc n) = some-to a n
 
 -- The number that was found, and n where none was.
 abbrev pub number-or : ℕ → Option ℕ → ℕ

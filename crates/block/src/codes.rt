@@ -3,10 +3,10 @@ use crate::kinds::Code;
 use crate::kinds::Depth;
 use crate::kinds::code_of;
 ghost use mathlib.Core.Path.{_≡_};
-ghost use mathlib.Core.Bool.{cond, _&&_, _||_};
-ghost use Prim.Native.Nat.{_<_};
-ghost use lib.Dec.{eqb};
-ghost use Rattle.sets.specs.Numbers.{single, union, without, only-if, maxima, downs};
+ghost use mathlib.Core.Bool.{_&&_};
+ghost use Prim.Native.Nat.{ℕ, _<_};
+ghost use lib.Dec.{ltb};
+ghost use Rattle.sets.specs.Numbers.{single, union, without, only-if, some-to, maxima, downs};
 ghost use Rattle.sets.specs.Words.{bits};
 ghost use Rattle.rules.specs.Statements.{depth, code};
 ghost use Rattle.block.specs.Codes.{codes-for};
@@ -63,48 +63,22 @@ pub fn followed_codes(a: u32, b: u32) -> u32
     }
 }
 
-fn either(x: bool, y: bool) -> bool
-    ensures { λ r. ⌜ r ≡ (x || y) ⌝ }
+// All codes from the lowest of a set on.
+fn from_lowest(codes: u32) -> u32
+    ensures { λ r. ⌜ ((n : ℕ) → bits r n ≡ (ltb n 32 && some-to (bits codes) n)) ⌝ }
 {
-    if x { true } else { y }
+    if codes == 0 {
+        return 0;
+    }
+    let k = u32::trailing_zeros(codes);
+    0xffff_ffff - ((1u32 << k) - 1)
 }
 
-fn both(x: bool, y: bool) -> bool
-    ensures { λ r. ⌜ r ≡ (x && y) ⌝ }
-{
-    if x { y } else { false }
-}
-
-// A member of one set, with a member of the other at or below it, or the other way round.
-fn is_larger(x: bool, below: bool, y: bool, under: bool) -> bool
-    ensures { λ r. ⌜ r ≡ (x && below || y && under) ⌝ }
-{
-    either(both(x, below), both(y, under))
-}
-
-// A set with one more code, or as it was.
-fn with_code(codes: u32, n: u32, wanted: bool) -> u32
-    requires { ⌜ n < 32 ⌝ }
-    ensures { λ r. ⌜ bits r ≡ union (bits codes) (only-if wanted (single n)) ⌝ }
-{
-    if wanted { codes | (1u32 << n) } else { codes }
-}
-
-// The larger of two codes, one of each set, for every such pair: one pass over the codes.
+// The larger of two codes, one of each set, for every such pair: a code with one of the other set at or below it.
 pub fn larger(a: u32, b: u32) -> u32
     ensures { λ r. ⌜ bits r ≡ maxima (bits a) (bits b) ⌝ }
 {
-    let mut all: u32 = 0;
-    let mut to_a = false;
-    let mut to_b = false;
-    for n in 0u32..32u32 {
-        let in_a = has_code(a, n);
-        let in_b = has_code(b, n);
-        to_a = either(to_a, in_a);
-        to_b = either(to_b, in_b);
-        all = with_code(all, n, is_larger(in_a, to_b, in_b, to_a));
-    }
-    all
+    a & from_lowest(b) | b & from_lowest(a)
 }
 
 // A statement's codes, from its kind and operand and its children's codes.

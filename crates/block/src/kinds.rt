@@ -1,4 +1,4 @@
-// The kinds of a statement's record, and the two numbers that an exit has.
+// The kinds of a statement's record, the two numbers that an exit has, and a number of the table as an index.
 ghost use mathlib.Core.Path.{_≡_};
 ghost use mathlib.Core.Bool.{cond};
 ghost use Prim.Native.Nat.{_<_};
@@ -17,6 +17,13 @@ pub fn code_of(d: Depth) -> Code
     ensures { λ r. ⌜ r .0 ≡ code (depth (d .0)) ⌝ }
 {
     Code((d.0 as u32) + 2)
+}
+
+// A number of the table as an index.
+pub fn wide(x: u16) -> usize
+    ensures { λ r. ⌜ (r ≡ x) × (r < 65536) ⌝ }
+{
+    x as usize
 }
 
 // A record's length, how many operands it has, and how many children the statement has.

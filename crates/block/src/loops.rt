@@ -1,6 +1,7 @@
 // The check of the loops: one walk over the table from the last statement to the first, with the codes of each statement.
 use crate::codes::codes_for;
 use crate::codes::has_code;
+use crate::kinds::wide;
 ghost use mathlib.Core.Path.{_≡_};
 ghost use mathlib.Core.Bool.{cond, _&&_};
 ghost use Prim.Native.Nat.{_+_, _≤_, _<_};
@@ -18,12 +19,6 @@ fn word_at(codes: &[u32; 512], at: usize) -> u32
     ensures { λ r. ⌜ r ≡ getD (now (codes .entry)) at 0 ⌝ }
 {
     if at < 512 { codes[at] } else { 0 }
-}
-
-fn wide(x: u16) -> usize
-    ensures { λ r. ⌜ (r ≡ x) × (r < 65536) ⌝ }
-{
-    x as usize
 }
 
 // The second child's number, after the first child and all below it.

@@ -47,11 +47,11 @@ pub(crate) fn read_at(
     kinds[n] = kind;
     operands[n] = kept(kind, s.operands, operand, r.pauses);
     let around = inner(c, kind, operand);
-    let next = passed(r, kind, s.length);
     if children == 0 {
         sizes[n] = 1;
-        return Read::Got(next);
+        return Read::Got(passed(r, kind, s.length));
     }
+    let next = passed(r, kind, s.length);
     let first = read_at(b, d, around, next, kinds, operands, sizes);
     match first {
         Read::Refused(number, place) => Read::Refused(number, place),

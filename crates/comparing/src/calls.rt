@@ -1,12 +1,12 @@
 // The only file that names the library's calls and answers. Each call gives its answer as numbers, in the order of its line: a
 // refusal's number comes first, 0 where there is none, and what is not named is 0.
-use block::whole::Summary;
 use foldheron::Begun;
 use foldheron::Checked;
+use foldheron::Doubt;
 use foldheron::Instant;
-use foldheron::Why;
-use reaction::Doubt;
-use reaction::Reaction;
+use foldheron::Reaction;
+use foldheron::Summary;
+use foldheron::number_of;
 
 // The places of all answers, of a check's and of an instant's.
 const NUMBER: usize = 0;
@@ -141,24 +141,4 @@ fn refused(number: u16, place: usize) -> [u64; 11] {
     n[NUMBER] = number as u64;
     n[PLACE] = place as u64;
     n
-}
-
-// The number of a refusal.
-fn number_of(why: Why) -> u16 {
-    match why {
-        Why::Broken => 1,
-        Why::Kind => 2,
-        Why::Edition => 3,
-        Why::Limit => 4,
-        Why::Signal => 5,
-        Why::Exit => 6,
-        Why::Shape => 7,
-        Why::Loop => 8,
-        Why::State => 9,
-        Why::Clash => 10,
-        Why::Input => 11,
-        Why::Room => 12,
-        Why::NotConstructive => 13,
-        Why::Index => 14,
-    }
 }

@@ -5,12 +5,12 @@ use mathlib.Core.List.{List}
 use Prim.Native.Nat.{ℕ, _<_}
 use native.Mathlib.Omega.{arith}
 use Rattle.sets.specs.Numbers.{Numbers, empty, single, union, without, only-if, maxima, downs}
-use Rattle.sets.specs.Words.{bits}
+use Rattle.sets.specs.Words.{bits, set-of}
 use Rattle.sets.proofs.Members.{ext}
 use Rattle.rules.specs.Statements.{depth, code, Stmt}
 use Rattle.rules.specs.Events.{Status, present, absent, unknown, Event, giving}
 use Rattle.rules.specs.Instant.{Step, test, catch, scope, chain, beside, held}
-use Rattle.rules.specs.MustCan.{plus, must, can, settled, gives}
+use Rattle.rules.specs.MustCan.{plus, must, can, local-status, gives}
 use Rattle.rules.specs.States.{kept, executed-as}
 use Rattle.block.specs.Table.{Table}
 use Rattle.evaluate.specs.declared.words.Heard.{Heard}
@@ -20,11 +20,11 @@ use Rattle.evaluate.specs.declared.pauses.Kept.{Kept}
 use Rattle.evaluate.specs.declared.form.Part.{Part}
 use Rattle.evaluate.specs.declared.form.Form.{Form}
 use Rattle.evaluate.specs.declared.form.Form.the-variants.{Done, Stay, Keep, Say, Leave, Test, Catch, Scope, Chain, Beside, Same}
-use Rattle.evaluate.specs.Words.{event-of, given-of, pauses-of, KeptWith}
+use Rattle.evaluate.specs.Words.{event-of, given-of, KeptWith}
 use Rattle.evaluate.specs.Forms.{At, Shows, Formed}
 use Rattle.evaluate.specs.Walks.{Walked, KeptAs, Keeping}
 
-pub kept-of : {r : Kept} {c : ℕ} {C A B : Numbers} → r .codes ≡ c → pauses-of (r .pauses) ≡ only-if (bits c 1) B → bits c ≡ C → B ≡ A → KeptWith r C A
+pub kept-of : {r : Kept} {c : ℕ} {C A B : Numbers} → r .codes ≡ c → set-of (r .pauses) ≡ only-if (bits c 1) B → bits c ≡ C → B ≡ A → KeptWith r C A
 kept-of h k f g = record { codes-are = ap bits h ∙ f; pauses-are = k ∙ ap₂ (λ (D X : Numbers). only-if (D 1) X) f g }
 
 pub with-later : (z : Bool) (X Y : Numbers) → z ≡ true → union X Y ≡ union X (only-if z Y)
@@ -41,55 +41,55 @@ module _ {A : Numbers} {tab : Table} {live : List Bool} {e : Heard} {r : Kept} w
   unfolding Shows
   keep-form h g = record { at = λ l p d. g .at l p (h .shows A l p d) }
 
-  pub keep-done : bits (r .codes) ≡ single 0 → pauses-of (r .pauses) ≡ empty → Keeping A tab live Done e r
+  pub keep-done : bits (r .codes) ≡ single 0 → set-of (r .pauses) ≡ empty → Keeping A tab live Done e r
   unfolding Shows gives kept
   keep-done c q = record { at = λ l p d. same-kept d (record { codes-are = c; pauses-are = q }) }
 
-  pub keep-say : {s : ℕ} → bits (r .codes) ≡ single 0 → pauses-of (r .pauses) ≡ empty → Keeping A tab live (Say s) e r
+  pub keep-say : {s : ℕ} → bits (r .codes) ≡ single 0 → set-of (r .pauses) ≡ empty → Keeping A tab live (Say s) e r
   unfolding Shows gives kept
   keep-say c q = record { at = λ l p d. same-kept (d .1) (record { codes-are = c; pauses-are = q }) }
 
-  pub keep-leave : {d : Depth} (n : ℕ) → n ≡ code (depth (d .0)) → (n < 32 → bits (r .codes) ≡ single n) → pauses-of (r .pauses) ≡ empty → Keeping A tab live (Leave d) e r
+  pub keep-leave : {d : Depth} (n : ℕ) → n ≡ code (depth (d .0)) → (n < 32 → bits (r .codes) ≡ single n) → set-of (r .pauses) ≡ empty → Keeping A tab live (Leave d) e r
   unfolding Shows gives kept code
   keep-leave {d} n q c z = record {
     at = λ l p w. let b : d .0 < 16 = w .0 in same-kept (w .1) (record { codes-are = c (omega arith) ∙ ap single q; pauses-are = z });
   }
 
-  pub keep-stay : {n : ℕ} → bits (r .codes) ≡ single 1 → (n < 128 → pauses-of (r .pauses) ≡ single n) → Keeping A tab live (Stay n) e r
+  pub keep-stay : {n : ℕ} → bits (r .codes) ≡ single 1 → (n < 128 → set-of (r .pauses) ≡ single n) → Keeping A tab live (Stay n) e r
   unfolding Shows gives kept
   keep-stay c q = record { at = λ l p d. same-kept (d .1) (record { codes-are = c; pauses-are = q (d .0) }) }
 
-  pub keep-held : {i : ℕ} → bits (r .codes) ≡ single 1 → ((t : Stmt) → At tab i t → pauses-of (r .pauses) ≡ held A t) → Keeping A tab live (Keep i) e r
+  pub keep-held : {i : ℕ} → bits (r .codes) ≡ single 1 → ((t : Stmt) → At tab i t → set-of (r .pauses) ≡ held A t) → Keeping A tab live (Keep i) e r
   unfolding Shows gives kept
   keep-held c q = record { at = λ l p d. same-kept (d .made) (record { codes-are = c; pauses-are = q (d .tree) (d .there) }) }
 
 -- The rules, as the walk meets them.
-present-kept : (s : ℕ) (p q : Step) (E : Event) {r a : Kept} → present ≡ E s → KeptWith r (bits (a .codes)) (pauses-of (a .pauses)) → KeptAs a p E → KeptAs r (test s p q) E
+present-kept : (s : ℕ) (p q : Step) (E : Event) {r a : Kept} → present ≡ E s → KeptWith r (bits (a .codes)) (set-of (a .pauses)) → KeptAs a p E → KeptAs r (test s p q) E
 unfolding gives kept
 present-kept s p q E e w k = record {
   codes-are = w .codes-are ∙ k .codes-are ∙ rw (← e);
   pauses-are = w .pauses-are ∙ ap₂ (λ (C B : Numbers). only-if (C 1) B) (k .codes-are) (k .pauses-are) ∙ rw (← e);
 }
 
-absent-kept : (s : ℕ) (p q : Step) (E : Event) {r a : Kept} → absent ≡ E s → KeptWith r (bits (a .codes)) (pauses-of (a .pauses)) → KeptAs a q E → KeptAs r (test s p q) E
+absent-kept : (s : ℕ) (p q : Step) (E : Event) {r a : Kept} → absent ≡ E s → KeptWith r (bits (a .codes)) (set-of (a .pauses)) → KeptAs a q E → KeptAs r (test s p q) E
 unfolding gives kept
 absent-kept s p q E e w k = record {
   codes-are = w .codes-are ∙ k .codes-are ∙ rw (← e);
   pauses-are = w .pauses-are ∙ ap₂ (λ (C B : Numbers). only-if (C 1) B) (k .codes-are) (k .pauses-are) ∙ rw (← e);
 }
 
-unknown-kept : (s : ℕ) (p q : Step) (E : Event) {r : Kept} → unknown ≡ E s → bits (r .codes) ≡ empty → pauses-of (r .pauses) ≡ empty → KeptAs r (test s p q) E
+unknown-kept : (s : ℕ) (p q : Step) (E : Event) {r : Kept} → unknown ≡ E s → bits (r .codes) ≡ empty → set-of (r .pauses) ≡ empty → KeptAs r (test s p q) E
 unfolding gives kept
 unknown-kept s p q E e c z = record { codes-are = c ∙ rw (← e); pauses-are = z ∙ rw (← e) }
 
-catch-kept : (p : Step) (E : Event) {r a : Kept} → KeptWith r (downs (bits (a .codes))) (pauses-of (a .pauses)) → KeptAs a p E → KeptAs r (catch p) E
+catch-kept : (p : Step) (E : Event) {r a : Kept} → KeptWith r (downs (bits (a .codes))) (set-of (a .pauses)) → KeptAs a p E → KeptAs r (catch p) E
 unfolding gives kept
 catch-kept p E w k = record {
   codes-are = w .codes-are ∙ ap downs (k .codes-are);
   pauses-are = w .pauses-are ∙ ap₂ (λ (C B : Numbers). only-if (downs C 1) B) (k .codes-are) (k .pauses-are);
 }
 
-beside-kept : (p q : Step) (E : Event) {r a b : Kept} → KeptWith r (maxima (bits (a .codes)) (bits (b .codes))) (union (pauses-of (a .pauses)) (pauses-of (b .pauses))) → KeptAs a p E → KeptAs b q E → KeptAs r (beside p q) E
+beside-kept : (p q : Step) (E : Event) {r a b : Kept} → KeptWith r (maxima (bits (a .codes)) (bits (b .codes))) (union (set-of (a .pauses)) (set-of (b .pauses))) → KeptAs a p E → KeptAs b q E → KeptAs r (beside p q) E
 unfolding gives kept
 beside-kept p q E w j k = record {
   codes-are = w .codes-are ∙ ap₂ maxima (j .codes-are) (k .codes-are);
@@ -98,7 +98,7 @@ beside-kept p q E w j k = record {
 
 abbrev Chained : Kept → Kept → Kept → Type 0
 Chained r a b =
-    KeptWith r (union (without 0 (bits (a .codes))) (only-if (bits (a .codes) 0) (bits (b .codes)))) (union (pauses-of (a .pauses)) (only-if (bits (a .codes) 0) (pauses-of (b .pauses))))
+    KeptWith r (union (without 0 (bits (a .codes))) (only-if (bits (a .codes) 0) (bits (b .codes)))) (union (set-of (a .pauses)) (only-if (bits (a .codes) 0) (set-of (b .pauses))))
 
 chain-kept : (p q : Step) (E : Event) {r a b : Kept} → Chained r a b → KeptAs a p E → KeptAs b q E → KeptAs r (chain p q) E
 unfolding gives kept
@@ -119,7 +119,7 @@ unfolding gives kept
 skip-kept p q E {a = a} b w z j = record {
   codes-are = w .codes-are ∙ codes;
   pauses-are = w .pauses-are
-      ∙ ap₂ (λ (C B : Numbers). only-if (C 1) B) codes (ap₂ union (j .pauses-are) (off (bits (a .codes) 0) (pauses-of (b .pauses)) (kept q E) z ∙ ap (λ (C : Numbers). only-if (C 0) (kept q E)) (j .codes-are)));
+      ∙ ap₂ (λ (C B : Numbers). only-if (C 1) B) codes (ap₂ union (j .pauses-are) (off (bits (a .codes) 0) (set-of (b .pauses)) (kept q E) z ∙ ap (λ (C : Numbers). only-if (C 0) (kept q E)) (j .codes-are)));
 }
   where
     codes : union (without 0 (bits (a .codes))) (only-if (bits (a .codes) 0) (bits (b .codes))) ≡ gives must (chain p q) E .codes
@@ -127,7 +127,7 @@ skip-kept p q E {a = a} b w z j = record {
         ap₂ union (ap (without 0) (j .codes-are))
         (off (bits (a .codes) 0) (bits (b .codes)) (gives must q E .codes) z ∙ ap (λ (C : Numbers). only-if (C 0) (gives must q E .codes)) (j .codes-are))
 
-scope-kept : (s : ℕ) (p : Step) (E F : Event) {r a : Kept} → F ≡ giving E s (executed-as s p E) → KeptWith r (bits (a .codes)) (pauses-of (a .pauses)) → KeptAs a p F → KeptAs r (scope s p) E
+scope-kept : (s : ℕ) (p : Step) (E F : Event) {r a : Kept} → F ≡ giving E s (executed-as s p E) → KeptWith r (bits (a .codes)) (set-of (a .pauses)) → KeptAs a p F → KeptAs r (scope s p) E
 unfolding gives kept
 scope-kept s p E F e w k = record {
   codes-are = w .codes-are ∙ k .codes-are ∙ ap (λ (G : Event). gives must p G .codes) e;
@@ -135,27 +135,27 @@ scope-kept s p E F e w k = record {
 }
 
 module _ {A : Numbers} {tab : Table} {live : List Bool} {e : Heard} {r : Kept} where
-  pub keep-present : {s : ℕ} {p q : Part} {a : Kept} → (s < 64 → present ≡ event-of e s) → KeptWith r (bits (a .codes)) (pauses-of (a .pauses)) → Keeping A tab live (Same p) e a → Keeping A tab live (Test s p q) e r
+  pub keep-present : {s : ℕ} {p q : Part} {a : Kept} → (s < 64 → present ≡ event-of e s) → KeptWith r (bits (a .codes)) (set-of (a .pauses)) → Keeping A tab live (Same p) e a → Keeping A tab live (Test s p q) e r
   unfolding Shows
   keep-present {s} v w k = record {
     at = λ l p d. let t = d .1 in same-kept (t .made) (present-kept s (t .first) (t .later) (event-of e) (v (d .0)) w (k .at l (t .first) (t .left)));
   }
 
-  pub keep-absent : {s : ℕ} {p q : Part} {a : Kept} → (s < 64 → absent ≡ event-of e s) → KeptWith r (bits (a .codes)) (pauses-of (a .pauses)) → Keeping A tab live (Same q) e a → Keeping A tab live (Test s p q) e r
+  pub keep-absent : {s : ℕ} {p q : Part} {a : Kept} → (s < 64 → absent ≡ event-of e s) → KeptWith r (bits (a .codes)) (set-of (a .pauses)) → Keeping A tab live (Same q) e a → Keeping A tab live (Test s p q) e r
   unfolding Shows
   keep-absent {s} v w k = record {
     at = λ l p d. let t = d .1 in same-kept (t .made) (absent-kept s (t .first) (t .later) (event-of e) (v (d .0)) w (k .at l (t .later) (t .right)));
   }
 
-  pub keep-unknown : {s : ℕ} {p q : Part} → (s < 64 → unknown ≡ event-of e s) → bits (r .codes) ≡ empty → pauses-of (r .pauses) ≡ empty → Keeping A tab live (Test s p q) e r
+  pub keep-unknown : {s : ℕ} {p q : Part} → (s < 64 → unknown ≡ event-of e s) → bits (r .codes) ≡ empty → set-of (r .pauses) ≡ empty → Keeping A tab live (Test s p q) e r
   unfolding Shows
   keep-unknown {s} v c z = record { at = λ l p d. let t = d .1 in same-kept (t .made) (unknown-kept s (t .first) (t .later) (event-of e) (v (d .0)) c z) }
 
-  pub keep-catch : {p : Part} {a : Kept} → KeptWith r (downs (bits (a .codes))) (pauses-of (a .pauses)) → Keeping A tab live (Same p) e a → Keeping A tab live (Catch p) e r
+  pub keep-catch : {p : Part} {a : Kept} → KeptWith r (downs (bits (a .codes))) (set-of (a .pauses)) → Keeping A tab live (Same p) e a → Keeping A tab live (Catch p) e r
   unfolding Shows
   keep-catch w k = record { at = λ l p t. same-kept (t .made) (catch-kept (t .inner) (event-of e) w (k .at l (t .inner) (t .does))) }
 
-  pub keep-beside : {p q : Part} {a b : Kept} → KeptWith r (maxima (bits (a .codes)) (bits (b .codes))) (union (pauses-of (a .pauses)) (pauses-of (b .pauses))) → Keeping A tab live (Same p) e a → Keeping A tab live (Same q) e b
+  pub keep-beside : {p q : Part} {a b : Kept} → KeptWith r (maxima (bits (a .codes)) (bits (b .codes))) (union (set-of (a .pauses)) (set-of (b .pauses))) → Keeping A tab live (Same p) e a → Keeping A tab live (Same q) e b
       → Keeping A tab live (Beside p q) e r
   unfolding Shows
   keep-beside w j k = record {
@@ -172,8 +172,8 @@ module _ {A : Numbers} {tab : Table} {live : List Bool} {e : Heard} {r : Kept} w
   unfolding Shows
   keep-skip b w z j = record { at = λ l p t. same-kept (t .made) (skip-kept (t .first) (t .later) (event-of e) b w z (j .at l (t .first) (t .left))) }
 
-  pub keep-scope : {s : ℕ} {p : Part} {u h : Heard} {m : MustCan} {a : Kept} (v : Status) → KeptWith r (bits (a .codes)) (pauses-of (a .pauses)) → (s < 64 → event-of u ≡ giving (event-of e) s unknown)
-      → Walked plus tab live (Same p) u m → (s < 64 → v ≡ settled (can plus) s (given-of (m .must)) (given-of (m .can))) → (s < 64 → event-of h ≡ giving (event-of e) s v) → Keeping A tab live (Same p) h a
+  pub keep-scope : {s : ℕ} {p : Part} {u h : Heard} {m : MustCan} {a : Kept} (v : Status) → KeptWith r (bits (a .codes)) (set-of (a .pauses)) → (s < 64 → event-of u ≡ giving (event-of e) s unknown)
+      → Walked plus tab live (Same p) u m → (s < 64 → v ≡ local-status (can plus) s (given-of (m .must)) (given-of (m .can))) → (s < 64 → event-of h ≡ giving (event-of e) s v) → Keeping A tab live (Same p) h a
       → Keeping A tab live (Scope s p) e r
   unfolding Shows
   keep-scope {s} {h = h} v w uk wa st hv k = record {
@@ -182,5 +182,5 @@ module _ {A : Numbers} {tab : Table} {live : List Bool} {e : Heard} {r : Kept} w
         let m = wa .in-must refl .at A l (t .inner) (t .does) ∙ ap (gives must (t .inner)) (uk (d .0)) in
         let n = wa .in-can .at A l (t .inner) (t .does) ∙ ap (gives (can plus) (t .inner)) (uk (d .0)) in
         same-kept (t .made)
-        (scope-kept s (t .inner) (event-of e) (event-of h) (hv (d .0) ∙ ap (giving (event-of e) s) (st (d .0) ∙ ap₂ (settled must s) m n)) w (k .at l (t .inner) (t .does)));
+        (scope-kept s (t .inner) (event-of e) (event-of h) (hv (d .0) ∙ ap (giving (event-of e) s) (st (d .0) ∙ ap₂ (local-status must s) m n)) w (k .at l (t .inner) (t .does)));
   }

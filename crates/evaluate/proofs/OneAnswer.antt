@@ -5,14 +5,12 @@ use Prim.Native.Nat.{ℕ, _+_, _^_, _<_}
 use native.Mathlib.Omega.{arith}
 use lib.ListN.{getD}
 use Rattle.sets.specs.Numbers.{Numbers, count}
-use Rattle.sets.specs.Words.{bits}
+use Rattle.sets.specs.Words.{bits, set-of}
 use Rattle.sets.proofs.Words.{bits-ext, bits-ext-to}
 use Rattle.rules.specs.Statements.{Block}
-use Rattle.rules.specs.Events.{Status}
 use Rattle.rules.specs.Rounds.{Answer, answered, not-constructive}
 use Rattle.evaluate.specs.declared.rounds.Reacted.{Reacted}
-use Rattle.evaluate.specs.Words.{pauses-of}
-use Rattle.evaluate.specs.Reacts.{Stands, Answers}
+use Rattle.evaluate.specs.Reacts.{Answers}
 use Rattle.evaluate.proofs.PauseLaws.{low-pause, high-pause}
 
 -- Two answers whose fields are equal; of the two words kept, the elements are.
@@ -30,10 +28,10 @@ pub record SameAnswer (r s : Reacted) : Type 0 where
 word-eq : {a b : ℕ} {S : Numbers} → bits a ≡ S → bits b ≡ S → a ≡ b
 word-eq e f = bits-ext (λ k. ap (λ (w : Numbers). w k) (e ∙ sym f))
 
-low-eq : (v w : List ℕ) → getD v 0 0 < 2 ^ 64 → getD w 0 0 < 2 ^ 64 → pauses-of v ≡ pauses-of w → getD v 0 0 ≡ getD w 0 0
+low-eq : (v w : List ℕ) → getD v 0 0 < 2 ^ 64 → getD w 0 0 < 2 ^ 64 → set-of v ≡ set-of w → getD v 0 0 ≡ getD w 0 0
 low-eq v w h l e = bits-ext-to 64 h l (λ n k. sym (low-pause v n k) ∙ ap (λ (x : Numbers). x n) e ∙ low-pause w n k)
 
-high-eq : (v w : List ℕ) → pauses-of v ≡ pauses-of w → getD v 1 0 ≡ getD w 1 0
+high-eq : (v w : List ℕ) → set-of v ≡ set-of w → getD v 1 0 ≡ getD w 1 0
 high-eq v w e = bits-ext go
   where
     go : (n : ℕ) → bits (getD v 1 0) n ≡ bits (getD w 1 0) n

@@ -13,17 +13,20 @@ use lib.Pow.{pow-pos}
 use lib.Bits.{bitAnd, bitOr, bitXor, and-mask}
 use borrow.Author.Tests.{eq-eqb}
 use Rattle.sets.specs.Numbers.{Numbers, empty, count, lowest}
-use Rattle.sets.specs.Words.{bits}
+use Rattle.sets.specs.Words.{bits, set-of}
 use Rattle.sets.proofs.Members.{is-true, is-false, of-true, of-false, ext, same, and-in, and-left, and-right}
 use Rattle.sets.proofs.Counts.{count-add, count-cong, count-none, count-first, lowest-some, lowest-in, lowest-empty}
-use Rattle.sets.proofs.Words.{bits-zero, bits-and, bits-or, bits-less, bits-ext}
+use Rattle.sets.proofs.Words.{below-power, bits-zero, bits-and, bits-or, bits-less, bits-ext}
 use Rattle.rules.specs.Statements.{Block, Stmt}
 use Rattle.rules.specs.Events.{Status, present, absent, unknown, Event, known, event}
 use Rattle.rules.specs.Instant.{Step}
 use Rattle.rules.specs.MustCan.{plus, must, can, Given, marked, gives}
-use Rattle.rules.specs.States.{running, finished, step, kept, next}
+use Rattle.rules.specs.States.{running, finished, active-of, step, kept, next}
 use Rattle.rules.specs.Rounds as rules
 use Rattle.block.specs.Table.{Table}
+use Rattle.theorems.specs.Reach.{Reached, at-first, settling}
+use Rattle.theorems.proofs.Reach.{round-settles}
+use Rattle.theorems.proofs.RoundsEnd.{nothing-left}
 use Rattle.evaluate.specs.declared.words.Heard.{Heard}
 use Rattle.evaluate.specs.declared.words.MustCan.{MustCan}
 use Rattle.evaluate.specs.declared.form.Part.{Part}
@@ -32,12 +35,12 @@ use Rattle.evaluate.specs.declared.pauses.Kept.{Kept}
 use Rattle.evaluate.specs.declared.rounds.Ended.{Ended}
 use Rattle.evaluate.specs.declared.rounds.Phase.{Phase}
 use Rattle.evaluate.specs.declared.rounds.Reacted.{Reacted}
-use Rattle.evaluate.specs.Words.{status-of, event-of, given-of, pauses-of}
+use Rattle.evaluate.specs.Words.{status-of, event-of, given-of}
 use Rattle.evaluate.specs.Forms.{At, Live, step-of, Does, Shows}
 use Rattle.evaluate.specs.Walks.{Walked, Keeping}
-use Rattle.rules.specs.Rounds.{undecided}
-use Rattle.evaluate.specs.Reacts.{outs-from, statuses, marks-of, Fine, Marks, Sized, Rounded, Ends, state-of, outputs-with, active-in, Stands, Answered, Undecided, Answers, Reacts}
-use Rattle.evaluate.proofs.WordLaws.{shifted, power-of, below-power}
+use Rattle.rules.specs.Rounds.{undecided, outputs-with}
+use Rattle.evaluate.specs.Reacts.{outs-from, statuses, marks-of, Fine, Marks, Sized, Rounded, Ends, state-of, Stands, Answered, Undecided, Answers, Reacts}
+use Rattle.evaluate.proofs.WordLaws.{shifted, power-of}
 
 -- Masks.
 pub shift-pos : (w s : ℕ) → s < w → 1 ≤ (1 * 2 ^ s) % 2 ^ w
@@ -353,6 +356,7 @@ pub record SameEnd (b : Block) (p : Step) (G : Numbers) (f : ℕ) (outs : List S
 pub record Progress (tab : Table) (live : List Bool) (c : Part) (i n given : ℕ) (m : Heard) (k : ℕ) : Type 0 where
   pub fine : Fine (outs-from i n) m
   pub goes : (A : Numbers) → Live tab A live → (p : Step) → Does tab A c p → (b : Block) → Sized b i n → SameEnd b p (bits given) (suc n) (rules.begin b) (suc n - k) (marks-of b m) k
+  pub reached : (A : Numbers) → Live tab A live → (p : Step) → Does tab A c p → (b : Block) → Sized b i n → Reached b p (bits given) (marks-of b m)
 
 abbrev no-marks : Heard
 no-marks = record { present = 0; absent = 0 }
@@ -380,7 +384,29 @@ progress-none i n {given} = record {
     statuses-eq = ap₂ (λ (f : ℕ) (vs : List Status). rules.settle b p (bits given) f vs .statuses) (all-left n) (begins b);
     rounds-eq = ap₂ (λ (f : ℕ) (vs : List Status). rules.settle b p (bits given) f vs .rounds) (all-left n) (begins b) ∙ sym (zero-add (rules.settle b p (bits given) (suc n - 0) (marks-of b no-marks) .rounds));
   };
+  reached = λ A l p d b z. subst (Reached b p (bits given)) (begins b) at-first;
 }
+
+-- The next round is the last where it changes nothing, and so where no output is undecided.
+module _ {tab : Table} {live : List Bool} {c : Part} {i n given : ℕ} {m : Heard} {k : ℕ} (q : Progress tab live c i n given m k) (h : k ≤ n) where
+  pub ends-here : ((A : Numbers) → Live tab A live → (p : Step) → Does tab A c p → (b : Block) → Sized b i n → rules.round b p (bits given) (marks-of b m) ≡ marks-of b m)
+      → Ends tab live c i n given (record { marks = m; rounds = k + 1 })
+  ends-here v = record {
+    fine = q .fine;
+    statuses-are = λ A l p d b z. sym (q .goes A l p d b z .statuses-eq ∙ ap (λ (x : rules.Settled). x .statuses) (stop A l p d b z));
+    rounds-are = λ A l p d b z. sym (q .goes A l p d b z .rounds-eq ∙ ap (λ (x : rules.Settled). k + x .rounds) (stop A l p d b z));
+  }
+    where
+      left : suc n - k ≡ suc (n - k)
+      left = omega arith
+
+      stop : (A : Numbers) → Live tab A live → (p : Step) → Does tab A c p → (b : Block) → Sized b i n → rules.settle b p (bits given) (suc n - k) (marks-of b m) ≡ record { statuses = marks-of b m; rounds = 1 }
+      stop A l p d b z =
+          ap (λ (f : ℕ). rules.settle b p (bits given) f (marks-of b m)) left
+          ∙ settle-stop b p (bits given) (n - k) (marks-of b m) (ap (λ (vs : List Status). rules.all-same vs (marks-of b m)) (v A l p d b z) ∙ all-self (marks-of b m))
+
+  pub progress-decided : undecided (statuses i n m) ≡ 0 → Ends tab live c i n given (record { marks = m; rounds = k + 1 })
+  progress-decided e = ends-here (λ A l p d b z. nothing-left b p (bits given) (q .reached A l p d b z) (ap₂ (λ (x y : ℕ). undecided (statuses x y m)) (z .its-inputs) (z .its-outputs) ∙ e))
 
 module _ {tab : Table} {live : List Bool} {c : Part} {i n given : ℕ} {m r : Heard} {k : ℕ} (q : Progress tab live c i n given m k) (h : k ≤ n) (w : Rounded tab live c i n given m r) where
   changed : (b : Block) → Sized b i n → (eqb (r .present) (m .present) && eqb (r .absent) (m .absent)) ≡ false → marks-of b r ≡ marks-of b m → ⊥
@@ -415,14 +441,11 @@ module _ {tab : Table} {live : List Bool} {c : Part} {i n given : ℕ} {m r : He
           statuses-eq = u .statuses-eq ∙ ap (λ (x : rules.Settled). x .statuses) on ∙ ap (λ (x : rules.Settled). x .statuses) next;
           rounds-eq = u .rounds-eq ∙ ap (λ (x : rules.Settled). k + x .rounds) on ∙ omega (arith, ap (λ (x : rules.Settled). x .rounds) next);
         };
+    reached = λ A l p d b z. subst (Reached b p (bits given)) (sym (w .rounds A l p d b z (q .fine))) (settling (q .reached A l p d b z) (round-settles b p (bits given) (marks-of b m)));
   }
 
   pub progress-stop : (eqb (r .present) (m .present) && eqb (r .absent) (m .absent)) ≡ true → Ends tab live c i n given (record { marks = m; rounds = k + 1 })
-  progress-stop e = record {
-    fine = q .fine;
-    statuses-are = λ A l p d b z. sym (q .goes A l p d b z .statuses-eq ∙ ap (λ (x : rules.Settled). x .statuses) (stop A l p d b z));
-    rounds-are = λ A l p d b z. sym (q .goes A l p d b z .rounds-eq ∙ ap (λ (x : rules.Settled). k + x .rounds) (stop A l p d b z));
-  }
+  progress-stop e = ends-here q h (λ A l p d b z. sym (w .rounds A l p d b z (q .fine)) ∙ ap (marks-of b) same-words)
     where
       same-words : r ≡ m
       same-words =
@@ -431,12 +454,6 @@ module _ {tab : Table} {live : List Bool} {c : Part} {i n given : ℕ} {m r : He
             present = lib.Dec.eqb→eq (r .present) (m .present) (and-left (eqb (r .present) (m .present)) (eqb (r .absent) (m .absent)) t) j;
             absent = lib.Dec.eqb→eq (r .absent) (m .absent) (and-right (eqb (r .present) (m .present)) (eqb (r .absent) (m .absent)) t) j;
           }
-
-      stop : (A : Numbers) → Live tab A live → (p : Step) → Does tab A c p → (b : Block) → Sized b i n → rules.settle b p (bits given) (suc n - k) (marks-of b m) ≡ record { statuses = marks-of b m; rounds = 1 }
-      stop A l p d b z =
-          let v : rules.round b p (bits given) (marks-of b m) ≡ marks-of b m = sym (w .rounds A l p d b z (q .fine)) ∙ ap (marks-of b) same-words in
-          ap (λ (f : ℕ). rules.settle b p (bits given) f (marks-of b m)) left
-          ∙ settle-stop b p (bits given) (n - k) (marks-of b m) (ap (λ (vs : List Status). rules.all-same vs (marks-of b m)) v ∙ all-self (marks-of b m))
 
 pub progress-end : {tab : Table} {live : List Bool} {c : Part} {i n given : ℕ} {m : Heard} {k : ℕ} → Progress tab live c i n given m k → n < k → k ≤ n + 1 → Ends tab live c i n given (record { marks = m; rounds = k })
 progress-end {n = n} {given} {m} {k} q h l = record {
@@ -464,23 +481,25 @@ unknown-bit true a = refl
 unknown-bit false true = refl
 unknown-bit false false = refl
 
-module _ (m : Heard) (i n : ℕ) (f : Fine (outs-from i n) m) where
-  before-none : (k : ℕ) → (i ≤ k → ⊥) → outs-from i n k ≡ false
-  before-none k g = not-outs i n k (λ h l. g h)
-
-  with-status : (v : Status) (w : Numbers) → ((k : ℕ) → outs-from i n k ≡ false → w k ≡ false) → ((k : ℕ) → rules.same (event-of m k) v ≡ w k) → w ≡ outputs-with v i (statuses i n m)
-  with-status v w gone each = ext (λ k. go k (decLe i k))
+module _ (b : Block) (m : Heard) (f : Fine (outs-from (b .inputs) (b .outputs)) m) where
+  -- A word of the marks has the outputs with a status.
+  with-status : (v : Status) (w : Numbers) → ((k : ℕ) → outs-from (b .inputs) (b .outputs) k ≡ false → w k ≡ false) → ((k : ℕ) → rules.same (event-of m k) v ≡ w k) → w ≡ outputs-with v b (marks-of b m)
+  unfolding outputs-with
+  with-status v w gone each = ext (λ k. go k (decLe (b .inputs) k))
     where
-      go : (k : ℕ) → Dec (i ≤ k) → w k ≡ (leb i k && rules.same (getD (statuses i n m) (k - i) unknown) v)
-      go k (yes h) =
-          sym (ap (λ (x : Bool). x && rules.same (getD (statuses i n m) (k - i) unknown) v) (is-true (leb i k) (le→leb i k h)) ∙ ap (λ (x : Status). rules.same x v) (status-at m i n k f h) ∙ each k)
-      go k (no g) = gone k (before-none k g) ∙ sym (ap (λ (x : Bool). x && rules.same (getD (statuses i n m) (k - i) unknown) v) (is-false (leb i k) (λ t. g (leb→le i k t))))
+      with-bit : (x : Bool) (k : ℕ) → leb (b .inputs) k ≡ x → outputs-with v b (marks-of b m) k ≡ (x && rules.same (getD (marks-of b m) (k - b .inputs) unknown) v)
+      with-bit x k e = ap (λ (y : Bool). y && rules.same (getD (marks-of b m) (k - b .inputs) unknown) v) e
 
-  pub present-words : bits (m .present) ≡ outputs-with present i (statuses i n m)
+      go : (k : ℕ) → Dec (b .inputs ≤ k) → w k ≡ outputs-with v b (marks-of b m) k
+      go k (yes h) =
+          sym (with-bit true k (is-true (leb (b .inputs) k) (le→leb (b .inputs) k h)) ∙ ap (λ (x : Status). rules.same x v) (status-at m (b .inputs) (b .outputs) k f h) ∙ each k)
+      go k (no g) = gone k (not-outs (b .inputs) (b .outputs) k (λ h l. g h)) ∙ sym (with-bit false k (is-false (leb (b .inputs) k) (λ t. g (leb→le (b .inputs) k t))))
+
+  pub present-words : bits (m .present) ≡ outputs-with present b (marks-of b m)
   unfolding event-of
   present-words = with-status present (bits (m .present)) (no-present f) (λ k. present-bit (bits (m .present) k) (bits (m .absent) k))
 
-  pub absent-words : bits (m .absent) ≡ outputs-with absent i (statuses i n m)
+  pub absent-words : bits (m .absent) ≡ outputs-with absent b (marks-of b m)
   unfolding event-of
   absent-words = with-status absent (bits (m .absent)) (no-absent f) (λ k. absent-bit (bits (m .present) k) (bits (m .absent) k) (f .apart k))
 
@@ -545,17 +564,17 @@ module _ (c w : ℕ) (legal : (n : ℕ) → bits w n ≡ (ltb n 18 && bits c n))
 module _ {b : Block} {i n : ℕ} {m : Heard} (z : Sized b i n) (f : Fine (outs-from i n) m) where
   pub stands : {r : Reacted} → r .present ≡ m .present → r .absent ≡ m .absent → r .undecided ≡ undecided (statuses i n m) → (k : ℕ) → r .rounds ≡ k → Stands b (marks-of b m) k r
   stands p a u k e = record {
-    present-is = ap bits p ∙ present-words m (b .inputs) (b .outputs) (fine-block z f);
-    absent-is = ap bits a ∙ absent-words m (b .inputs) (b .outputs) (fine-block z f);
+    present-is = ap bits p ∙ present-words b m (fine-block z f);
+    absent-is = ap bits a ∙ absent-words b m (fine-block z f);
     undecided-is = u ∙ ap₂ (λ (x y : ℕ). undecided (statuses x y m)) (sym (z .its-inputs)) (sym (z .its-outputs));
     rounds-is = e;
   }
 
-pub state-active : (c : ℕ) (A : Numbers) → active-in (next c A) ≡ cond (eqb c 1) A empty
-unfolding next
+pub state-active : (c : ℕ) (A : Numbers) → active-of (next c A) ≡ cond (eqb c 1) A empty
+unfolding next active-of
 state-active c A = go (eqb c 1)
   where
-    go : (x : Bool) → active-in (cond x (running A) finished) ≡ cond x A empty
+    go : (x : Bool) → active-of (cond x (running A) finished) ≡ cond x A empty
     go true = refl
     go false = refl
 
@@ -576,8 +595,8 @@ module _ {b : Block} {e : rules.Settled} {r : Reacted} where
   unfolding Answers rules.answer
   is-known o A c q u = subst (λ (x : Option ℕ). Answers b (rules.answer e x A) r) (sym q) u
 
-pub kept-answer : {b : Block} {outs : List Status} {k : ℕ} {r : Reacted} (c : ℕ) (A : Numbers) → r .known ≡ true → Stands b outs k r → r .code .0 ≡ c → pauses-of (r .kept) ≡ cond (eqb c 1) A empty
-    → r .active ≡ count 128 (pauses-of (r .kept)) → Answered b outs c (next c A) k r
+pub kept-answer : {b : Block} {outs : List Status} {k : ℕ} {r : Reacted} (c : ℕ) (A : Numbers) → r .known ≡ true → Stands b outs k r → r .code .0 ≡ c → set-of (r .kept) ≡ cond (eqb c 1) A empty
+    → r .active ≡ count 128 (set-of (r .kept)) → Answered b outs c (next c A) k r
 kept-answer c A kn st cd kp ac = record {
   known-is = kn;
   stands = st;
@@ -602,7 +621,7 @@ pub instant-is : {tab : Table} {live : List Bool} {A : Numbers} {c : Part} {e : 
     → ((B : Numbers) (t : Stmt) → step-of (c .going) B t ≡ step t (state-of ph B)) → Live tab A live → Ends tab live c i n given end
     → ((b : Block) (k : ℕ) → Sized b i k → Fine (outs-from i k) (end .marks) → event-of e ≡ event b (bits given) (marks-of b (end .marks))) → Keeping A tab live (Same c) e last
     → ((b : Block) → Sized b i n → Fine (outs-from i n) (end .marks)
-    → Answers b (rules.answer (record { statuses = marks-of b (end .marks); rounds = end .rounds }) (lowest rules.code-width (bits (last .codes))) (pauses-of (last .pauses))) r)
+    → Answers b (rules.answer (record { statuses = marks-of b (end .marks); rounds = end .rounds }) (lowest rules.code-width (bits (last .codes))) (set-of (last .pauses))) r)
     → Reacts (record { inputs = i; outputs = n; body = body }) ph A (bits given) r
 unfolding Shows
 instant-is {tab} {live} {A} {c} {e} {end} {last} r i n given ph body there going l ends ev keeps answers =
@@ -612,5 +631,5 @@ instant-is {tab} {live} {A} {c} {e} {end} {last} r i n given ph body there going
     let d : Does tab A c p = record { tree = body; there = there; its-step = sym (going A body) } in
     let k = keeps .at l p d in
     let E = ev b n z (ends .fine) in
-    reacts-is b ph A (bits given) r (end .marks) (end .rounds) (bits (last .codes)) (pauses-of (last .pauses)) (ends .statuses-are A l p d b z) (ends .rounds-are A l p d b z)
+    reacts-is b ph A (bits given) r (end .marks) (end .rounds) (bits (last .codes)) (set-of (last .pauses)) (ends .statuses-are A l p d b z) (ends .rounds-are A l p d b z)
     (k .codes-are ∙ ap (λ (F : Event). gives must p F .codes) E) (k .pauses-are ∙ ap (kept p) E) (answers b z (ends .fine))

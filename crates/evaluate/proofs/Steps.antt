@@ -10,7 +10,7 @@ use Rattle.sets.specs.Words.{bits}
 use Rattle.rules.specs.Statements.{depth, code}
 use Rattle.rules.specs.Events.{Status, present, absent, unknown, Event, giving}
 use Rattle.rules.specs.Instant.{Step, leave, test}
-use Rattle.rules.specs.MustCan.{Mark, plus, opened, Question, must, can, Given, nothing-known, either, caught, both, followed, onward, settled, hidden, gives}
+use Rattle.rules.specs.MustCan.{Mark, plus, opened, Question, must, can, Given, nothing-known, either, caught, both, followed, onward, local-status, hidden, gives}
 use Rattle.block.specs.Table.{Table}
 use Rattle.evaluate.specs.declared.words.Heard.{Heard}
 use Rattle.evaluate.specs.declared.words.Told.{Told}
@@ -119,7 +119,7 @@ module _ {k : Question} {tab : Table} {live : List Bool} {e : Heard} {x : Told} 
 
   -- A local: its body with the signal unknown gives the status.
   pub via-scope : {s : ℕ} {p : Part} {u h : Heard} {a : MustCan} {b : Told} (v : Status) → (s < 64 → given-of x ≡ hidden s (given-of b))
-      → (s < 64 → event-of u ≡ giving (event-of e) s unknown) → Walked plus tab live (Same p) u a → (s < 64 → v ≡ settled k s (given-of (a .must)) (given-of (a .can)))
+      → (s < 64 → event-of u ≡ giving (event-of e) s unknown) → Walked plus tab live (Same p) u a → (s < 64 → v ≡ local-status k s (given-of (a .must)) (given-of (a .can)))
       → (s < 64 → event-of h ≡ giving (event-of e) s v) → Gives k tab live (Same p) h b → Gives k tab live (Scope s p) e x
   unfolding Shows gives
   via-scope {s} v r uk wa st hv g = record {
@@ -128,7 +128,7 @@ module _ {k : Question} {tab : Table} {live : List Bool} {e : Heard} {x : Told} 
         let m = wa .in-must refl .at A l (w .inner) (w .does) ∙ ap (gives must (w .inner)) (uk (d .0)) in
         let n = wa .in-can .at A l (w .inner) (w .does) ∙ ap (gives (can plus) (w .inner)) (uk (d .0)) in
         r (d .0)
-        ∙ ap (hidden s) (g .at A l (w .inner) (w .does) ∙ ap (gives k (w .inner)) (hv (d .0) ∙ ap (giving (event-of e) s) (st (d .0) ∙ ap₂ (settled k s) m n)))
+        ∙ ap (hidden s) (g .at A l (w .inner) (w .does) ∙ ap (gives k (w .inner)) (hv (d .0) ∙ ap (giving (event-of e) s) (st (d .0) ∙ ap₂ (local-status k s) m n)))
         ∙ same-step k e (w .made);
   }
 
@@ -189,11 +189,11 @@ walked-skip {a = a} {x = x} {y} f wa o s z = record {
 }
 
 -- A local, asked again under its mark, or not.
-as-must : (a : MustCan) (s : ℕ) {m : Mark} {v : Status} → (s < 64 → v ≡ settled (can m) s (given-of (a .must)) (given-of (a .can))) → m ≡ plus → s < 64 → v ≡ settled must s (given-of (a .must)) (given-of (a .can))
-as-must a s st h l = st l ∙ ap (λ (y : Mark). settled (can y) s (given-of (a .must)) (given-of (a .can))) h
+as-must : (a : MustCan) (s : ℕ) {m : Mark} {v : Status} → (s < 64 → v ≡ local-status (can m) s (given-of (a .must)) (given-of (a .can))) → m ≡ plus → s < 64 → v ≡ local-status must s (given-of (a .must)) (given-of (a .can))
+as-must a s st h l = st l ∙ ap (λ (y : Mark). local-status (can y) s (given-of (a .must)) (given-of (a .can))) h
 
 module _ {m : Mark} {tab : Table} {live : List Bool} {e u : Heard} {s : ℕ} {p : Part} {a : MustCan} (v : Status) (doubt : s < 64 → event-of u ≡ giving (event-of e) s unknown) (wa : Walked plus tab live (Same p) u a)
-    (st : s < 64 → v ≡ settled (can m) s (given-of (a .must)) (given-of (a .can))) where
+    (st : s < 64 → v ≡ local-status (can m) s (given-of (a .must)) (given-of (a .can))) where
   pub walked-local : {h : Heard} {b r : MustCan} → (s < 64 → Hidden r s b) → (s < 64 → event-of h ≡ giving (event-of e) s v) → Walked m tab live (Same p) h b → Walked m tab live (Scope s p) e r
   walked-local hid hv wb = record {
     in-must = λ q. via-scope v (λ l. hid l .in-must) doubt wa (as-must a s st q) hv (wb .in-must q);

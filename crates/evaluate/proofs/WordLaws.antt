@@ -1,22 +1,15 @@
 -- Each rule over words is the rule over sets: a law for each way through the functions of words.rt, bit by bit. Assumes nothing.
 use mathlib.Core.Path.{_≡_, refl, fun-ext, sym, ap, ap₂, _∙_}
 use mathlib.Core.Bool.{Bool, true, false, not, cond, _&&_, _||_, or-false}
-use mathlib.Core.Option.{Option, none, some}
-use Prim.Native.Nat.{ℕ, zero, suc, _+_, _-_, _*_, _/_, _%_, _^_, _≤_, _<_}
-use native.Mathlib.Decide.{decLt}
-use native.Mathlib.Omega.{arith}
-use lib.Dec.{T, eqb, ltb, lt→ltb, ltb→lt}
-use lib.Pow.{pow-lt, pow-pos}
-use lib.Bits.{bitAnd, bitOr, bitXor, or-lt}
-use lib.Count.{trailingZeros}
-use Rattle.sets.specs.Numbers.{Numbers, empty, single, union, without, only-if, some-to, maxima, downs, lowest}
+use Prim.Native.Nat.{ℕ, _-_, _*_, _%_, _^_, _<_}
+use lib.Dec.{eqb}
+use lib.Bits.{bitAnd, bitOr, bitXor}
+use Rattle.sets.specs.Numbers.{Numbers, empty, single, union, without, only-if, maxima, downs}
 use Rattle.sets.specs.Words.{bits}
-use Rattle.sets.proofs.Members.{is-true, is-false, of-false, ext}
-use Rattle.sets.proofs.Maxima.{some-to-in, some-to-out}
-use Rattle.sets.proofs.Counts.{lowest-some, lowest-none}
-use Rattle.sets.proofs.Words.{bits-first, bits-suc, bits-zero, bits-high, bits-and, bits-or, bits-less, bits-ext, bits-not, bits-mask-test, trailing-some, is-set, is-single, is-shift, is-same}
+use Rattle.sets.proofs.Members.{ext}
+use Rattle.sets.proofs.Words.{bits-zero, bits-or, bits-less, bits-mask-test, is-set, is-single, is-shift, is-same}
 use Rattle.rules.specs.Events.{present, absent, unknown, giving}
-use Rattle.rules.specs.MustCan.{plus, opened, can, Given, nothing-known, either, caught, both, followed, marked, settled, hidden}
+use Rattle.rules.specs.MustCan.{plus, opened, can, Given, nothing-known, either, caught, both, followed, marked, local-status, hidden}
 use Rattle.evaluate.specs.declared.words.Heard.{Heard}
 use Rattle.evaluate.specs.declared.words.Told.{Told}
 use Rattle.evaluate.specs.declared.words.MustCan.{MustCan}
@@ -119,28 +112,6 @@ pub either-is : (a b : Told) → given-of (record { signals = bitOr (a .signals)
 unfolding given-of
 either-is a b = given-eq (union-is (a .signals) (b .signals)) (union-is (a .codes) (b .codes))
 
--- From the lowest code on.
-lowest-zero : (c : ℕ) → c < 2 ^ 32 → lowest 32 (bits c) ≡ none → c ≡ 0
-lowest-zero c h e = bits-ext (λ n. go n (decLt n 32) ∙ sym (bits-zero n))
-  where
-    go : (n : ℕ) → Dec (n < 32) → bits c n ≡ false
-    go n (yes l) = is-false (bits c n) (lowest-none 32 (bits c) e n l)
-    go n (no l) = bits-high 32 h (omega arith)
-
-pub lowest-there : (c : ℕ) → c < 2 ^ 32 → (c ≡ 0 → ⊥) → lowest 32 (bits c) ≡ some (trailingZeros 32 c)
-lowest-there c h f = go (lowest 32 (bits c)) refl
-  where
-    go : (o : Option ℕ) → lowest 32 (bits c) ≡ o → lowest 32 (bits c) ≡ some (trailingZeros 32 c)
-    go none e = absurd (f (lowest-zero c h e))
-    go (some k) e = e ∙ ap some (sym (trailing-some 32 c e))
-
-pub below-power : (k n : ℕ) → bits (2 ^ k - 1) n ≡ ltb n k
-below-power k n = ap (λ (x : ℕ). bits x n) (omega arith) ∙ bits-not k 0 n (pow-pos k) ∙ ap (λ (b : Bool). ltb n k && not b) (bits-zero n) ∙ go (ltb n k)
-  where
-    go : (b : Bool) → (b && true) ≡ b
-    go true = refl
-    go false = refl
-
 pub caught-is : (a : Told) (w : ℕ) → bits w ≡ downs (bits (a .codes)) → given-of (record { signals = a .signals; codes = w }) ≡ caught (given-of a)
 unfolding given-of
 caught-is a w e = given-eq refl e
@@ -175,10 +146,10 @@ unfolding given-of
 hidden-is a b s one = given-eq (ext (without-bit (a .signals) b s one)) refl
 
 module _ (a : MustCan) (s : ℕ) {sure may : Bool} (u : sure ≡ bits (a .must .signals) s) (v : may ≡ bits (a .can .signals) s) where
-  pub settled-plus : marked sure may unknown ≡ settled (can plus) s (given-of (a .must)) (given-of (a .can))
+  pub settled-plus : marked sure may unknown ≡ local-status (can plus) s (given-of (a .must)) (given-of (a .can))
   unfolding given-of
   settled-plus = ap₂ (λ (x y : Bool). marked x y unknown) u v
 
-  pub settled-open : marked false may unknown ≡ settled (can opened) s (given-of (a .must)) (given-of (a .can))
+  pub settled-open : marked false may unknown ≡ local-status (can opened) s (given-of (a .must)) (given-of (a .can))
   unfolding given-of
   settled-open = ap (λ (y : Bool). marked false y unknown) v

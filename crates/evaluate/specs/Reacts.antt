@@ -1,18 +1,17 @@
 -- How the code's words and numbers stand for the answer to an instant. Assumes nothing.
 use mathlib.Core.Path.{_≡_}
-use mathlib.Core.Bool.{Bool, true, false, cond, _&&_}
+use mathlib.Core.Bool.{Bool, true, false, _&&_}
 use mathlib.Core.List.{List, [], _∷_}
 use Prim.Native.Nat.{ℕ, zero, suc, _+_, _-_}
 use lib.Dec.{leb, ltb}
-use lib.ListN.{getD}
 use Rattle.sets.specs.Numbers.{Numbers, empty, count}
-use Rattle.sets.specs.Words.{bits}
+use Rattle.sets.specs.Words.{bits, set-of}
 use Rattle.rules.specs.Statements.{Block}
-use Rattle.rules.specs.Events.{Status, present, absent, unknown}
+use Rattle.rules.specs.Events.{Status, present, absent}
 use Rattle.rules.specs.Instant.{Step}
 use Rattle.rules.specs.MustCan.{marked}
-use Rattle.rules.specs.States.{State, fresh, running, finished, next}
-use Rattle.rules.specs.Rounds.{round, begin, settle, same, Answer, answered, not-constructive, react, undecided}
+use Rattle.rules.specs.States.{State, fresh, running, finished, active-of, next}
+use Rattle.rules.specs.Rounds.{round, begin, settle, outputs-with, Answer, answered, not-constructive, react, undecided}
 use Rattle.block.specs.Table.{Table}
 use Rattle.evaluate.specs.declared.words.Heard.{Heard}
 use Rattle.evaluate.specs.declared.words.MustCan.{MustCan}
@@ -21,7 +20,7 @@ use Rattle.evaluate.specs.declared.rounds.Ended.{Ended}
 use Rattle.evaluate.specs.declared.rounds.Phase.{Phase}
 use Rattle.evaluate.specs.declared.rounds.Phase.the-variants.{Fresh, Running, Finished}
 use Rattle.evaluate.specs.declared.rounds.Reacted.{Reacted}
-use Rattle.evaluate.specs.Words.{event-of, pauses-of}
+use Rattle.evaluate.specs.Words.{event-of}
 use Rattle.evaluate.specs.Forms.{Live, Does}
 
 -- The outputs' signals: n of them from i on.
@@ -72,19 +71,9 @@ state-of Fresh A = fresh
 state-of Running A = running A
 state-of Finished A = finished
 
--- The outputs with a status, the first of them signal i.
-abbrev pub outputs-with : Status → ℕ → List Status → Numbers
-outputs-with v i outs k = leb i k && same (getD outs (k - i) unknown) v
-
--- The pauses that a state has active.
-abbrev pub active-in : State → Numbers
-active-in fresh = empty
-active-in (running A) = A
-active-in finished = empty
-
 pub record Stands (b : Block) (outs : List Status) (n : ℕ) (r : Reacted) : Type 0 where
-  pub present-is : bits (r .present) ≡ outputs-with present (b .inputs) outs
-  pub absent-is : bits (r .absent) ≡ outputs-with absent (b .inputs) outs
+  pub present-is : bits (r .present) ≡ outputs-with present b outs
+  pub absent-is : bits (r .absent) ≡ outputs-with absent b outs
   pub undecided-is : r .undecided ≡ undecided outs
   pub rounds-is : r .rounds ≡ n
 
@@ -93,15 +82,15 @@ pub record Answered (b : Block) (outs : List Status) (c : ℕ) (st : State) (n :
   pub known-is : r .known ≡ true
   pub stands : Stands b outs n r
   pub code-is : r .code .0 ≡ c
-  pub kept-is : pauses-of (r .kept) ≡ active-in st
-  pub state-is : st ≡ next c (pauses-of (r .kept))
-  pub active-is : r .active ≡ count 128 (pauses-of (r .kept))
+  pub kept-is : set-of (r .kept) ≡ active-of st
+  pub state-is : st ≡ next c (set-of (r .kept))
+  pub active-is : r .active ≡ count 128 (set-of (r .kept))
 
 pub record Undecided (b : Block) (outs : List Status) (n : ℕ) (r : Reacted) : Type 0 where
   pub known-is : r .known ≡ false
   pub stands : Stands b outs n r
   pub code-is : r .code .0 ≡ 0
-  pub kept-is : pauses-of (r .kept) ≡ empty
+  pub kept-is : set-of (r .kept) ≡ empty
   pub active-is : r .active ≡ 0
 
 unfoldable pub Answers : Block → Answer → Reacted → Type 0

@@ -7,7 +7,7 @@ use Rattle.sets.specs.Numbers.{Numbers}
 use Rattle.rules.specs.Events.{Event}
 use Rattle.rules.specs.Instant.{Step}
 use Rattle.rules.specs.States.{kept}
-use Rattle.sets.specs.Words.{bits}
+use Rattle.sets.specs.Words.{bits, set-of}
 use Rattle.rules.specs.MustCan.{Mark, plus, must, can, Question, nothing-known, either, caught, both, followed, hidden, gives}
 use Rattle.block.specs.Table.{Table}
 use Rattle.evaluate.specs.declared.words.Heard.{Heard}
@@ -15,7 +15,7 @@ use Rattle.evaluate.specs.declared.words.Told.{Told}
 use Rattle.evaluate.specs.declared.words.MustCan.{MustCan}
 use Rattle.evaluate.specs.declared.pauses.Kept.{Kept}
 use Rattle.evaluate.specs.declared.form.Form.{Form}
-use Rattle.evaluate.specs.Words.{event-of, given-of, pauses-of}
+use Rattle.evaluate.specs.Words.{event-of, given-of}
 use Rattle.evaluate.specs.Forms.{Live, Shows}
 
 -- Each rule, for must and for can.
@@ -51,7 +51,7 @@ pub record Walked (m : Mark) (tab : Table) (live : List Bool) (f : Form) (e : He
 -- Must's codes and the pauses kept, of a step at an event; A is active.
 pub record KeptAs (r : Kept) (p : Step) (E : Event) : Type 0 where
   pub codes-are : bits (r .codes) ≡ gives must p E .codes
-  pub pauses-are : pauses-of (r .pauses) ≡ kept p E
+  pub pauses-are : set-of (r .pauses) ≡ kept p E
 
 pub record Keeping (A : Numbers) (tab : Table) (live : List Bool) (f : Form) (e : Heard) (r : Kept) : Type 0 where
   pub at : Live tab A live → (p : Step) → Shows tab A f p → KeptAs r p (event-of e)

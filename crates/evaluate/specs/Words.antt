@@ -1,13 +1,10 @@
--- What the evaluator's words stand for: an event is two words, what must or can gives is a word of signals and one of codes, a set of
--- pauses is two words. Assumes nothing.
+-- What the evaluator's words stand for: an event is two words, what must or can gives is a word of signals and one of codes, what is kept
+-- is a word of codes and a set of pauses. Assumes nothing.
 use mathlib.Core.Path.{_≡_}
-use mathlib.Core.Bool.{Bool, true, false, cond}
-use mathlib.Core.List.{List}
+use mathlib.Core.Bool.{Bool, true, false}
 use Prim.Native.Nat.{ℕ, _-_}
-use lib.Dec.{ltb}
-use lib.ListN.{getD}
 use Rattle.sets.specs.Numbers.{Numbers, empty, single, only-if}
-use Rattle.sets.specs.Words.{bits}
+use Rattle.sets.specs.Words.{bits, set-of}
 use Rattle.rules.specs.Events.{Status, present, absent, unknown, Event}
 use Rattle.rules.specs.MustCan.{Mark, plus, opened, Given}
 use Rattle.evaluate.specs.declared.words.Heard.{Heard}
@@ -50,11 +47,7 @@ quiet c = record { signals = empty; codes = single c }
 abbrev pub loud : ℕ → Given
 loud s = record { signals = single s; codes = single 0 }
 
--- The set of two words: bit n of the 128 for pause n.
-unfoldable pub pauses-of : List ℕ → Numbers
-pauses-of ws n = cond (ltb n 64) (bits (getD ws 0 0) n) (bits (getD ws 1 0) (n - 64))
-
 -- These codes, and these pauses if 1 is among them.
 pub record KeptWith (r : Kept) (C A : Numbers) : Type 0 where
   pub codes-are : bits (r .codes) ≡ C
-  pub pauses-are : pauses-of (r .pauses) ≡ only-if (C 1) A
+  pub pauses-are : set-of (r .pauses) ≡ only-if (C 1) A

@@ -1,18 +1,18 @@
 // The active pauses over the table: which statements hold one, and those that a suspended body holds.
 use crate::form::live_at;
 use crate::form::second;
-use crate::form::wide;
 use crate::pauses::has_pause;
 use crate::pauses::joined;
 use crate::pauses::no_pause;
 use crate::pauses::one_pause;
+use block::kinds::wide;
 ghost use mathlib.Core.Path.{_≡_};
 ghost use mathlib.Core.Bool.{_||_};
 ghost use mathlib.Core.List.{List, [], _∷_};
 ghost use Prim.Native.Nat.{ℕ, _+_, _<_};
+ghost use Rattle.sets.specs.Words.{set-of};
 ghost use Rattle.rules.specs.Statements.{Stmt};
 ghost use Rattle.rules.specs.Instant.{active, held};
-ghost use Rattle.evaluate.specs.Words.{pauses-of};
 ghost use Rattle.evaluate.specs.Forms.{table, At, Placed, Live, LiveFrom, row-pauses, among};
 
 fn or(a: bool, b: bool) -> bool
@@ -31,7 +31,7 @@ fn holds_active(
     at: usize,
 ) -> bool
     requires { ⌜ at < 512 ⌝ }
-    ensures { λ r. ⌜ (LiveFrom (table (now (kinds .entry)) (now (operands .entry)) (now (sizes .entry))) (pauses-of set) (now (live .entry)) (at + 1) → (t : Stmt) → At (table (now (kinds .entry)) (now (operands .entry)) (now (sizes .entry))) at t → r ≡ active (pauses-of set) t) ⌝ }
+    ensures { λ r. ⌜ (LiveFrom (table (now (kinds .entry)) (now (operands .entry)) (now (sizes .entry))) (set-of set) (now (live .entry)) (at + 1) → (t : Stmt) → At (table (now (kinds .entry)) (now (operands .entry)) (now (sizes .entry))) at t → r ≡ active (set-of set) t) ⌝ }
 {
     let kind = kinds[at];
     let first = live_at(live, at + 1);
@@ -58,7 +58,7 @@ pub(crate) fn actives(
     sizes: &[u16; 512],
     set: [u64; 2],
 ) -> [bool; 512]
-    ensures { λ r. ⌜ Live (table (now (kinds .entry)) (now (operands .entry)) (now (sizes .entry))) (pauses-of set) r ⌝ }
+    ensures { λ r. ⌜ Live (table (now (kinds .entry)) (now (operands .entry)) (now (sizes .entry))) (set-of set) r ⌝ }
 {
     let mut live = [false; 512];
     let mut i = 512;
@@ -72,7 +72,7 @@ pub(crate) fn actives(
 
 // A pause, if it is active.
 fn held_one(set: [u64; 2], n: u16) -> [u64; 2]
-    ensures { λ r. ⌜ pauses-of r ≡ among (pauses-of set) (n ∷ []) ⌝ }
+    ensures { λ r. ⌜ set-of r ≡ among (set-of set) (n ∷ []) ⌝ }
 {
     if has_pause(set, n) {
         one_pause(n)
@@ -84,7 +84,7 @@ fn held_one(set: [u64; 2], n: u16) -> [u64; 2]
 // A row's pause, if it is one and is active.
 fn held_row(kinds: &[u16; 512], operands: &[u16; 512], set: [u64; 2], at: usize) -> [u64; 2]
     requires { ⌜ at < 512 ⌝ }
-    ensures { λ r. ⌜ ((sizes : List ℕ) → pauses-of r ≡ among (pauses-of set) (row-pauses (table (now (kinds .entry)) (now (operands .entry)) sizes) at)) ⌝ }
+    ensures { λ r. ⌜ ((sizes : List ℕ) → set-of r ≡ among (set-of set) (row-pauses (table (now (kinds .entry)) (now (operands .entry)) sizes) at)) ⌝ }
 {
     if kinds[at] == 17 {
         held_one(set, operands[at])
@@ -102,7 +102,7 @@ pub(crate) fn held_pauses(
     at: usize,
 ) -> [u64; 2]
     requires { ⌜ Placed (table (now kinds) (now operands) (now sizes)) at ⌝ }
-    ensures { λ r. ⌜ ((t : Stmt) → At (table (now (kinds .entry)) (now (operands .entry)) (now (sizes .entry))) at t → pauses-of r ≡ held (pauses-of set) t) ⌝ }
+    ensures { λ r. ⌜ ((t : Stmt) → At (table (now (kinds .entry)) (now (operands .entry)) (now (sizes .entry))) at t → set-of r ≡ held (set-of set) t) ⌝ }
 {
     let size = wide(sizes[at]);
     let mut kept = no_pause();

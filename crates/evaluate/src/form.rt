@@ -1,5 +1,6 @@
 // What a statement of the table has to do in this instant, started or resumed.
 use block::kinds::Depth;
+use block::kinds::wide;
 ghost use mathlib.Core.Path.{_≡_};
 ghost use mathlib.Core.Bool.{Bool, cond, false};
 ghost use mathlib.Core.List.{List};
@@ -35,13 +36,6 @@ pub enum Form {
     Chain(Part, Part),
     Beside(Part, Part),
     Same(Part),
-}
-
-// A number of the table as an index.
-pub(crate) fn wide(x: u16) -> usize
-    ensures { λ r. ⌜ (r ≡ x) × (r < 65536) ⌝ }
-{
-    x as usize
 }
 
 // The second child's number.
@@ -86,7 +80,12 @@ fn arm(active: bool, at: usize) -> Part
     }
 }
 
-fn started_form(kinds: &[u16; 512], operands: &[u16; 512], sizes: &[u16; 512], at: usize) -> Form
+pub(crate) fn started_form(
+    kinds: &[u16; 512],
+    operands: &[u16; 512],
+    sizes: &[u16; 512],
+    at: usize,
+) -> Form
     requires { ⌜ Placed (table (now kinds) (now operands) (now sizes)) at ⌝ }
     ensures { λ r. ⌜ ((live : List Bool) → Formed (table (now (kinds .entry)) (now (operands .entry)) (now (sizes .entry))) live (record { at = at; going = Going.Started }) r) ⌝ }
 {
@@ -116,7 +115,7 @@ fn started_form(kinds: &[u16; 512], operands: &[u16; 512], sizes: &[u16; 512], a
     }
 }
 
-fn resumed_form(
+pub(crate) fn resumed_form(
     kinds: &[u16; 512],
     operands: &[u16; 512],
     sizes: &[u16; 512],

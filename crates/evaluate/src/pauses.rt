@@ -10,8 +10,8 @@ ghost use mathlib.Core.Bool.{_&&_};
 ghost use lib.Dec.{ltb};
 ghost use Prim.Native.Nat.{_≤_, _<_};
 ghost use Rattle.sets.specs.Numbers.{empty, single, union, without, only-if, maxima, downs, count};
-ghost use Rattle.sets.specs.Words.{bits};
-ghost use Rattle.evaluate.specs.Words.{pauses-of, KeptWith};
+ghost use Rattle.sets.specs.Words.{bits, set-of};
+ghost use Rattle.evaluate.specs.Words.{KeptWith};
 
 // A statement's must codes, and the pauses that it keeps.
 pub struct Kept {
@@ -20,13 +20,13 @@ pub struct Kept {
 }
 
 pub(crate) fn no_pause() -> [u64; 2]
-    ensures { λ r. ⌜ pauses-of r ≡ empty ⌝ }
+    ensures { λ r. ⌜ set-of r ≡ empty ⌝ }
 {
     [0, 0]
 }
 
 pub(crate) fn one_pause(n: u16) -> [u64; 2]
-    ensures { λ r. ⌜ (n < 128 → pauses-of r ≡ single n) ⌝ }
+    ensures { λ r. ⌜ (n < 128 → set-of r ≡ single n) ⌝ }
 {
     if n < 64 {
         return [1u64 << n, 0];
@@ -38,14 +38,14 @@ pub(crate) fn one_pause(n: u16) -> [u64; 2]
 }
 
 pub(crate) fn joined(a: [u64; 2], b: [u64; 2]) -> [u64; 2]
-    ensures { λ r. ⌜ pauses-of r ≡ union (pauses-of a) (pauses-of b) ⌝ }
+    ensures { λ r. ⌜ set-of r ≡ union (set-of a) (set-of b) ⌝ }
 {
     [a[0] | b[0], a[1] | b[1]]
 }
 
 // Whether a pause is in a set.
 pub(crate) fn has_pause(a: [u64; 2], n: u16) -> bool
-    ensures { λ r. ⌜ r ≡ (ltb n 128 && pauses-of a n) ⌝ }
+    ensures { λ r. ⌜ r ≡ (ltb n 128 && set-of a n) ⌝ }
 {
     if n < 64 {
         return a[0] & 1u64 << n != 0;
@@ -58,7 +58,7 @@ pub(crate) fn has_pause(a: [u64; 2], n: u16) -> bool
 
 // A statement with code other than 1 keeps no pause.
 pub(crate) fn kept_with(codes: u32, pauses: [u64; 2]) -> Kept
-    ensures { λ r. ⌜ (r .codes ≡ codes) × (pauses-of (r .pauses) ≡ only-if (bits codes 1) (pauses-of pauses)) ⌝ }
+    ensures { λ r. ⌜ (r .codes ≡ codes) × (set-of (r .pauses) ≡ only-if (bits codes 1) (set-of pauses)) ⌝ }
 {
     if codes / 2 % 2 == 1 {
         Kept { codes, pauses }
@@ -79,14 +79,14 @@ pub(crate) fn members_of(w: u64) -> u32
 
 // How many pauses are in a set.
 pub(crate) fn pause_count(a: [u64; 2]) -> u32
-    ensures { λ r. ⌜ r ≡ count 128 (pauses-of a) ⌝ }
+    ensures { λ r. ⌜ r ≡ count 128 (set-of a) ⌝ }
 {
     members_of(a[0]) + members_of(a[1])
 }
 
 // A code and no pause.
 pub(crate) fn kept_none(c: Code) -> Kept
-    ensures { λ r. ⌜ (pauses-of (r .pauses) ≡ empty) × (c .0 < 32 → bits (r .codes) ≡ single (c .0)) ⌝ }
+    ensures { λ r. ⌜ (set-of (r .pauses) ≡ empty) × (c .0 < 32 → bits (r .codes) ≡ single (c .0)) ⌝ }
 {
     let codes = code_bit(c);
     Kept {
@@ -97,7 +97,7 @@ pub(crate) fn kept_none(c: Code) -> Kept
 
 // No code and no pause.
 pub(crate) fn kept_unknown() -> Kept
-    ensures { λ r. ⌜ (bits (r .codes) ≡ empty) × (pauses-of (r .pauses) ≡ empty) ⌝ }
+    ensures { λ r. ⌜ (bits (r .codes) ≡ empty) × (set-of (r .pauses) ≡ empty) ⌝ }
 {
     Kept {
         codes: 0,
@@ -114,7 +114,7 @@ pub(crate) fn kept_here(pauses: [u64; 2]) -> Kept
 
 // A part that is chosen, or a local's body.
 pub(crate) fn kept_again(a: Kept) -> Kept
-    ensures { λ r. ⌜ KeptWith r (bits (a .codes)) (pauses-of (a .pauses)) ⌝ }
+    ensures { λ r. ⌜ KeptWith r (bits (a .codes)) (set-of (a .pauses)) ⌝ }
 {
     let pauses = a.pauses;
     kept_with(a.codes, pauses)
@@ -122,7 +122,7 @@ pub(crate) fn kept_again(a: Kept) -> Kept
 
 // A trap.
 pub(crate) fn kept_caught(a: Kept) -> Kept
-    ensures { λ r. ⌜ KeptWith r (downs (bits (a .codes))) (pauses-of (a .pauses)) ⌝ }
+    ensures { λ r. ⌜ KeptWith r (downs (bits (a .codes))) (set-of (a .pauses)) ⌝ }
 {
     let pauses = a.pauses;
     kept_with(lowered(a.codes), pauses)
@@ -130,7 +130,7 @@ pub(crate) fn kept_caught(a: Kept) -> Kept
 
 // A parallel.
 pub(crate) fn kept_beside(a: Kept, b: Kept) -> Kept
-    ensures { λ r. ⌜ KeptWith r (maxima (bits (a .codes)) (bits (b .codes))) (union (pauses-of (a .pauses)) (pauses-of (b .pauses))) ⌝ }
+    ensures { λ r. ⌜ KeptWith r (maxima (bits (a .codes)) (bits (b .codes))) (union (set-of (a .pauses)) (set-of (b .pauses))) ⌝ }
 {
     let left = a.pauses;
     let right = b.pauses;
@@ -139,7 +139,7 @@ pub(crate) fn kept_beside(a: Kept, b: Kept) -> Kept
 
 // A sequence.
 pub(crate) fn kept_chain(a: Kept, b: Kept) -> Kept
-    ensures { λ r. ⌜ KeptWith r (union (without 0 (bits (a .codes))) (only-if (bits (a .codes) 0) (bits (b .codes)))) (union (pauses-of (a .pauses)) (only-if (bits (a .codes) 0) (pauses-of (b .pauses)))) ⌝ }
+    ensures { λ r. ⌜ KeptWith r (union (without 0 (bits (a .codes))) (only-if (bits (a .codes) 0) (bits (b .codes)))) (union (set-of (a .pauses)) (only-if (bits (a .codes) 0) (set-of (b .pauses)))) ⌝ }
 {
     let codes = followed_codes(a.codes, b.codes);
     let first = a.pauses;

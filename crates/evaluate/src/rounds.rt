@@ -17,12 +17,12 @@ ghost use mathlib.Core.Option.{some};
 ghost use Prim.Native.Nat.{ℕ, _+_, _≤_};
 ghost use lib.Dec.{eqb, ltb};
 ghost use Rattle.sets.specs.Numbers.{Numbers, empty, lowest};
-ghost use Rattle.sets.specs.Words.{bits};
+ghost use Rattle.sets.specs.Words.{bits, set-of};
 ghost use Rattle.rules.specs.Statements.{Block, Stmt};
 ghost use Rattle.rules.specs.Events.{event};
 ghost use Rattle.rules.specs.States.{step};
 ghost use Rattle.rules.specs.Rounds.{undecided, answer, code-width};
-ghost use Rattle.evaluate.specs.Words.{event-of, pauses-of};
+ghost use Rattle.evaluate.specs.Words.{event-of};
 ghost use Rattle.evaluate.specs.Forms.{table, At, Placed, step-of};
 ghost use Rattle.evaluate.specs.Reacts.{outs-from, statuses, marks-of, Fine, Marks, Sized, Rounded, Ends, state-of, Answers, Reacts};
 
@@ -129,7 +129,7 @@ fn same_marks(a: Heard, b: Heard) -> bool
     }
 }
 
-// All rounds: the last is the first that changes nothing.
+// All rounds: the last is the first that changes nothing. Where no output is undecided that is the next one, which is counted without a walk.
 pub(crate) fn all_rounds(
     kinds: &[u16; 512],
     operands: &[u16; 512],
@@ -149,6 +149,12 @@ pub(crate) fn all_rounds(
     };
     let mut rounds: u16 = 0;
     while rounds <= outputs {
+        if undecided_of(inputs, outputs, marks) == 0 {
+            return Ended {
+                marks,
+                rounds: rounds + 1,
+            };
+        }
         let next = round_of(
             kinds,
             operands,
@@ -195,7 +201,7 @@ fn code_in(codes: u32) -> Code
 
 // What is kept for the next instant: code 1 keeps the pauses, another code none.
 fn kept_for(c: Code, pauses: [u64; 2]) -> [u64; 2]
-    ensures { λ r. ⌜ pauses-of r ≡ cond (eqb (c .0) 1) (pauses-of pauses) empty ⌝ }
+    ensures { λ r. ⌜ set-of r ≡ cond (eqb (c .0) 1) (set-of pauses) empty ⌝ }
 {
     if c.0 == 1 { pauses } else { [0, 0] }
 }
@@ -213,7 +219,7 @@ fn undecided_of(inputs: u16, outputs: u16, marks: Heard) -> u32
 // The answer from the final marks, and must's codes with what is kept at them.
 fn answer_of(inputs: u16, outputs: u16, end: Ended, last: Kept) -> Reacted
     requires { ⌜ inputs + outputs ≤ 64 ⌝ }
-    ensures { λ r. ⌜ ((b : Block) → Sized b inputs outputs → Fine (outs-from inputs outputs) (end .marks) → Answers b (answer (record { statuses = marks-of b (end .marks); rounds = end .rounds }) (lowest code-width (bits (last .codes))) (pauses-of (last .pauses))) r) ⌝ }
+    ensures { λ r. ⌜ ((b : Block) → Sized b inputs outputs → Fine (outs-from inputs outputs) (end .marks) → Answers b (answer (record { statuses = marks-of b (end .marks); rounds = end .rounds }) (lowest code-width (bits (last .codes))) (set-of (last .pauses))) r) ⌝ }
 {
     let marks = end.marks;
     let undecided = undecided_of(inputs, outputs, marks);
@@ -258,7 +264,7 @@ pub fn react(
     given: u64,
 ) -> Reacted
     requires { ⌜ (inputs + outputs ≤ 64) × Placed (table (now kinds) (now operands) (now sizes)) 0 ⌝ }
-    ensures { λ r. ⌜ ((body : Stmt) → At (table (now (kinds .entry)) (now (operands .entry)) (now (sizes .entry))) 0 body → Reacts (record { inputs = inputs; outputs = outputs; body = body }) phase (pauses-of set) (bits given) r) ⌝ }
+    ensures { λ r. ⌜ ((body : Stmt) → At (table (now (kinds .entry)) (now (operands .entry)) (now (sizes .entry))) 0 body → Reacts (record { inputs = inputs; outputs = outputs; body = body }) phase (set-of set) (bits given) r) ⌝ }
 {
     let live = actives(kinds, operands, sizes, set);
     let part = Part {

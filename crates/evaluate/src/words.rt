@@ -12,7 +12,7 @@ ghost use Rattle.sets.specs.Numbers.{single, union, without, only-if, some-to, 
 ghost use Rattle.sets.specs.Words.{bits};
 ghost use Rattle.rules.specs.Statements.{depth, code};
 ghost use Rattle.rules.specs.Events.{unknown, giving};
-ghost use Rattle.rules.specs.MustCan.{can, nothing-known, either, caught, both, followed, onward, marked, settled, hidden};
+ghost use Rattle.rules.specs.MustCan.{can, nothing-known, either, caught, both, followed, onward, marked, local-status, hidden};
 ghost use Rattle.evaluate.specs.Words.{event-of, given-of, seen-as, mark-of, quiet, loud};
 
 // An event: the bit of a present signal and the bit of an absent one; neither is unknown.
@@ -204,7 +204,7 @@ pub(crate) fn marked_as(sure: bool, may: bool) -> Seen
 
 // A local's status, from its body with the signal unknown; must is asked only if the mark is plus.
 pub(crate) fn settled_for(mark: Mark, s: u16, a: MustCan) -> Seen
-    ensures { λ r. ⌜ (s < 64 → seen-as r ≡ settled (can (mark-of mark)) s (given-of (a .must)) (given-of (a .can))) ⌝ }
+    ensures { λ r. ⌜ (s < 64 → seen-as r ≡ local-status (can (mark-of mark)) s (given-of (a .must)) (given-of (a .can))) ⌝ }
 {
     let sure = has_signal(a.must.signals, s);
     let may = has_signal(a.can.signals, s);

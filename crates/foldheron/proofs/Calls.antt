@@ -5,27 +5,25 @@ use mathlib.Core.Logic.{_≢_}
 use mathlib.Core.Bool.{Bool, true, false, cond}
 use mathlib.Core.List.{List}
 use mathlib.Core.Option.{Option, none, some}
-use Prim.Native.Nat.{ℕ, _+_, _≤_, _<_}
+use Prim.Native.Nat.{ℕ, _+_, _≤_}
 use native.Mathlib.Omega.{arith}
 use native.Mathlib.Decide.{ℕ-discrete}
 use lib.Dec.{lit≤}
 use lib.ListN.{length}
 use Rattle.sets.specs.Words.{bits}
 use Rattle.rules.specs.States.{State, active-of}
-use Rattle.rules.specs.Rounds.{Answer, answered, not-constructive, react}
+use Rattle.rules.specs.Rounds.{answered, not-constructive, react}
 use Rattle.block.specs.Format.{Good, Reading, good, turned-down, reading}
 use Rattle.block.proofs.GoodReadings.{In-range, numbers}
 use Rattle.records.specs.StateRecord.{Found, not-a-state, state, read-state, Pair as Pairing, first-clash, undeclared-input}
-use Rattle.records.specs.LogRecord.{Logged as Entry, no-room, logged-at}
+use Rattle.records.specs.LogRecord.{no-room, logged-at}
 use Rattle.records.specs.Held.{state-bytes}
 use Rattle.records.proofs.Reading.{read-sized}
-use Rattle.records.proofs.Logs.{has-room}
-use Rattle.reaction.specs.declared.Reply.{Reply}
 use Rattle.reaction.specs.declared.Reply.the-variants.{Refused, Clash, Answered, NotConstructive}
 use Rattle.reaction.specs.declared.Reaction.{Reaction}
 use Rattle.reaction.specs.declared.Doubt.{Doubt}
 use Rattle.reaction.specs.declared.Outcome.{Outcome}
-use Rattle.reaction.specs.Instants.{Verdict, refused, clash, reacted, Told, told, told-refusal, block-of, try-inputs, try-clash, try-state, try-block, verdict, logged-verdict, state-after, log-after, end-after, state-by, log-by, end-by}
+use Rattle.reaction.specs.Instants.{Verdict, refused, clash, reacted, Told, told, told-refusal, block-of, try-inputs, try-clash, try-state, try-block, verdict, logged-verdict, state-after, log-after, end-after}
 use Rattle.reaction.specs.Outcomes.{told-of, Writes, case-of, case-for, Comes}
 use Rattle.foldheron.specs.declared.Why.{Why}
 use Rattle.foldheron.specs.declared.instants.Instant.the-variants as Instant

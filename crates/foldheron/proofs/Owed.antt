@@ -1,34 +1,36 @@
 -- What each call answers is what it owes: a lemma for each way through the calls that read a block, and that different answers have
 -- different values.
 use mathlib.Core.Path.{_≡_, refl, sym, _∙_, ap, subst}
-use mathlib.Core.Bool.{Bool, true, false, cond}
-use mathlib.Core.Logic.{_⊎_, inl, inr}
-use mathlib.Core.List.{List, [], _∷_, _++_}
-use Prim.Native.Nat.{ℕ, zero, suc, _+_, _-_, _≤_, _<_}
+use mathlib.Core.List.{List, [], _∷_}
+use Prim.Native.Nat.{ℕ, suc, _+_, _-_, _≤_, _<_}
 use native.Mathlib.Nat.{zero-add}
 use native.Mathlib.Omega.{arith}
-use lib.Dec.{eqb, ltb}
-use lib.ListN.{length, getD, take, drop, set, replicate, drop-of-length-le}
+use lib.ListN.{length, getD, take, drop}
 use borrow.Author.Tests.{eq-eqb, ne-eqb, lt-ltb, le-ltb}
 use Rattle.rules.specs.Statements.{Stmt}
+use Rattle.rules.specs.States.{fresh}
 use Rattle.block.specs.Table.{Table, Has, statements}
-use Rattle.block.specs.Format.{Good, Reading, good, turned-down, reading, preorder, numbered, bytes, offset}
-use Rattle.block.specs.Told.{summary-of, answer-to, Stands, ReadWhole}
+use Rattle.block.specs.Format.{Good, Reading, good, reading, preorder, numbered, bytes, offset}
+use Rattle.block.specs.Told.{ReadWhole}
 use Rattle.block.specs.Codes.{Tabled, Listed}
 use Rattle.block.specs.declared.whole.Summary.{Summary}
+use Rattle.records.specs.StateRecord.{state-record}
+use Rattle.records.specs.Held.{state-bytes}
+use Rattle.records.proofs.Writing.{fresh-written as fresh-record}
 use Rattle.block.specs.declared.whole.Answer.{Answer}
 use Rattle.block.specs.declared.whole.Answer.the-variants.{Good as GoodBlock, Refused as RefusedBlock}
 use Rattle.block.proofs.Answered.{was-good, was-turned-down, has-body}
-use Rattle.block.proofs.GoodReadings.{Sound, sound, In-range, numbers}
+use Rattle.block.proofs.GoodReadings.{Sound, sound, numbers}
 use Rattle.block.proofs.Places.{At, at-number, has-row}
 use Rattle.block.proofs.Offsets.{tabled-listed, offset-below, offset-most}
-use Rattle.foldheron.specs.Answers.{number, check-values, check-owed, begun-values, begun-owed, fresh-record, state-owed, excerpt-number, excerpt-place, excerpt-owed}
+use Rattle.foldheron.specs.Answers.{number, check-values, check-owed, begun-values, begun-owed, state-owed, absent-part, part-owed, part-in}
 use Rattle.foldheron.specs.declared.Why.{Why}
 use Rattle.foldheron.specs.declared.Why.the-variants.{Broken, Kind, Edition, Limit, Signal, Exit, Shape, Loop, State, Clash, Input, Room, NotConstructive, Index}
 use Rattle.foldheron.specs.declared.Checked.{Checked}
 use Rattle.foldheron.specs.declared.Checked.the-variants.{Good as GoodOne, Refused}
 use Rattle.foldheron.specs.declared.Begun.{Begun}
 use Rattle.foldheron.specs.declared.Begun.the-variants.{Fresh, TurnedDown}
+use Rattle.foldheron.specs.declared.Part.{Part}
 
 -- A number that is not the lowest that it could be.
 pub above-next : {n k : ℕ} → k ≤ n → (n ≡ k → ⊥) → suc k ≤ n
@@ -52,11 +54,9 @@ module _ (b : List ℕ) {tab : Table} {a : Answer} (w : ReadWhole (reading b) ta
     unfolding state-owed
     state-stays state = ap (λ (x : Reading). state-owed x state) (sym (was-turned-down w e))
 
-    pub excerpt-refused : (i : ℕ) → ([] ≡ excerpt-owed (reading b) b i) × ((n ≡ excerpt-number (reading b) i) × (at ≡ excerpt-place (reading b) i))
-    unfolding excerpt-owed excerpt-number excerpt-place
-    excerpt-refused i =
-        let r = sym (was-turned-down w e) in
-        (ap (λ (x : Reading). excerpt-owed x b i) r, (ap (λ (x : Reading). excerpt-number x i) r, ap (λ (x : Reading). excerpt-place x i) r))
+    pub part-refused : (i : ℕ) → absent-part n at ≡ part-owed (reading b) i
+    unfolding part-owed
+    part-refused i = ap (λ (x : Reading). part-owed x i) (sym (was-turned-down w e))
 
   module _ {s : Summary} (e : a ≡ GoodBlock s) where
     abbrev g : Good
@@ -75,11 +75,11 @@ module _ (b : List ℕ) {tab : Table} {a : Answer} (w : ReadWhole (reading b) ta
         let q : begun-owed (good g) state ≡ 0 ∷ 0 ∷ [] = simp (eq-eqb (length state) 22 l) in
         sym (ap (λ (x : Reading). begun-owed x state) is-good ∙ q)
 
-    pub state-written : (state : List ℕ) → length state ≡ 22 → fresh-record ≡ state-owed (reading b) state
+    pub state-written : (state : List ℕ) → length state ≡ 22 → state-bytes 0 (0 ∷ 0 ∷ []) ≡ state-owed (reading b) state
     unfolding state-owed
     state-written state l =
-        let q : state-owed (good g) state ≡ fresh-record = simp (eq-eqb (length state) 22 l) in
-        sym (ap (λ (x : Reading). state-owed x state) is-good ∙ q)
+        let q : state-owed (good g) state ≡ state-record fresh = simp (eq-eqb (length state) 22 l) in
+        fresh-record ∙ sym (ap (λ (x : Reading). state-owed x state) is-good ∙ q)
 
     pub other-size : (state : List ℕ) → (length state ≡ 22 → ⊥) → begun-values (TurnedDown State 0) ≡ begun-owed (reading b) state
     unfolding begun-values begun-owed number
@@ -93,21 +93,19 @@ module _ (b : List ℕ) {tab : Table} {a : Answer} (w : ReadWhole (reading b) ta
         let q : state-owed (good g) state ≡ state = simp (ne-eqb (length state) 22 n) in
         sym (ap (λ (x : Reading). state-owed x state) is-good ∙ q)
 
-    -- The excerpt of a good block.
+    -- The part of a good block.
     facts : Sound b g
     facts = sound b g is-good
 
     count-is : s .statements ≡ statements (g .body)
     count-is = ap (λ (s : Summary). s .statements) (sym (was-good w e .2)) ∙ facts .counted
 
-    pub excerpt-past : (i : ℕ) → s .statements ≤ i → ([] ≡ excerpt-owed (reading b) b i) × ((14 ≡ excerpt-number (reading b) i) × (0 ≡ excerpt-place (reading b) i))
-    unfolding excerpt-owed excerpt-number excerpt-place
-    excerpt-past i l =
-        let r = sym is-good in
+    pub part-past : (i : ℕ) → s .statements ≤ i → absent-part 14 0 ≡ part-owed (reading b) i
+    unfolding part-owed
+    part-past i l =
         let m : g .statements ≤ i = omega (arith, count-is, facts .counted) in
-        let q : excerpt-owed (good g) b i ≡ [] = simp (le-ltb i (g .statements) m) in
-        let k : excerpt-number (good g) i ≡ 14 = simp (le-ltb i (g .statements) m) in
-        (sym q ∙ ap (λ (x : Reading). excerpt-owed x b i) r, (sym k ∙ ap (λ (x : Reading). excerpt-number x i) r, ap (λ (x : Reading). excerpt-place x i) r))
+        let q : part-owed (good g) i ≡ absent-part 14 0 = simp (le-ltb i (g .statements) m) in
+        sym (ap (λ (x : Reading). part-owed x i) is-good ∙ q)
 
     module _ (i : ℕ) (l : i < s .statements) where
       tabled : Tabled tab (statements (g .body)) (g .body)
@@ -142,24 +140,26 @@ module _ (b : List ℕ) {tab : Table} {a : Answer} (w : ReadWhole (reading b) ta
         pub end-within : end ≤ length b
         end-within = omega (arith, end-is, offset-below (g .body) i there, offset-most (g .body) (i + statements (numbered (g .body) i)), facts .whole)
 
-        pub excerpt-part : (take (end - start) (drop start b) ≡ excerpt-owed (reading b) b i) × ((0 ≡ excerpt-number (reading b) i) × (0 ≡ excerpt-place (reading b) i))
-        unfolding excerpt-owed excerpt-number excerpt-place
-        excerpt-part =
-            let r = sym is-good in
+        pub part-found : record { number = 0; place = 0; offset = start; size = end - start } ≡ part-owed (reading b) i
+        unfolding part-owed
+        part-found =
             let k : i < g .statements = omega (arith, count-is, facts .counted) in
-            let o : excerpt-owed (good g) b i ≡ take (bytes (preorder (numbered (g .body) i))) (drop (offset (g .body) i) b) = simp (lt-ltb i (g .statements) k) in
-            let n : excerpt-number (good g) i ≡ 0 = simp (lt-ltb i (g .statements) k) in
-            let d : end - start ≡ bytes (preorder (numbered (g .body) i)) = omega (arith, start-is, end-is) in (
-              (λ j. take (d j) (drop (start-is j) b)) ∙ sym o ∙ ap (λ (x : Reading). excerpt-owed x b i) r,
-              (sym n ∙ ap (λ (x : Reading). excerpt-number x i) r, ap (λ (x : Reading). excerpt-place x i) r),
-            )
+            let o : part-owed (good g) i ≡ record { number = 0; place = 0; offset = offset (g .body) i; size = bytes (preorder (numbered (g .body) i)) } = simp (lt-ltb i (g .statements) k) in
+            let d : end - start ≡ bytes (preorder (numbered (g .body) i)) = omega (arith, start-is, end-is) in
+            (λ j. record { number = 0; place = 0; offset = start-is j; size = d j }) ∙ sym (ap (λ (x : Reading). part-owed x i) is-good ∙ o)
 
--- The bytes of a fresh record, once all 22 are cleared.
-pub fresh-bytes : (state before : List ℕ) (i : ℕ) → 22 ≤ i → i ≤ 22 → length before ≡ 22 → state ≡ replicate i 0 ++ drop i before → set (set state 0 22) 2 2 ≡ fresh-record
-fresh-bytes state before i lo hi l e =
-    let q : i ≡ 22 = omega arith in
-    let z : drop i before ≡ [] = drop-of-length-le before {i = i} (omega arith) in
-    ap (λ (s : List ℕ). set (set s 0 22) 2 2) (e ∙ (λ j. replicate (q j) 0 ++ z j))
+        pub part-within : start + (end - start) ≤ length b
+        part-within = omega (arith, start-first, end-within)
+
+-- No part lies in any block.
+pub no-part-within : (b : List ℕ) {p : Part} {n at : ℕ} → p ≡ absent-part n at → p .offset + p .size ≤ length b
+no-part-within b {p} e = let o : p .offset ≡ 0 = ap (λ (q : Part). q .offset) e in let s : p .size ≡ 0 = ap (λ (q : Part). q .size) e in omega arith
+
+-- The part as it is cut out of the block.
+pub part-cut : (b : List ℕ) {p q : Part} → p ≡ q → take (p .offset + p .size - p .offset) (drop (p .offset) b) ≡ part-in b q
+part-cut b {p} {q} e =
+    let d : p .offset + p .size - p .offset ≡ p .size = omega arith in
+    ap (λ (n : ℕ). take n (drop (p .offset) b)) d ∙ ap (part-in b) e
 
 -- Different answers have different values: an answer's number and values give the answer back.
 why-of : ℕ → Why

@@ -1,17 +1,19 @@
 -- What the calls that read a block answer: document 01's number and values for each case. All fields not named are 0. Assumes nothing.
 use mathlib.Core.Bool.{cond}
-use mathlib.Core.List.{List, [], _∷_, _++_}
+use mathlib.Core.List.{List, [], _∷_}
 use Prim.Native.Nat.{ℕ}
 use lib.Dec.{eqb, ltb}
-use lib.ListN.{length, take, drop, replicate}
+use lib.ListN.{length, take, drop}
+use Rattle.rules.specs.States.{fresh}
 use Rattle.block.specs.Format.{Reading, good, turned-down, preorder, numbered, bytes, offset}
-use Rattle.block.specs.declared.whole.Summary.{Summary}
+use Rattle.records.specs.StateRecord.{state-record}
 use Rattle.foldheron.specs.declared.Why.{Why}
 use Rattle.foldheron.specs.declared.Why.the-variants.{Broken, Kind, Edition, Limit, Signal, Exit, Shape, Loop, State, Clash, Input, Room, NotConstructive, Index}
 use Rattle.foldheron.specs.declared.Checked.{Checked}
 use Rattle.foldheron.specs.declared.Checked.the-variants.{Good, Refused}
 use Rattle.foldheron.specs.declared.Begun.{Begun}
 use Rattle.foldheron.specs.declared.Begun.the-variants.{Fresh, TurnedDown}
+use Rattle.foldheron.specs.declared.Part.{Part}
 
 -- The numbers given back when a call is turned down.
 unfoldable pub number : Why → ℕ
@@ -50,26 +52,25 @@ unfoldable pub begun-owed : Reading → List ℕ → List ℕ
 begun-owed (good g) state = cond (eqb (length state) 22) (0 ∷ 0 ∷ []) (9 ∷ 0 ∷ [])
 begun-owed (turned-down n at) state = n ∷ at ∷ []
 
--- A fresh state record: length 22, kind 2, phase 0, two words with no bit set.
-abbrev pub fresh-record : List ℕ
-fresh-record = 22 ∷ 0 ∷ 2 ∷ 0 ∷ 0 ∷ 0 ∷ replicate 16 0
-
 -- The state's bytes after the call: a fresh record, or as they were.
 unfoldable pub state-owed : Reading → List ℕ → List ℕ
-state-owed (good g) state = cond (eqb (length state) 22) fresh-record state
+state-owed (good g) state = cond (eqb (length state) 22) (state-record fresh) state
 state-owed (turned-down n at) state = state
 
--- An excerpt's number and place: 1 to 8, then INDEX for a statement number at or above the count.
-unfoldable pub excerpt-number : Reading → ℕ → ℕ
-excerpt-number (good g) n = cond (ltb n (g .statements)) 0 14
-excerpt-number (turned-down k at) n = k
+-- A refusal has no part.
+abbrev pub absent-part : ℕ → ℕ → Part
+absent-part k at = record { number = k; place = at; offset = 0; size = 0 }
 
-unfoldable pub excerpt-place : Reading → ℕ → ℕ
-excerpt-place (good g) n = 0
-excerpt-place (turned-down k at) n = at
+-- The part of the block that holds statement n and all below it: 1 to 8, then INDEX for a statement number at or above the count.
+unfoldable pub part-owed : Reading → ℕ → Part
+part-owed (good g) n =
+    cond (ltb n (g .statements)) (record { number = 0; place = 0; offset = offset (g .body) n; size = bytes (preorder (numbered (g .body) n)) })
+    (absent-part 14 0)
+part-owed (turned-down k at) n = absent-part k at
 
--- The part of the block that holds statement n and all below it; refused, an empty part.
-unfoldable pub excerpt-owed : Reading → List ℕ → ℕ → List ℕ
-excerpt-owed (good g) block n =
-    cond (ltb n (g .statements)) (take (bytes (preorder (numbered (g .body) n))) (drop (offset (g .body) n) block)) []
-excerpt-owed (turned-down k at) block n = []
+-- The bytes of a part, and its values.
+abbrev pub part-in : List ℕ → Part → List ℕ
+part-in block p = take (p .size) (drop (p .offset) block)
+
+abbrev pub part-values : Part → List ℕ
+part-values p = p .number ∷ p .place ∷ p .offset ∷ p .size ∷ []

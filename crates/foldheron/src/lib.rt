@@ -3,10 +3,13 @@ mod instants;
 
 pub use crate::instants::Instant;
 pub use crate::instants::Logged;
+use block::kinds::wide;
 use block::whole::Answer;
-use block::whole::Summary;
+pub use block::whole::Summary;
 use block::whole::offset_of;
 use block::whole::read_block;
+pub use reaction::Doubt;
+pub use reaction::Reaction;
 use reaction::Reply;
 use reaction::comes_to;
 use records::log::no_room;
@@ -16,10 +19,9 @@ ghost use mathlib.Core.Path.{_≡_};
 ghost use Prim.Native.Nat.{_+_, _≤_, _<_};
 ghost use lib.ListN.{length, getD};
 ghost use Rattle.block.specs.Format.{reading};
-ghost use Rattle.block.specs.declared.whole.Answer.{Answer};
 ghost use Rattle.reaction.specs.Instants.{told, state-after, log-after, end-after, instant-verdict, logged-verdict};
 ghost use Rattle.foldheron.specs.InstantAnswers.{instant-told};
-ghost use Rattle.foldheron.specs.Answers.{number, check-values, check-owed, begun-values, begun-owed, fresh-record, state-owed, excerpt-number, excerpt-place, excerpt-owed};
+ghost use Rattle.foldheron.specs.Answers.{number, check-values, check-owed, begun-values, begun-owed, state-owed, absent-part, part-owed, part-in};
 
 // Why a call is turned down.
 pub enum Why {
@@ -51,6 +53,14 @@ pub enum Begun {
     TurnedDown(Why, usize),
 }
 
+// Where a part of a block lies, by its offset and size; or the number and place of a refusal, with no size.
+pub struct Part {
+    pub number: u16,
+    pub place: usize,
+    pub offset: usize,
+    pub size: usize,
+}
+
 // The refusal of a number.
 fn refusal(n: u16) -> Why
     ensures { λ r. ⌜ (1 ≤ n → n ≤ 14 → number r ≡ n) ⌝ }
@@ -73,6 +83,28 @@ fn refusal(n: u16) -> Why
     }
 }
 
+// The number of a refusal.
+pub fn number_of(why: Why) -> u16
+    ensures { λ r. ⌜ r ≡ number why ⌝ }
+{
+    match why {
+        Why::Broken => 1,
+        Why::Kind => 2,
+        Why::Edition => 3,
+        Why::Limit => 4,
+        Why::Signal => 5,
+        Why::Exit => 6,
+        Why::Shape => 7,
+        Why::Loop => 8,
+        Why::State => 9,
+        Why::Clash => 10,
+        Why::Input => 11,
+        Why::Room => 12,
+        Why::NotConstructive => 13,
+        Why::Index => 14,
+    }
+}
+
 // Checks a block: numbers 1 to 8, or what it declares and how large it is.
 pub fn check(block: &[u8]) -> Checked
     ensures { λ r. ⌜ check-values r ≡ check-owed (reading (now (block .entry))) ⌝ }
@@ -85,20 +117,6 @@ pub fn check(block: &[u8]) -> Checked
         Answer::Good(s) => Checked::Good(s),
         Answer::Refused(n, at) => Checked::Refused(refusal(n), at),
     }
-}
-
-// A fresh state record, over 22 lent bytes.
-fn write_fresh(state: &mut [u8])
-    requires { ⌜ length (now state) ≡ 22 ⌝ }
-    ensures { λ _. ⌜ now (state .exit) ≡ fresh-record ⌝ }
-{
-    let mut i: usize = 0;
-    while i < 22 {
-        state[i] = 0;
-        i += 1;
-    }
-    state[0] = 22;
-    state[2] = 2;
 }
 
 // Writes a fresh state of a block into 22 lent bytes: numbers 1 to 8, then 9 for another size. A refusal changes no byte.
@@ -115,7 +133,7 @@ pub fn fresh(block: &[u8], state: &mut [u8]) -> Begun
             if state.len() != 22 {
                 return Begun::TurnedDown(Why::State, 0);
             }
-            write_fresh(state);
+            write_state(state, 0, [0, 0]);
             Begun::Fresh
         }
         Answer::Refused(n, at) => Begun::TurnedDown(refusal(n), at),
@@ -130,40 +148,57 @@ fn past_statement(sizes: &[u16; 512], n: usize) -> usize
     n + wide(sizes[n])
 }
 
-fn wide(x: u16) -> usize
-    ensures { λ r. ⌜ (r ≡ x) × (r < 65536) ⌝ }
+// A refusal has no part.
+fn no_part(number: u16, place: usize) -> Part
+    ensures { λ r. ⌜ r ≡ absent-part number place ⌝ }
 {
-    x as usize
+    Part {
+        number,
+        place,
+        offset: 0,
+        size: 0,
+    }
 }
 
-// The part of the block that holds statement n and all below it: numbers 1 to 8, then 14; refused, an empty part.
-pub fn excerpt<'a>(block: &'a [u8], n: usize, number: &mut u16, place: &mut usize) -> &'a [u8]
-    ensures { λ r. ⌜ now r ≡ excerpt-owed (reading (now (block .entry))) (now (block .entry)) n ⌝ }
-    ensures { λ _. ⌜ now (number .exit) ≡ excerpt-number (reading (now (block .entry))) n ⌝ }
-    ensures { λ _. ⌜ now (place .exit) ≡ excerpt-place (reading (now (block .entry))) n ⌝ }
+// Where the part of the block lies that holds statement n and all below it: numbers 1 to 8, then 14. For callers that take no reference.
+pub fn part_of(block: &[u8], n: usize) -> Part
+    ensures { λ r. ⌜ r ≡ part-owed (reading (now (block .entry))) n ⌝ }
+    ensures { λ r. ⌜ r .offset + r .size ≤ length (now (block .entry)) ⌝ }
 {
     let mut kinds = [0u16; 512];
     let mut operands = [0u16; 512];
     let mut sizes = [0u16; 512];
     let answer = read_block(block, &mut kinds, &mut operands, &mut sizes);
     match answer {
-        Answer::Refused(k, at) => {
-            *number = k;
-            *place = at;
-            &block[..0]
-        }
+        Answer::Refused(number, place) => no_part(number, place),
         Answer::Good(s) => {
-            *place = 0;
             if s.statements <= n {
-                *number = 14;
-                return &block[..0];
+                return no_part(14, 0);
             }
-            *number = 0;
-            let start = offset_of(&kinds, n);
+            let offset = offset_of(&kinds, n);
             let end = offset_of(&kinds, past_statement(&sizes, n));
-            &block[start..end]
+            Part {
+                number: 0,
+                place: 0,
+                offset,
+                size: end - offset,
+            }
         }
     }
+}
+
+// The part of the block that holds statement n and all below it: numbers 1 to 8, then 14; refused, an empty part.
+pub fn excerpt<'a>(block: &'a [u8], n: usize, number: &mut u16, place: &mut usize) -> &'a [u8]
+    ensures { λ r. ⌜ now r ≡ part-in (now (block .entry)) (part-owed (reading (now (block .entry))) n) ⌝ }
+    ensures { λ _. ⌜ now (number .exit) ≡ part-owed (reading (now (block .entry))) n .number ⌝ }
+    ensures { λ _. ⌜ now (place .exit) ≡ part-owed (reading (now (block .entry))) n .place ⌝ }
+{
+    let part = part_of(block, n);
+    *number = part.number;
+    *place = part.place;
+    let start = part.offset;
+    let end = start + part.size;
+    &block[start..end]
 }
 
 // Runs one instant: numbers 1 to 8, then 9, 10 with the pair, 11, 13. An answered one writes the next state over the lent state; a

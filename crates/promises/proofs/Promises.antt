@@ -20,7 +20,7 @@ use Rattle.foldheron.specs.Answers.{begun-owed, state-owed}
 use Rattle.promises.specs.Promised.{Holds, Inputs, PromisedAnswer, Promised}
 use Rattle.promises.specs.Runs.{verdicts, bytes-left, logged-verdicts, logged-bytes-left, numbers, sets, PromisedRun}
 use Rattle.promises.specs.Calls.{Called, Calls, CalledWithLog, PromisedLogged}
-use Rattle.promises.proofs.Records.{checked, held-is-legal, legal-is-held, fresh-is-its-record}
+use Rattle.promises.proofs.Records.{checked, held-is-legal, legal-is-held}
 use Rattle.promises.proofs.Instants.{promised}
 use Rattle.promises.proofs.Runs.{promised-run, same-verdict, same-run}
 use Rattle.promises.proofs.Calls.{call, calls, call-with-log}
@@ -43,7 +43,7 @@ module _ (b : List ℕ) (g : Good) (e : reading b ≡ good g) where
       → (begun-owed (reading b) s ≡ 0 ∷ 0 ∷ []) × Holds g (state-owed (reading b) s) fresh
   unfolding begun-owed state-owed Legal
   fresh-writes-a-legal-record s l =
-      let q : state-owed (good g) s ≡ state-record fresh = simp (eq-eqb (length s) 22 l) fresh-is-its-record in (
+      let q : state-owed (good g) s ≡ state-record fresh = simp (eq-eqb (length s) 22 l) in (
         ap (λ (x : Reading). begun-owed x s) e ∙ simp (eq-eqb (length s) 22 l),
         subst⁻¹ (λ (x : List ℕ). Holds g x fresh) (ap (λ (x : Reading). state-owed x s) e ∙ q) (legal-is-held b g e fresh tt),
       )

@@ -1,24 +1,23 @@
 -- State records and legal states: for a good block a record is found legal exactly when it holds a legal state, since the reading counts
 -- the tree's pauses; and what is written is made of bytes. Assumes nothing.
-use mathlib.Core.Path.{_≡_, refl, sym, ap, _∙_, subst}
+use mathlib.Core.Path.{_≡_, sym, ap, _∙_, subst}
 use mathlib.Core.Bool.{false, not}
 use mathlib.Core.List.{List, [], _∷_, _++_}
 use Prim.Native.Nat.{ℕ, zero, suc, _+_, _/_, _%_, _^_, _≤_, _<_}
 use native.Mathlib.Omega.{arith}
 use lib.Dec.{eqb}
 use lib.ListN.{getD}
-use Rattle.sets.specs.Words.{bits, word}
+use Rattle.sets.specs.Words.{bits}
 use Rattle.sets.proofs.Members.{of-true, is-false}
 use Rattle.sets.proofs.Words.{bits-ext, bits-shift, bits-zero}
-use Rattle.rules.specs.States.{State, fresh, phase-of, active-of, Legal}
+use Rattle.rules.specs.States.{State, phase-of, Legal}
 use Rattle.theorems.specs.Checked.{Checked}
 use Rattle.block.specs.Format.{Good, good, reading}
 use Rattle.block.proofs.GoodReadings.{Sound, sound}
-use Rattle.records.specs.Numerals.{in-bytes}
+use Rattle.records.specs.Numerals.{Bytes, in-bytes}
 use Rattle.records.specs.StateRecord.{state, state-record, read-state, undeclared-input}
-use Rattle.records.proofs.LegalStates.{Bytes, found-legal, legal-found, legal-clear}
+use Rattle.records.proofs.LegalStates.{found-legal, legal-found, legal-clear}
 use Rattle.reaction.specs.Instants.{block-of}
-use Rattle.foldheron.specs.Answers.{fresh-record}
 use Rattle.promises.specs.Promised.{Holds, Inputs}
 
 -- Bytes written.
@@ -49,11 +48,6 @@ unfolding state-record
 record-bytes st =
     both-bytes _ _ (in-bytes-bytes 2 22)
     (both-bytes _ _ (in-bytes-bytes 2 2) (both-bytes _ _ (in-bytes-bytes 2 (phase-of st)) (both-bytes _ _ (in-bytes-bytes 8 _) (in-bytes-bytes 8 _))))
-
--- What `fresh` writes is the record of the fresh state.
-pub fresh-is-its-record : fresh-record ≡ state-record fresh
-unfolding state-record in-bytes word phase-of active-of
-fresh-is-its-record = refl
 
 -- No bit at or above the number of inputs: not the refusal 11.
 pub inputs-pass : (g : Good) (w : Inputs g) → undeclared-input (g .header .inputs) (w .number) ≡ false

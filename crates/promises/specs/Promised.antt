@@ -16,8 +16,8 @@ use Rattle.theorems.specs.Reactions.{OnlyReaction}
 use Rattle.theorems.specs.Traces.{InputSet, after}
 use Rattle.theorems.specs.Demand.{NotStuck}
 use Rattle.block.specs.Format.{Good}
+use Rattle.records.specs.Numerals.{Bytes}
 use Rattle.records.specs.StateRecord.{state, state-record, read-state, first-clash}
-use Rattle.records.proofs.LegalStates.{Bytes}
 use Rattle.reaction.specs.Instants.{NOT-CONSTRUCTIVE, block-of, reacted, Told, told, state-after, instant-verdict}
 
 -- The state record of a good block is found legal: its bytes hold a state, and no two active pauses clash.

@@ -1,24 +1,24 @@
 -- One lemma for each way through an instant: what was found on the way decides the verdict, and the reply stands for it. Assumes nothing.
 use mathlib.Core.Path.{_≡_, refl, sym, _∙_, ap, ap₂, subst}
-use mathlib.Core.Bool.{Bool, true, false, true≢false, false≢true}
-use mathlib.Core.List.{List, [], _∷_}
+use mathlib.Core.Bool.{Bool, true, false, true≢false}
+use mathlib.Core.List.{List, []}
 use mathlib.Core.Option.{Option, none, some}
-use Prim.Native.Nat.{ℕ, zero, suc, _+_, _%_, _^_, _≤_, _<_}
+use Prim.Native.Nat.{ℕ, _+_, _%_, _^_, _≤_, _<_}
 use native.Mathlib.Omega.{arith}
 use lib.Dec.{T}
 use lib.ListN.{getD}
 use mir.Val.{Fits}
 use mir.Syntax.{w64}
 use Rattle.sets.specs.Numbers.{Numbers, count, lowest}
-use Rattle.sets.specs.Words.{bits, word, two-words}
+use Rattle.sets.specs.Words.{bits, word, set-of}
 use Rattle.sets.proofs.Members.{eqb-not}
 use Rattle.sets.proofs.Counts.{lowest-some}
-use Rattle.sets.proofs.Words.{Is, is-word}
+use Rattle.sets.proofs.Words.{is-word}
 use Rattle.rules.specs.Statements.{Block}
-use Rattle.rules.specs.Events.{Status, present, absent, unknown, event}
+use Rattle.rules.specs.Events.{Status, present, absent, event}
 use Rattle.rules.specs.MustCan.{must, gives}
 use Rattle.rules.specs.States.{State, fresh, running, finished, phase-of, active-of, step, kept, next}
-use Rattle.rules.specs.Rounds.{same, outputs-with, undecided, Settled, Answer, answered, not-constructive, answer, final-of, react}
+use Rattle.rules.specs.Rounds.{outputs-with, undecided, Settled, Answer, answered, not-constructive, answer, final-of, react}
 use Rattle.block.specs.Table.{Table, statements}
 use Rattle.block.specs.Format.{Good, Reading, good, turned-down as fails, reading}
 use Rattle.block.specs.Told.{summary-of, answer-to, Stands, ReadWhole}
@@ -26,16 +26,15 @@ use Rattle.block.specs.declared.whole.Answer.{Answer as Reads}
 use Rattle.block.specs.declared.whole.Answer.the-variants.{Good as GoodBlock, Refused as RefusedBlock}
 use Rattle.block.specs.declared.whole.Summary.{Summary}
 use Rattle.block.proofs.GoodReadings.{Sound, sound}
-use Rattle.records.specs.StateRecord.{Found, not-a-state, state, read-state, state-record, Pair as Pairing, first-clash, undeclared-input}
-use Rattle.records.specs.Held.{set-of, held-of, state-bytes}
+use Rattle.records.specs.Numerals.{Bytes}
+use Rattle.records.specs.StateRecord.{Found, not-a-state, state, read-state, Pair as Pairing, first-clash, undeclared-input}
+use Rattle.records.specs.Held.{held-of, state-bytes}
 use Rattle.records.specs.declared.state.Held.{Held}
-use Rattle.records.proofs.LegalStates.{Bytes}
 use Rattle.records.proofs.Answers.{held-fresh, held-running, held-finished, held-set, held-in-block}
-use Rattle.records.specs.Clashing.{pair-of, Searchable}
+use Rattle.records.specs.Clashing.{pair-of, Searchable, Bounded}
 use Rattle.records.specs.declared.clash.Clash.{Clash as Clashing}
 use Rattle.records.specs.declared.clash.Clash.the-variants.{None, Pair}
 use Rattle.records.proofs.Writing.{written-state}
-use Rattle.evaluate.specs.Words.{pauses-of}
 use Rattle.evaluate.specs.Forms.{At}
 use Rattle.evaluate.specs.Reacts as evaluate
 use Rattle.evaluate.specs.declared.rounds.Phase.{Phase}
@@ -69,22 +68,9 @@ module _ (g : Good) (st : State) (given : ℕ) (roomless : Bool) where
   unfolding try-inputs
   all-pass e r = rw (e, r)
 
--- the evaluator's words for sets and counts are the rules'
-same-active : (st : State) → evaluate.active-in st ≡ active-of st
-unfolding active-of
-same-active fresh = refl
-same-active (running A) = refl
-same-active finished = refl
-
-same-set : (ws : List ℕ) → set-of ws ≡ pauses-of ws
-unfolding two-words pauses-of
-same-set ws = refl
-
--- outputs with a status, as a word
-outputs-word : (v : Status) (b : Block) (outs : List Status) (w : ℕ) → bits w ≡ evaluate.outputs-with v (b .inputs) outs → w < 2 ^ 64
-    → w ≡ word 64 (outputs-with v b outs)
-unfolding outputs-with
-outputs-word v b outs w e h = is-word 64 (record { bit = λ n. ap (λ (f : Numbers). f n) e }) h
+-- a set of signals as a word
+signals-word : (A : Numbers) (w : ℕ) → bits w ≡ A → w < 2 ^ 64 → w ≡ word 64 A
+signals-word A w e h = is-word 64 (record { bit = λ n. ap (λ (f : Numbers). f n) e }) h
 
 -- the phase after a code
 pub running-phase : (c : ℕ) → c ≡ 1 → (A : Numbers) → 1 ≡ phase-of (next c A)
@@ -118,13 +104,13 @@ module _ (b : Block) (r : Reacted) (fits : Fitting r) (o : Outcome) where
       code-is = let e : r .code .0 ≡ c = a .code-is in omega arith
 
       its-set : set-of (r .kept) ≡ active-of st
-      its-set = same-set (r .kept) ∙ a .kept-is ∙ same-active st
+      its-set = a .kept-is
 
       its-phase : o .phase ≡ phase-of st
-      its-phase = ph (pauses-of (r .kept)) ∙ ap (λ (x : ℕ). phase-of (next x (pauses-of (r .kept)))) code-is ∙ ap phase-of (sym (a .state-is))
+      its-phase = ph (set-of (r .kept)) ∙ ap (λ (x : ℕ). phase-of (next x (set-of (r .kept)))) code-is ∙ ap phase-of (sym (a .state-is))
 
       its-active : r .active ≡ count 128 (active-of st)
-      its-active = a .active-is ∙ ap (count 128) (a .kept-is ∙ same-active st)
+      its-active = a .active-is ∙ ap (count 128) (a .kept-is)
 
       fields : told-of (Answered (record { present = r .present; code = r .code .0 % 65536; rounds = r .rounds; active = r .active })) ≡ told-reaction b (answered outs c st n)
       fields = λ i. record {
@@ -132,7 +118,7 @@ module _ (b : Block) (r : Reacted) (fits : Fitting r) (o : Outcome) where
         place = 0;
         first = 0;
         second = 0;
-        present-outputs = outputs-word present b outs (r .present) (a .stands .present-is) (fits .present-fits) i;
+        present-outputs = signals-word (outputs-with present b outs) (r .present) (a .stands .present-is) (fits .present-fits) i;
         absent-outputs = 0;
         undecided-outputs = 0;
         rounds = a .stands .rounds-is i;
@@ -153,8 +139,8 @@ module _ (b : Block) (r : Reacted) (fits : Fitting r) (o : Outcome) where
         place = 0;
         first = 0;
         second = 0;
-        present-outputs = outputs-word present b outs (r .present) (a .stands .present-is) (fits .present-fits) i;
-        absent-outputs = outputs-word absent b outs (r .absent) (a .stands .absent-is) (fits .absent-fits) i;
+        present-outputs = signals-word (outputs-with present b outs) (r .present) (a .stands .present-is) (fits .present-fits) i;
+        absent-outputs = signals-word (outputs-with absent b outs) (r .absent) (a .stands .absent-is) (fits .absent-fits) i;
         undecided-outputs = a .stands .undecided-is i;
         rounds = a .stands .rounds-is i;
         code = 0;
@@ -225,7 +211,7 @@ module _ {tab : Table} {s : Summary} {g : Good} (o : Opened tab s g) where
     room-way e d f t = turned-down 12 0 e (room-fails g st given roomless (sym its-test ∙ sym d ∙ f) t)
 
     pub react-way : (r : Reacted) {x : Bool} {phase : Phase} {set : List ℕ} {out : Outcome} → Begins st phase set
-        → evaluate.Reacts (record { inputs = s .inputs; outputs = s .outputs; body = g .body }) phase (pauses-of set) (bits given) r
+        → evaluate.Reacts (record { inputs = s .inputs; outputs = s .outputs; body = g .body }) phase (set-of set) (bits given) r
         → ((b : Block) (a : Answer) → evaluate.Answers b a r → Coded a → Comes (reacted b a) out)
         → x ≡ undeclared-input (s .inputs) given → x ≡ false → roomless ≡ false → Comes (try-inputs g st given roomless) out
     unfolding evaluate.Reacts
@@ -233,8 +219,8 @@ module _ {tab : Table} {s : Summary} {g : Good} (o : Opened tab s g) where
         subst (λ (v : Verdict). Comes v out) (sym (all-pass g st given roomless (sym its-test ∙ sym d ∙ u) m))
         (f (block-of g) (react (block-of g) st (bits given)) its-answer (coded (block-of g) st (bits given)))
       where
-        its-state : evaluate.state-of phase (pauses-of set) ≡ st
-        its-state = ap (evaluate.state-of phase) (sym (same-set set)) ∙ sym (begins .state-is)
+        its-state : evaluate.state-of phase (set-of set) ≡ st
+        its-state = sym (begins .state-is)
 
         its-answer : evaluate.Answers (block-of g) (react (block-of g) st (bits given)) r
         its-answer =
@@ -251,6 +237,11 @@ module _ {tab : Table} {s : Summary} {g : Good} (o : Opened tab s g) where
     few = let e : s .statements ≡ g .statements = ap (λ (x : Summary). x .statements) (o .summed) in let h : g .statements ≤ 512 = facts .few-statements in omega arith;
     in-block = λ n t. subst (λ (k : ℕ). n < k) (facts .paused) (h n t);
   }
+
+  pub bounded : (set : List ℕ) → ((k : ℕ) → T (set-of set k) → k < g .pauses) → Bounded (s .pauses) set
+  bounded set h =
+      let e : g .pauses ≡ s .pauses = sym (ap (λ (x : Summary). x .pauses) (o .summed)) in
+      record { bound = λ n t. subst (λ (k : ℕ). n < k) e (h n t); width = subst (λ (k : ℕ). k ≤ 128) e (facts .few-pauses) }
 
   module _ (st : State) (given : ℕ) (roomless : Bool) {phase : Phase} {set : List ℕ} (begins : Begins st phase set) where
     its-clash : first-clash (g .body) (set-of set) ≡ first-clash (g .body) (active-of st)

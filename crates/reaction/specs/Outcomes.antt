@@ -2,6 +2,7 @@
 use mathlib.Core.Path.{_≡_}
 use mathlib.Core.List.{List}
 use Prim.Native.Nat.{ℕ, _<_}
+use Rattle.sets.specs.Words.{set-of}
 use Rattle.rules.specs.States.{State, active-of}
 use Rattle.rules.specs.Rounds.{Answer, answered, not-constructive}
 use Rattle.block.specs.Table.{Table, Has}
@@ -9,7 +10,7 @@ use Rattle.block.specs.Format.{Good, good, reading}
 use Rattle.block.specs.Told.{summary-of}
 use Rattle.block.specs.declared.whole.Summary.{Summary}
 use Rattle.records.specs.StateRecord.{state-record}
-use Rattle.records.specs.Held.{set-of, state-bytes}
+use Rattle.records.specs.Held.{state-bytes}
 use Rattle.evaluate.specs.Reacts.{state-of}
 use Rattle.evaluate.specs.declared.rounds.Phase.{Phase}
 use Rattle.reaction.specs.declared.Reply.{Reply}

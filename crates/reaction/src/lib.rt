@@ -15,13 +15,13 @@ ghost use mathlib.Core.List.{List};
 ghost use Prim.Native.Nat.{ℕ, _<_};
 ghost use lib.Dec.{T};
 ghost use Rattle.sets.specs.Numbers.{Numbers};
+ghost use Rattle.sets.specs.Words.{set-of};
 ghost use Rattle.rules.specs.Statements.{Block};
 ghost use Rattle.rules.specs.States.{State, phase-of, next};
 ghost use Rattle.rules.specs.Rounds as rules;
 ghost use Rattle.block.specs.Format.{Good, reading};
 ghost use Rattle.block.specs.Told.{table-of};
 ghost use Rattle.records.specs.StateRecord.{read-state};
-ghost use Rattle.records.specs.Held.{set-of};
 ghost use Rattle.evaluate.specs.Reacts.{Answers};
 ghost use Rattle.reaction.specs.Instants.{reacted, block-of, verdict, try-inputs, try-state, clash-tried};
 ghost use Rattle.reaction.specs.Outcomes.{Coded, Comes, Opened, Begins};
@@ -146,7 +146,7 @@ fn past_state(
     ensures { λ o. ⌜ ((g : Good) → Opened (table-of (now (kinds .entry)) (now (operands .entry)) (now (sizes .entry))) s g → ((k : ℕ) → T (set-of set k) → k < g .pauses) → (st : State) → Begins st phase set → Comes (clash-tried g st given roomless) o) ⌝ }
 {
     let count = s.statements;
-    let found = first_clash(kinds, sizes, count, set);
+    let found = first_clash(kinds, sizes, count, s.pauses, set);
     match found {
         Clash::Pair(m, n) => Outcome {
             reply: Reply::Clash(m, n),

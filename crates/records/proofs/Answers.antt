@@ -8,17 +8,18 @@ use native.Mathlib.Omega.{arith}
 use lib.Dec.{T}
 use lib.ListN.{length, replicate, length-replicate}
 use Rattle.sets.specs.Numbers.{Numbers, empty}
-use Rattle.sets.specs.Words.{word, two-words}
+use Rattle.sets.specs.Words.{word, two-words, set-of}
 use Rattle.rules.specs.Statements.{Stmt}
 use Rattle.rules.specs.States.{State, fresh, running, finished, active-of}
+use Rattle.records.specs.Numerals.{Bytes}
 use Rattle.records.specs.StateRecord.{Found, not-a-state, state, upper, read-state, Pair, first-clash}
 use Rattle.records.specs.LogRecord.{no-room}
-use Rattle.records.specs.Held.{set-of, held-of}
+use Rattle.records.specs.Held.{held-of}
 use Rattle.records.specs.Clashing.{pair-of, Searchable}
 use Rattle.records.specs.declared.clash.Clash.{Clash}
 use Rattle.records.specs.declared.clash.Clash.the-variants as clash
 use Rattle.records.proofs.TwoWords.{set-of-words}
-use Rattle.records.proofs.LegalStates.{Bytes, found-below, found-in-block}
+use Rattle.records.proofs.LegalStates.{found-below, found-in-block}
 
 other : {X : Type 0} (m n : ℕ) → (m < n) → m ≡ n → X
 other m n h e = absurd (omega arith)

@@ -19,16 +19,13 @@ use Rattle.sets.proofs.Maxima.{some-to-in, some-to-out}
 use Rattle.sets.proofs.Counts.{lowest-is, Lowest}
 use Rattle.rules.specs.Statements.{Stmt, pauses}
 use Rattle.rules.specs.States.{State, fresh, running, finished, compatible, Legal, active-of}
-use Rattle.records.specs.Numerals.{number, field}
+use Rattle.records.specs.Numerals.{Bytes, number, field}
 use Rattle.records.specs.StateRecord.{Found, not-a-state, state, state-record, beyond, active-in, in-phase, read-state, clashes, first-clash, with-second, paired}
 use Rattle.records.proofs.TwoWords.{beyond-in, some-bit, in-low, in-high, below-128, below-width}
 use Rattle.records.proofs.Pairs.{Clear-first, none-found, clash-first, clash-second, clash-lower, clash-apart}
 use Rattle.records.proofs.Back.{fresh-back, finished-back, running-back, compatible-sym}
 
 -- A field of so many bytes is below that power of 256.
-pub record Bytes (bs : List ℕ) : Type 0 where
-  pub byte : (i : ℕ) → getD bs i 0 < 256
-
 number-lt : (n : ℕ) (xs : List ℕ) → ((i : ℕ) → getD xs i 0 < 256) → number (take n xs) < 256 ^ n
 unfolding number
 number-lt zero xs f = omega arith

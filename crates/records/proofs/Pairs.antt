@@ -9,13 +9,13 @@ use lib.Dec.{T, eqb, ltb, ltb→lt, T-not}
 use lib.ListN.{length}
 use borrow.Author.Tests.{lt-ltb, eqb-true, eqb-false}
 use Rattle.sets.specs.Numbers.{Numbers, some-to}
+use Rattle.sets.specs.Words.{set-of}
 use Rattle.sets.proofs.Members.{is-true, is-false, of-false, and-left, and-right}
 use Rattle.sets.proofs.Maxima.{some-to-in, some-to-out}
 use Rattle.sets.proofs.Counts.{lowest-in, lowest-empty}
 use Rattle.rules.specs.Statements.{Stmt, pauses}
 use Rattle.rules.specs.States.{compatible}
 use Rattle.records.specs.StateRecord.{clashes, first-clash, with-second, paired}
-use Rattle.records.specs.Held.{set-of}
 use Rattle.records.specs.Clashing.{Searchable, before, Filled, Place}
 
 -- Two active pauses are in the tree, so that the walk may start at its root.
@@ -91,8 +91,8 @@ module _ (t : Stmt) (A : Numbers) where
       go i j h l true q c = f j l (subst (λ (k : ℕ). T (clashes t A k j)) (eqb-true i m q) c)
       go i j h l false q c = let k : i ≡ m → ⊥ = eqb-false i m q in C .none-below i j (omega arith) l c
 
-  pub first-tested : (m n : ℕ) → Clear-first t A m → Clear-second t A m n → 128 ≤ n → Clear-first t A (m + 1)
-  first-tested m n C D h = first-more m C (λ j l. D .none-before j (omega arith))
+  pub first-tested : (m n : ℕ) {k : ℕ} → Clear-first t A m → Clear-second t A m n → ((j : ℕ) → T (A j) → j < k) → k ≤ n → Clear-first t A (m + 1)
+  first-tested m n C D f h = first-more m C (λ j l c. D .none-before j (let b = f j (clash-second t A m j c) in omega arith) c)
 
   pub first-passed : (m : ℕ) {b : Bool} → Clear-first t A m → b ≡ A m → b ≡ false → Clear-first t A (m + 1)
   first-passed m C e f = first-more m C (λ j l c. of-false (sym e ∙ f) (clash-first t A m j c))
@@ -106,6 +106,11 @@ module _ (t : Stmt) (A : Numbers) where
   none-found k l C =
       sym (ap (with-second t A) (lowest-empty 128 (λ m. some-to (clashes t A m) 127)
       (λ m h c. let r = some-second m c in C .none-below m (r .0) (omega arith) (r .1) (r .2))))
+
+  -- No pause from the bound on is active.
+  pub bound-passed : (m : ℕ) {k : ℕ} → ((j : ℕ) → T (A j) → j < k) → k ≤ m → Clear-first t A m → none ≡ first-clash t A
+  bound-passed m f l C =
+      none-found 128 (omega arith) (record { none-below = λ i j h g c. C .none-below i j (let b = f i (clash-first t A i j c) in omega arith) g c })
 
   pub pair-found : (m n : ℕ) → m < 128 → n < 128 → Clear-first t A m → Clear-second t A m n → T (clashes t A m n)
       → some (record { first = m; second = n }) ≡ first-clash t A

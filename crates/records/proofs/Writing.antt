@@ -10,13 +10,13 @@ use lib.Seq.{sets, drop-length, drop-drop, take-all}
 use borrow.Author.Tests.{lt-ltb, le-ltb}
 use native.Mathlib.Nat.{le-of-eq}
 use mathlib.Core.Bool.{Bool, true, _||_}
-use Rattle.sets.specs.Words.{word}
+use Rattle.sets.specs.Words.{word, set-of}
 use Rattle.sets.proofs.Members.{ext}
 use Rattle.rules.specs.States.{State, fresh, finished, phase-of, active-of}
 use Rattle.records.specs.Numerals.{in-bytes}
 use Rattle.records.specs.StateRecord.{state-record, upper}
 use Rattle.records.specs.LogRecord.{Logged, log-record, no-room, logged-at}
-use Rattle.records.specs.Held.{set-of, words-of, state-bytes}
+use Rattle.records.specs.Held.{words-of, state-bytes}
 use Rattle.records.proofs.Bytes.{sets-front}
 use Rattle.records.proofs.TwoWords.{words-low, words-high, set-of-none}
 

@@ -7,11 +7,11 @@ use mathlib.Core.Option.{Option, none, some}
 use Prim.Native.Nat.{ℕ, zero, suc, _+_, _≤_, _<_}
 use lib.Dec.{T, eqb}
 use lib.ListN.{length, getD}
+use Rattle.sets.specs.Words.{set-of}
 use Rattle.rules.specs.Statements.{Stmt, pauses, Numbered}
 use Rattle.rules.specs.States.{compatible}
 use Rattle.block.specs.Table.{Has, statements}
 use Rattle.records.specs.StateRecord.{Pair}
-use Rattle.records.specs.Held.{set-of}
 use Rattle.records.specs.declared.clash.Clash.{Clash}
 use Rattle.records.specs.declared.clash.Clash.the-variants as clash
 
@@ -28,6 +28,11 @@ pub record Searchable (kinds sizes : List ℕ) (count : ℕ) (active : List ℕ)
   pub counted : statements t ≡ count
   pub few : count ≤ 512
   pub in-block : (n : ℕ) → T (set-of active n) → n < length (pauses t)
+
+-- The active pauses are among the first so many.
+pub record Bounded (pauses : ℕ) (active : List ℕ) : Type 0 where
+  pub bound : (n : ℕ) → T (set-of active n) → n < pauses
+  pub width : pauses ≤ 128
 
 -- How many pauses stand before statement i.
 unfoldable pub before : List ℕ → ℕ → ℕ

@@ -3,16 +3,13 @@ use mathlib.Core.List.{List, [], _∷_, _++_}
 use Prim.Native.Nat.{ℕ}
 use lib.ListN.{getD}
 use Rattle.sets.specs.Numbers.{Numbers}
-use Rattle.sets.specs.Words.{word, two-words}
+use Rattle.sets.specs.Words.{word}
 use Rattle.rules.specs.States.{phase-of, active-of}
 use Rattle.records.specs.Numerals.{in-bytes}
 use Rattle.records.specs.StateRecord.{Found, not-a-state, state, upper}
 use Rattle.records.specs.declared.state.Held.{Held}
 
--- The set of an array of two words, and the two words of a set.
-abbrev pub set-of : List ℕ → Numbers
-set-of ws = two-words 64 (getD ws 0 0) (getD ws 1 0)
-
+-- The two words of a set.
 abbrev pub words-of : Numbers → List ℕ
 words-of A = word 64 A ∷ word 64 (upper A) ∷ []
 

@@ -1,7 +1,11 @@
 -- Little-endian numbers in bytes. Assumes nothing.
 use mathlib.Core.List.{List, [], _∷_}
-use Prim.Native.Nat.{ℕ, zero, suc, _+_, _*_, _/_, _%_}
-use lib.ListN.{take, drop}
+use Prim.Native.Nat.{ℕ, zero, suc, _+_, _*_, _/_, _%_, _<_}
+use lib.ListN.{getD, take, drop}
+
+-- Numbers that are bytes.
+pub record Bytes (bs : List ℕ) : Type 0 where
+  pub byte : (i : ℕ) → getD bs i 0 < 256
 
 -- A number as so many bytes, the lowest first.
 unfoldable pub in-bytes : ℕ → ℕ → List ℕ

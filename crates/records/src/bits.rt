@@ -3,8 +3,7 @@ ghost use mathlib.Core.Path.{_≡_};
 ghost use mathlib.Core.Bool.{not};
 ghost use Prim.Native.Nat.{_/_, _<_, _^_};
 ghost use lib.Dec.{eqb};
-ghost use Rattle.sets.specs.Words.{two-words};
-ghost use Rattle.records.specs.Held.{set-of};
+ghost use Rattle.sets.specs.Words.{two-words, set-of};
 ghost use Rattle.records.specs.StateRecord.{beyond, undeclared-input};
 
 // A bit is set from a place on; from 64 on there is none, and no shift by the width.

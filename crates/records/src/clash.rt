@@ -2,11 +2,11 @@
 use crate::bits::has;
 ghost use mathlib.Core.Path.{_≡_};
 ghost use Prim.Native.Nat.{ℕ, _≤_, _<_};
+ghost use Rattle.sets.specs.Words.{set-of};
 ghost use Rattle.rules.specs.Statements.{Stmt};
 ghost use Rattle.rules.specs.States.{compatible};
 ghost use Rattle.records.specs.StateRecord.{clashes, first-clash};
-ghost use Rattle.records.specs.Held.{set-of};
-ghost use Rattle.records.specs.Clashing.{pair-of, Searchable, Filled, Pairable, two-parts, Place, Goes};
+ghost use Rattle.records.specs.Clashing.{pair-of, Searchable, Bounded, Filled, Pairable, two-parts, Place, Goes};
 
 // The first bad pair, or none.
 pub enum Clash {
@@ -104,15 +104,21 @@ fn clashing(
 }
 
 // The lowest first pause, then the lowest second, of a pair that clashes.
-pub fn first_clash(kinds: &[u16; 512], sizes: &[u16; 512], count: usize, active: [u64; 2]) -> Clash
-    requires { ⌜ ((t : Stmt) × Searchable (now kinds) (now sizes) count active t) ⌝ }
+pub fn first_clash(
+    kinds: &[u16; 512],
+    sizes: &[u16; 512],
+    count: usize,
+    pauses: u16,
+    active: [u64; 2],
+) -> Clash
+    requires { ⌜ ((t : Stmt) × Searchable (now kinds) (now sizes) count active t) × Bounded pauses active ⌝ }
     ensures { λ r. ⌜ ((t : Stmt) → Searchable (now (kinds .entry)) (now (sizes .entry)) count active t → pair-of r ≡ first-clash t (set-of active)) ⌝ }
 {
     let firsts = pauses_before(kinds, count);
     let mut found = Clash::None;
-    'pairs: for m in 0u16..128 {
+    'pairs: for m in 0u16..pauses {
         if has(active, m) {
-            for n in m + 1..128 {
+            for n in m + 1..pauses {
                 if clashing(kinds, sizes, &firsts, active, m, n) {
                     found = Clash::Pair(m, n);
                     break 'pairs;

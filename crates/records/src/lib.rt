@@ -2,5 +2,5 @@
 pub mod bits;
 pub mod clash;
 pub mod log;
-mod numerals;
+pub mod numerals;
 pub mod state;

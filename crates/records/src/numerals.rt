@@ -20,7 +20,7 @@ pub(crate) fn number_at(s: &[u8], at: usize, n: usize) -> u64
 }
 
 // The number's lowest n bytes, stored from a place on.
-pub(crate) fn put_number(s: &mut [u8], at: usize, n: usize, x: u64)
+pub fn put_number(s: &mut [u8], at: usize, n: usize, x: u64)
     requires { ⌜ at + n ≤ length (now s) ⌝ }
     ensures { λ _. ⌜ now (s .exit) ≡ sets (now (s .entry)) at (in-bytes n x) ⌝ }
 {

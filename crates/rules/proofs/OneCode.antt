@@ -9,7 +9,7 @@ use Rattle.sets.proofs.Maxima.{maxima-out, downs-out}
 use Rattle.rules.specs.Statements.{code}
 use Rattle.rules.specs.Events.{Status, present, absent, unknown, Event, giving}
 use Rattle.rules.specs.Instant.{Step, done, stay, say, leave, test, catch, scope, chain, beside}
-use Rattle.rules.specs.MustCan.{must, Given, choose, caught, both, followed, absence-asked, settled, hidden, gives}
+use Rattle.rules.specs.MustCan.{must, Given, choose, caught, both, followed, absence-asked, local-status, hidden, gives}
 
 pub record OneCode (g : Given) : Type 0 where
   pub equal : (c d : ℕ) → T (g .codes c) → T (g .codes d) → c ≡ d
@@ -73,7 +73,7 @@ one-code (test s p q) E = one-choose (E s) (one-code p E) (one-code q E)
 one-code (catch p) E = one-caught (one-code p E)
 one-code (scope s p) E =
     one-hidden s
-    (one-code p (giving E s (settled must s (gives must p (giving E s unknown)) (gives (absence-asked must) p (giving E s unknown)))))
+    (one-code p (giving E s (local-status must s (gives must p (giving E s unknown)) (gives (absence-asked must) p (giving E s unknown)))))
 one-code (chain p q) E = one-followed (one-code p E) (one-code q E)
 one-code (beside p q) E = one-both (one-code p E) (one-code q E)
 

@@ -77,8 +77,8 @@ marked false false v = absent
 marked false true v = v
 
 -- A local's status, from its body analysed with the signal unknown.
-abbrev pub settled : Question → ℕ → Given → Given → Status
-settled k s body-must body-can = marked (asks-must k && body-must .signals s) (body-can .signals s) unknown
+abbrev pub local-status : Question → ℕ → Given → Given → Status
+local-status k s body-must body-can = marked (asks-must k && body-must .signals s) (body-can .signals s) unknown
 
 -- A local: its signal is removed from the result.
 abbrev pub hidden : ℕ → Given → Given
@@ -95,4 +95,4 @@ gives k (catch p) E = caught (gives k p E)
 gives k (chain p q) E = followed (gives k p E) (gives (onward k (gives must p E .codes 0)) q E)
 gives k (beside p q) E = both (gives k p E) (gives k q E)
 gives k (scope s p) E =
-    hidden s (gives k p (giving E s (settled k s (gives must p (giving E s unknown)) (gives (absence-asked k) p (giving E s unknown)))))
+    hidden s (gives k p (giving E s (local-status k s (gives must p (giving E s unknown)) (gives (absence-asked k) p (giving E s unknown)))))

@@ -8,7 +8,7 @@ use Rattle.sets.specs.Numbers.{Numbers, empty, union, only-if, listed}
 use Rattle.rules.specs.Statements.{Stmt, nothing, pause, emit, present?_then_else_, suspend_on_, _⨾_, loop, _parallel_, trap, exit, local, pauses}
 use Rattle.rules.specs.Events.{Status, present, absent, unknown, Event, giving}
 use Rattle.rules.specs.Instant.{Step, done, stay, say, leave, test, catch, scope, chain, beside, started, resumed}
-use Rattle.rules.specs.MustCan.{must, absence-asked, settled, gives}
+use Rattle.rules.specs.MustCan.{must, absence-asked, local-status, gives}
 
 -- The phases; only a running state has active pauses.
 pub data State : Type 0 where
@@ -83,7 +83,7 @@ Legal p finished = Unit {0}
 
 -- The status that a local gets in must, which is the one that it is executed with.
 abbrev pub executed-as : ℕ → Step → Event → Status
-executed-as s p E = settled must s (gives must p (giving E s unknown)) (gives (absence-asked must) p (giving E s unknown))
+executed-as s p E = local-status must s (gives must p (giving E s unknown)) (gives (absence-asked must) p (giving E s unknown))
 
 -- What is kept of the part that a tested status chooses.
 abbrev pub kept-by : Status → Numbers → Numbers → Numbers

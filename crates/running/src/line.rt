@@ -1,6 +1,6 @@
 // The only file that names the library's calls and answers: what a run asks of them, in the run's own terms.
 use foldheron::Instant;
-use foldheron::Why;
+use foldheron::number_of;
 
 // What a run begins with.
 pub enum Begun {
@@ -59,25 +59,5 @@ fn refused(number: u16) -> Line {
         present: 0,
         count: 0,
         rounds: 0,
-    }
-}
-
-// The number of a refusal.
-fn number_of(why: Why) -> u16 {
-    match why {
-        Why::Broken => 1,
-        Why::Kind => 2,
-        Why::Edition => 3,
-        Why::Limit => 4,
-        Why::Signal => 5,
-        Why::Exit => 6,
-        Why::Shape => 7,
-        Why::Loop => 8,
-        Why::State => 9,
-        Why::Clash => 10,
-        Why::Input => 11,
-        Why::Room => 12,
-        Why::NotConstructive => 13,
-        Why::Index => 14,
     }
 }

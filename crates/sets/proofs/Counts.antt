@@ -11,8 +11,8 @@ use native.Mathlib.Decide.{decLt}
 use native.Mathlib.Omega.{arith}
 use lib.Dec.{T, eqb, ltb, ltb→lt, lt→ltb, eqb→eq, eqb-refl, leb·suc-zero}
 use lib.ListN.{length, length-append}
-use Rattle.sets.specs.Numbers.{Numbers, empty, single, union, without, count, lowest, members, listed}
-use Rattle.sets.proofs.Members.{and-in, and-left, and-right, or-left, or-right, or-out, eqb-in, eqb-not, same, is-true, is-false, of-false, ext-T, Within}
+use Rattle.sets.specs.Numbers.{Numbers, empty, single, union, without, count, lowest, members, listed, Within}
+use Rattle.sets.proofs.Members.{and-in, and-left, and-right, or-left, or-right, or-out, eqb-in, eqb-not, same, is-true, is-false, of-false, ext-T}
 use Rattle.sets.proofs.Members.{single-out, union-left, union-right, union-out, without-in, without-member, without-other}
 
 -- One number more.

@@ -8,8 +8,8 @@ use native.Mathlib.Nat.{le-refl, le-step, le-suc-iff, max-eq-left, max-eq-right,
 use native.Mathlib.Decide.{decLe}
 use native.Mathlib.Omega.{arith}
 use lib.Dec.{T, eqb-refl}
-use Rattle.sets.specs.Numbers.{Numbers, empty, single, some-to, maxima, down, downs}
-use Rattle.sets.proofs.Members.{and-in, and-left, and-right, or-left, or-right, or-out, eqb-in, single-out, ext, ext-T, Within}
+use Rattle.sets.specs.Numbers.{Numbers, empty, single, some-to, maxima, down, downs, Within}
+use Rattle.sets.proofs.Members.{and-in, and-left, and-right, or-left, or-right, or-out, eqb-in, single-out, ext, ext-T}
 
 -- A member at or below a number.
 pub some-to-in : (a : Numbers) {m : ℕ} (k : ℕ) → m ≤ k → T (a m) → T (some-to a k)

@@ -5,7 +5,7 @@ use mathlib.Core.Logic.{_⊎_, inl, inr}
 use mathlib.Core.Bool.{Bool, true, false, not, _&&_, _||_}
 use Prim.Native.Nat.{ℕ, zero, suc}
 use lib.Dec.{T, eqb, eqb→eq, eqb-refl, T-not, not-T}
-use Rattle.sets.specs.Numbers.{Numbers, empty, single, union, without, only-if, some-to, maxima, downs}
+use Rattle.sets.specs.Numbers.{Numbers, empty, single, union, without, only-if, some-to, maxima, downs, Within}
 
 -- A Boolean as a fact and as an equation.
 pub is-true : (b : Bool) → T b → b ≡ true
@@ -109,9 +109,6 @@ pub ext-T : {a b : Numbers} → ((n : ℕ) → T (a n) → T (b n)) → ((n : �
 ext-T {a} {b} f g = fun-ext (λ n. same (a n) (b n) (f n) (g n))
 
 -- Inclusion.
-pub record Within (a b : Numbers) : Type 0 where
-  pub at : (n : ℕ) → T (a n) → T (b n)
-
 pub within-refl : {a : Numbers} → Within a a
 within-refl = record { at = λ n t. t }
 

@@ -2,19 +2,21 @@
 -- Assumes nothing.
 use mathlib.Core.Path.{_≡_, refl, sym, ap, ap₂, _∙_, subst, subst⁻¹}
 use mathlib.Core.Bool.{Bool, true, false, not, cond, _&&_, _||_, xor, and-comm, and-false, or-comm, and-or-distrib-left, and-assoc}
-use mathlib.Core.Option.{none, some}
+use mathlib.Core.Option.{Option, none, some}
 use Prim.Native.Nat.{ℕ, zero, suc, _+_, _-_, _*_, _/_, _%_, _^_, _≤_, _<_, suc-le-suc}
 use native.Mathlib.Nat.{le-refl, lt-of-lt-of-le, le-add-right, le-add-left, zero-div, div-one, one-mul, div-eq-of-lt, mod-lt, pow-suc, zero-lt-suc, not-suc-le-zero, zero-add, zero-sub, le-of-suc-le-suc}
 use native.Mathlib.Numerals.{one-add}
+use native.Mathlib.Decide.{decLt}
 use native.Mathlib.Omega.{arith}
-use lib.Dec.{T, eqb, ltb, lt→ltb, leb·zero, leb·suc-zero, leb·suc-suc, eqb·zero-suc, eqb·suc-zero, eqb·suc-suc, eqb→eq}
+use lib.Dec.{T, eqb, ltb, lt→ltb, ltb→lt, leb·zero, leb·suc-zero, leb·suc-suc, eqb·zero-suc, eqb·suc-zero, eqb·suc-suc, eqb→eq}
 use lib.Arith.{lt-one}
 use lib.Pow.{pow-mono, pow-lt, pow-pos, shr-shr, shl-exact}
 use lib.Bits.{bitAnd, bitOr, bitXor, and-shr, or-shr, xor-shr, and-mod, or-mod, xor-mod, and-mask, or-shifted, shifted-half, shifted-even}
 use lib.Count.{ones, ones-step, trailingZeros, under}
-use Rattle.sets.specs.Numbers.{Numbers, empty, single, union, without, only-if, count, lowest}
+use Rattle.sets.specs.Numbers.{Numbers, empty, single, union, without, only-if, some-to, maxima, count, lowest}
 use Rattle.sets.specs.Words.{bits, word}
-use Rattle.sets.proofs.Members.{and-in, and-right, eqb-not, same, is-true, is-false, of-true, ext}
+use Rattle.sets.proofs.Members.{and-in, and-right, eqb-not, same, is-true, is-false, of-true, of-false, ext}
+use Rattle.sets.proofs.Maxima.{some-to-in, some-to-out}
 use Rattle.sets.proofs.Counts.{below-suc, count-first, count-cong, lowest-some, lowest-none}
 
 -- The lowest bit, and the others shifted.
@@ -345,3 +347,86 @@ is-trailing n {x} i e = trailing-some n x (ap (lowest n) (is-set i) ∙ e)
 
 pub is-trailing-none : (n : ℕ) {x : ℕ} {a : Numbers} → Is x a → lowest n a ≡ none → trailingZeros n x ≡ n
 is-trailing-none n {x} i e = trailing-none n x (ap (lowest n) (is-set i) ∙ e)
+
+-- A word with a member has its lowest where its trailing zeros end.
+lowest-zero : (w : ℕ) {x : ℕ} → x < 2 ^ w → lowest w (bits x) ≡ none → x ≡ 0
+lowest-zero w {x} h e = bits-ext (λ n. go n (decLt n w) ∙ sym (bits-zero n))
+  where
+    go : (n : ℕ) → Dec (n < w) → bits x n ≡ false
+    go n (yes l) = is-false (bits x n) (lowest-none w (bits x) e n l)
+    go n (no l) = bits-high w h (omega arith)
+
+pub lowest-there : (w : ℕ) {x : ℕ} → x < 2 ^ w → (x ≡ 0 → ⊥) → lowest w (bits x) ≡ some (trailingZeros w x)
+lowest-there w {x} h f = go (lowest w (bits x)) refl
+  where
+    go : (o : Option ℕ) → lowest w (bits x) ≡ o → lowest w (bits x) ≡ some (trailingZeros w x)
+    go none e = absurd (f (lowest-zero w h e))
+    go (some k) e = e ∙ ap some (sym (trailing-some w x e))
+
+pub trailing-lt : (w : ℕ) {x : ℕ} → x < 2 ^ w → (x ≡ 0 → ⊥) → trailingZeros w x < w
+trailing-lt w {x} h f = lowest-some w (bits x) (lowest-there w h f) .0
+
+-- All numbers below one, and all from the lowest of a word on.
+pub below-power : (k n : ℕ) → bits (2 ^ k - 1) n ≡ ltb n k
+below-power k n = ap (λ (x : ℕ). bits x n) (omega arith) ∙ bits-not k 0 n (pow-pos k) ∙ ap (λ (b : Bool). ltb n k && not b) (bits-zero n) ∙ go (ltb n k)
+  where
+    go : (b : Bool) → (b && true) ≡ b
+    go true = refl
+    go false = refl
+
+pub none-from : (w : ℕ) {x : ℕ} → x ≡ 0 → (n : ℕ) → bits 0 n ≡ (ltb n w && some-to (bits x) n)
+none-from w {x} e n = bits-zero n ∙ sym (go (ltb n w) (is-false (some-to (bits x) n) clear))
+  where
+    clear : T (some-to (bits x) n) → ⊥
+    clear t = let r = some-to-out (bits x) n t in of-false (ap (λ (y : ℕ). bits y (r .0)) e ∙ bits-zero (r .0)) (r .2)
+
+    go : (b : Bool) {y : Bool} → y ≡ false → (b && y) ≡ false
+    go true q = q
+    go false q = refl
+
+pub all-from : (w : ℕ) {x : ℕ} → x < 2 ^ w → (x ≡ 0 → ⊥)
+    → (n : ℕ) → bits (2 ^ w - 1 - ((1 * 2 ^ trailingZeros w x) % 2 ^ w - 1)) n ≡ (ltb n w && some-to (bits x) n)
+all-from w {x} h f n =
+    ap (λ (y : ℕ). bits (2 ^ w - 1 - (y - 1)) n) (shift-one k w k-lt)
+    ∙ bits-not w (2 ^ k - 1) n (omega (arith, pow-lt k-lt, pow-pos k)) ∙ ap (λ (b : Bool). ltb n w && b) (ap not (below-power k n) ∙ above)
+  where
+    k : ℕ
+    k = trailingZeros w x
+
+    k-lt : k < w
+    k-lt = trailing-lt w h f
+
+    low : (k < w) × T (bits x k) × ((j : ℕ) → j < k → T (bits x j) → ⊥)
+    low = lowest-some w (bits x) (lowest-there w h f)
+
+    above : not (ltb n k) ≡ some-to (bits x) n
+    above = go (decLt n k)
+      where
+        go : Dec (n < k) → not (ltb n k) ≡ some-to (bits x) n
+        go (yes l) =
+            ap not (is-true (ltb n k) (lt→ltb n k l))
+            ∙ sym (is-false (some-to (bits x) n) (λ t. let r = some-to-out (bits x) n t in low .2 (r .0) (omega (arith, r .1)) (r .2)))
+        go (no l) =
+            ap not (is-false (ltb n k) (λ t. l (ltb→lt n k t)))
+            ∙ sym (is-true (some-to (bits x) n) (some-to-in (bits x) n (omega arith) (low .1)))
+
+-- The maxima of two words: a member of one with a member of the other at or below it.
+absorbed : (w : ℕ) {x : ℕ} (n : ℕ) (y : Bool) → x < 2 ^ w → (bits x n && (ltb n w && y)) ≡ (bits x n && y)
+absorbed w {x} n y h = go (decLt n w)
+  where
+    go : Dec (n < w) → (bits x n && (ltb n w && y)) ≡ (bits x n && y)
+    go (yes l) = ap (λ (b : Bool). bits x n && (b && y)) (is-true (ltb n w) (lt→ltb n w l))
+    go (no l) =
+        let e = bits-high w {a = x} {n = n} h (omega arith) in
+        ap (λ (b : Bool). b && (ltb n w && y)) e ∙ sym (ap (λ (b : Bool). b && y) e)
+
+pub maxima-is : (w a b u v : ℕ) → a < 2 ^ w → b < 2 ^ w → ((n : ℕ) → bits u n ≡ (ltb n w && some-to (bits b) n)) → ((n : ℕ) → bits v n ≡ (ltb n w && some-to (bits a) n))
+    → bits (bitOr (bitAnd a u) (bitAnd b v)) ≡ maxima (bits a) (bits b)
+unfolding maxima
+maxima-is w a b u v h l f g = ext go
+  where
+    side : (x y z n : ℕ) → x < 2 ^ w → ((m : ℕ) → bits z m ≡ (ltb m w && some-to (bits y) m)) → bits (bitAnd x z) n ≡ (bits x n && some-to (bits y) n)
+    side x y z n k q = bits-and x z n ∙ ap (λ (c : Bool). bits x n && c) (q n) ∙ absorbed w n (some-to (bits y) n) k
+
+    go : (n : ℕ) → bits (bitOr (bitAnd a u) (bitAnd b v)) n ≡ (bits a n && some-to (bits b) n || bits b n && some-to (bits a) n)
+    go n = bits-or (bitAnd a u) (bitAnd b v) n ∙ ap₂ (λ (p q : Bool). p || q) (side a b u n h f) (side b a v n l g)

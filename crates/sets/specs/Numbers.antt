@@ -3,7 +3,7 @@ use mathlib.Core.Bool.{Bool, true, false, not, cond, _&&_, _||_}
 use mathlib.Core.List.{List, [], _∷_, _++_}
 use mathlib.Core.Option.{Option, none, some}
 use Prim.Native.Nat.{ℕ, zero, suc, _+_}
-use lib.Dec.{eqb}
+use lib.Dec.{T, eqb}
 
 -- A set of numbers says of each number whether it is a member.
 abbrev pub Numbers : Type 0
@@ -25,6 +25,10 @@ without k a n = a n && not (eqb n k)
 -- The set where b holds, and nothing where it does not.
 abbrev pub only-if : Bool → Numbers → Numbers
 only-if b a n = b && a n
+
+-- Inclusion: every member of the first is one of the second.
+pub record Within (a b : Numbers) : Type 0 where
+  pub at : (n : ℕ) → T (a n) → T (b n)
 
 -- Some member is at or below k.
 unfoldable pub some-to : Numbers → ℕ → Bool

@@ -6,7 +6,7 @@ use Prim.Native.Nat.{ℕ}
 use lib.Dec.{T, eqb}
 use Rattle.rules.specs.Events.{Status, present, absent, unknown, Event, giving}
 use Rattle.rules.specs.Instant.{Step, done, stay, say, leave, test, catch, scope, chain, beside}
-use Rattle.rules.specs.MustCan.{Mark, plus, opened, Question, must, can, Given, in-doubt, choose, onward, asks-must, absence-asked, marked, settled, gives}
+use Rattle.rules.specs.MustCan.{Mark, plus, opened, Question, must, can, Given, in-doubt, choose, onward, asks-must, absence-asked, marked, local-status, gives}
 use Rattle.theorems.specs.Order.{Below, _⊑_, Inside}
 use Rattle.theorems.proofs.Forms.{inside-refl, inside-trans, inside-nothing, either-left, either-right, either-inside, caught-inside, hidden-inside, both-inside, followed-inside}
 use Rattle.theorems.proofs.MustInCan.{must-in-can}
@@ -114,7 +114,7 @@ asks-within opened p G s t = absurd t
 
 -- A local's status, as the question gives it.
 abbrev status-of : Question → ℕ → Step → Event → Status
-status-of k s p E = settled k s (gives must p (giving E s unknown)) (gives (absence-asked k) p (giving E s unknown))
+status-of k s p E = local-status k s (gives must p (giving E s unknown)) (gives (absence-asked k) p (giving E s unknown))
 
 scope-no-more : {k l : Question} {E F : Event} (s : ℕ) (p : Step) → Compared p → NoMore k E l F → NoMore k (giving E s (status-of k s p E)) l (giving F s (status-of l s p F))
 scope-no-more {E = E} {F = F} s p f (for-must h) =

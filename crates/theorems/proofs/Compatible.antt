@@ -8,8 +8,8 @@ use mathlib.Core.List.{List, _++_}
 use Prim.Native.Nat.{ℕ, _+_, max}
 use lib.Dec.{T, eqb}
 use lib.ListN.{length}
-use Rattle.sets.specs.Numbers.{Numbers, empty, single, union, down, listed}
-use Rattle.sets.proofs.Members.{is-true, is-false, and-in, and-left, and-right, or-left, or-right, single-out, union-out, Within, within-only-if}
+use Rattle.sets.specs.Numbers.{Numbers, empty, single, union, down, listed, Within}
+use Rattle.sets.proofs.Members.{is-true, is-false, and-in, and-left, and-right, or-left, or-right, single-out, union-out, within-only-if}
 use Rattle.sets.proofs.Counts.{listed-append}
 use Rattle.rules.specs.Statements.{Depth, Stmt, nothing, pause, emit, present?_then_else_, suspend_on_, _⨾_, loop, _parallel_, trap, exit, local, pauses, from, Numbered}
 use Rattle.rules.specs.Instant.{Step, done, stay, say, leave, test, catch, scope, chain, beside, active, held, started, resumed}

@@ -7,8 +7,7 @@ use mathlib.Core.List.{List}
 use Prim.Native.Nat.{ℕ, _<_}
 use lib.Dec.{T}
 use lib.ListN.{length, getD}
-use Rattle.sets.specs.Numbers.{Numbers}
-use Rattle.sets.proofs.Members.{Within}
+use Rattle.sets.specs.Numbers.{Numbers, Within}
 use Rattle.rules.specs.Statements.{Block, Stmt, loop}
 use Rattle.rules.specs.Events.{Status, unknown, Event, event}
 use Rattle.rules.specs.Instant.{Step, started}
@@ -29,7 +28,7 @@ use Rattle.theorems.proofs.Compare.{must-grows, can-shrinks, plus-in-op
 use Rattle.theorems.proofs.Exact.{exact}
 use Rattle.theorems.proofs.Sound.{sound}
 use Rattle.theorems.proofs.Reach.{round-keeps, same-end}
-use Rattle.theorems.proofs.RoundsEnd.{rounds-unique, last-unchanged, last-reached, final, none-undecided}
+use Rattle.theorems.proofs.RoundsEnd.{rounds-unique, last-unchanged, last-reached, final, none-undecided, nothing-left}
 use Rattle.theorems.proofs.Reaction.{coherent-between}
 use Rattle.theorems.proofs.LoopCodes.{given-codes, run-codes, loop-body-never-zero}
 use Rattle.theorems.proofs.Traps.{root-codes}
@@ -109,6 +108,10 @@ the-last-round-changes-nothing b p given = last-unchanged b p given
 pub a-decided-output-keeps-its-status : (b : Block) (p : Step) (given : Numbers) {vs : List Status} → Reached b p given vs
     → (i : ℕ) → i < length vs → Below (getD vs i unknown) (getD (round b p given vs) i unknown)
 a-decided-output-keeps-its-status b p given = round-keeps b p given
+
+pub with-none-undecided-a-round-changes-nothing : (b : Block) (p : Step) (given : Numbers) {vs : List Status} → Reached b p given vs → undecided vs ≡ 0
+    → round b p given vs ≡ vs
+with-none-undecided-a-round-changes-nothing b p given = nothing-left b p given
 
 pub a-known-code-leaves-none-undecided : (b : Block) (p : Step) (given : Numbers) {vs : List Status} {n : ℕ} → Rounds b p given (begin b) n vs
     → (c : ℕ) → T (gives must p (event b given vs) .codes c) → undecided vs ≡ 0

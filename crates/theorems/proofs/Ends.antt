@@ -3,13 +3,13 @@
 use mathlib.Core.Path.{subst}
 use Prim.Native.Nat.{ℕ}
 use lib.Dec.{T, eqb→eq, eqb-refl}
-use Rattle.sets.specs.Numbers.{Numbers, single, union, without, only-if, maxima, downs}
-use Rattle.sets.proofs.Members.{of-false, eqb-in, union-left, union-right, without-in, only-if-in, Within, within-refl, within-trans, within-empty, within-left, within-right, union-mono, without-mono, only-if-mono, maxima-mono, downs-mono}
+use Rattle.sets.specs.Numbers.{Numbers, single, union, without, only-if, maxima, downs, Within}
+use Rattle.sets.proofs.Members.{of-false, eqb-in, union-left, union-right, without-in, only-if-in, within-refl, within-trans, within-empty, within-left, within-right, union-mono, without-mono, only-if-mono, maxima-mono, downs-mono}
 use Rattle.sets.proofs.Maxima.{maxima-in, downs-in}
 use Rattle.rules.specs.Statements.{code}
 use Rattle.rules.specs.Events.{Status, present, absent, unknown, Event, giving}
 use Rattle.rules.specs.Instant.{Step, done, stay, say, leave, test, catch, scope, chain, beside}
-use Rattle.rules.specs.MustCan.{Question, must, can, Given, in-doubt, choose, onward, absence-asked, settled, gives}
+use Rattle.rules.specs.MustCan.{Question, must, can, Given, in-doubt, choose, onward, absence-asked, local-status, gives}
 use Rattle.rules.specs.Coherence.{Locals, Execution, assigning, run-on, execute}
 use Rattle.theorems.proofs.Cases.{by-test, by-first}
 
@@ -49,7 +49,7 @@ given-ends k (test s p q) E =
     (given-ends k p E) (given-ends k q E) (given-ends (in-doubt k) p E) (given-ends (in-doubt k) q E)
 given-ends k (catch p) E = downs-mono (given-ends k p E)
 given-ends k (scope s p) E =
-    given-ends k p (giving E s (settled k s (gives must p (giving E s unknown)) (gives (absence-asked k) p (giving E s unknown))))
+    given-ends k p (giving E s (local-status k s (gives must p (giving E s unknown)) (gives (absence-asked k) p (giving E s unknown))))
 given-ends k (chain p q) E = codes-after-mono (given-ends k p E) (given-ends (onward k (gives must p E .codes 0)) q E)
 given-ends k (beside p q) E = maxima-mono (given-ends k p E) (given-ends k q E)
 

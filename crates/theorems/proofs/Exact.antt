@@ -10,7 +10,7 @@ use Rattle.sets.proofs.Members.{union-out, without-member, without-other, only-
 use Rattle.sets.proofs.Maxima.{maxima-out, downs-out}
 use Rattle.rules.specs.Events.{Status, present, absent, unknown, Event, giving}
 use Rattle.rules.specs.Instant.{Step, done, stay, say, leave, test, catch, scope, chain, beside}
-use Rattle.rules.specs.MustCan.{plus, opened, must, can, Given, choose, followed, onward, absence-asked, settled, gives}
+use Rattle.rules.specs.MustCan.{plus, opened, must, can, Given, choose, followed, onward, absence-asked, local-status, gives}
 use Rattle.rules.proofs.OneCode.{one-code}
 use Rattle.theorems.specs.Order.{Inside}
 use Rattle.theorems.proofs.Forms.{inside-refl, inside-antisym, caught-inside, hidden-inside, both-inside, followed-inside}
@@ -59,7 +59,7 @@ can-in-must (test s p q) E c t =
 can-in-must (catch p) E c t = let r = downs-out (gives must p E .codes) c t in caught-inside (can-in-must p E (r .0) (r .1))
 can-in-must (scope s p) E c t =
     hidden-inside s
-    (can-in-must p (giving E s (settled must s (gives must p (giving E s unknown)) (gives (absence-asked must) p (giving E s unknown)))) c t)
+    (can-in-must p (giving E s (local-status must s (gives must p (giving E s unknown)) (gives (absence-asked must) p (giving E s unknown)))) c t)
 can-in-must (chain p q) E c t =
     chain-exact p q E c (can-in-must p E) (can-in-must q E) (first-or-both (gives must p E) (gives must q E) c t)
 can-in-must (beside p q) E c t =

@@ -4,8 +4,8 @@ use mathlib.Core.Path.{subst}
 use mathlib.Core.Bool.{not, _&&_}
 use Prim.Native.Nat.{ℕ}
 use lib.Dec.{T, T-not}
-use Rattle.sets.specs.Numbers.{Numbers, without}
-use Rattle.sets.proofs.Members.{and-left, and-right, without-in, Within, within-refl, within-trans, union-mono, maxima-mono, downs-mono}
+use Rattle.sets.specs.Numbers.{Numbers, without, Within}
+use Rattle.sets.proofs.Members.{and-left, and-right, without-in, within-refl, within-trans, union-mono, maxima-mono, downs-mono}
 use Rattle.rules.specs.Statements.{Stmt, nothing, pause, emit, present?_then_else_, suspend_on_, _⨾_, loop, _parallel_, trap, exit, local}
 use Rattle.rules.specs.Events.{Event}
 use Rattle.rules.specs.Instant.{started}

@@ -3,7 +3,7 @@ use mathlib.Core.Bool.{Bool, true, false}
 use lib.Dec.{T}
 use Rattle.rules.specs.Events.{Status, present, absent, unknown, Event, giving}
 use Rattle.rules.specs.Instant.{Step, done, stay, say, leave, test, catch, scope, chain, beside}
-use Rattle.rules.specs.MustCan.{plus, opened, must, can, Given, choose, onward, absence-asked, settled, gives}
+use Rattle.rules.specs.MustCan.{plus, opened, must, can, Given, choose, onward, absence-asked, local-status, gives}
 use Rattle.theorems.specs.Order.{Inside}
 use Rattle.theorems.proofs.Forms.{inside-refl, inside-nothing, caught-inside, hidden-inside, both-inside, followed-inside}
 
@@ -27,6 +27,6 @@ must-in-can (test s p q) E =
 must-in-can (catch p) E = caught-inside (must-in-can p E)
 must-in-can (scope s p) E =
     hidden-inside s
-    (must-in-can p (giving E s (settled must s (gives must p (giving E s unknown)) (gives (absence-asked must) p (giving E s unknown)))))
+    (must-in-can p (giving E s (local-status must s (gives must p (giving E s unknown)) (gives (absence-asked must) p (giving E s unknown)))))
 must-in-can (chain p q) E = followed-inside (must-in-can p E) (onward-within (gives must p E .codes 0) q E (must-in-can q E))
 must-in-can (beside p q) E = both-inside (must-in-can p E) (must-in-can q E)

@@ -87,6 +87,14 @@ module _ (b : Block) (p : Step) (given : Numbers) where
             at-most = omega (arith, g .at-most);
           }
 
+  -- Where no output is undecided, a round changes nothing.
+  pub nothing-left : {vs : List Status} → Reached b p given vs → undecided vs ≡ 0 → round b p given vs ≡ vs
+  nothing-left {vs} r e = go (progress vs (round b p given vs) (round-length b p given vs) (round-keeps b p given r))
+    where
+      go : (round b p given vs ≡ vs) ⊎ (undecided (round b p given vs) < undecided vs) → round b p given vs ≡ vs
+      go (inl q) = q
+      go (inr h) = absurd (omega arith)
+
   -- The rounds from given statuses are determined.
   pub rounds-unique : {vs ws us : List Status} {m n : ℕ} → Rounds b p given vs m ws → Rounds b p given vs n us → (m ≡ n) × (ws ≡ us)
   rounds-unique (last e) (last f) = (refl, refl)

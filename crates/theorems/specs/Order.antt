@@ -1,8 +1,7 @@
 -- How events compare, and what is given at them. Assumes nothing.
 use mathlib.Core.Path.{_≡_}
 use Prim.Native.Nat.{ℕ}
-use Rattle.sets.specs.Numbers.{Numbers, single}
-use Rattle.sets.proofs.Members.{Within}
+use Rattle.sets.specs.Numbers.{Numbers, single, Within}
 use Rattle.rules.specs.Events.{Status, present, absent, unknown, Event, known}
 use Rattle.rules.specs.MustCan.{Given}
 use Rattle.rules.specs.Coherence.{Execution}

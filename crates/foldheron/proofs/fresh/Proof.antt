@@ -9,7 +9,7 @@ use Rattle.foldheron.proofs.fresh.Reads as reads
 use Rattle.foldheron.proofs.fresh.Lts as lts
 use Rattle.block.proofs.whole.read_block.Reads as read-block-reads
 use Rattle.foldheron.proofs.refusal.Reads as refusal-reads
-use Rattle.foldheron.proofs.write_fresh.Reads as write-fresh-reads
+use Rattle.records.proofs.state.write_state.Reads as write-state-reads
 
 read-block-requires : tie.Need-read-block-requires
 read-block-requires c κs = search needs
@@ -20,8 +20,8 @@ enum-told c = search needs
 returns : tie.Need-returns
 returns c = (other-size _ (c .before .before .before .read-block .ensures) (c .before .enum-told .given .1) _ (c .if1 .taken), other-stays _ (c .before .before .before .read-block .ensures) (c .before .enum-told .given .1) _ (c .if1 .taken))
 
-write-fresh-requires : tie.Need-write-fresh-requires
-write-fresh-requires c κs = c .before .if1 .left
+write-state-requires : tie.Need-write-state-requires
+write-state-requires c κs = c .before .if1 .left
 
 enum-known-answer : tie.Need-enum-known-answer
 enum-known-answer c = search needs
@@ -33,7 +33,7 @@ same-length : tie.Need-same-length
 same-length c = search needs
 
 returns-2 : tie.Need-returns-2
-returns-2 c = (fresh-written _ (c .before .before .before .before .before .before .before .read-block .ensures) (c .before .before .before .before .before .enum-told .given .1) _ (c .before .before .before .before .if1 .left), c .before .before .write-fresh .ensures ∙ state-written _ (c .before .before .before .before .before .before .before .read-block .ensures) (c .before .before .before .before .before .enum-told .given .1) _ (c .before .before .before .before .if1 .left))
+returns-2 c = (fresh-written _ (c .before .before .before .before .before .before .before .read-block .ensures) (c .before .before .before .before .before .enum-told .given .1) _ (c .before .before .before .before .if1 .left), c .before .before .write-state .ensures ∙ state-written _ (c .before .before .before .before .before .before .before .read-block .ensures) (c .before .before .before .before .before .enum-told .given .1) _ (c .before .before .before .before .if1 .left))
 
 returns-3 : tie.Need-returns-3
 returns-3 c = (fresh-refused _ (c .before .before .before .before .read-block .ensures) (c .before .before .answer .given .1) _ _ (c .refusal .ensures), state-stays _ (c .before .before .before .before .read-block .ensures) (c .before .before .answer .given .1) _)
@@ -45,7 +45,7 @@ fresh-spec =
     read-block-requires
     enum-told
     returns
-    write-fresh-requires
+    write-state-requires
     enum-known-answer
     refusal-requires
     same-length

@@ -1,7 +1,7 @@
-use mathlib.Core.Path.{refl}
 -- `reaction::past_state` meets its contract: a clash is told with its pair, and without one the instant goes on.
 -- Assumes nothing.
-use Rattle.reaction.proofs.Ways.{searchable, pair-way, clear-way}
+use mathlib.Core.Path.{refl}
+use Rattle.reaction.proofs.Ways.{searchable, bounded, pair-way, clear-way}
 use borrow.Author.Needs.{needs}
 use Rattle.reaction.proofs.past_state.Statement.{statement}
 use Rattle.reaction.proofs.past_state.Tie as tie
@@ -11,7 +11,7 @@ use Rattle.reaction.proofs.past_clash.Reads as past-clash-reads
 use Rattle.records.proofs.clash.first_clash.Reads as first-clash-reads
 
 first-clash-requires : tie.Need-first-clash-requires
-first-clash-requires c κs = (c .pre .0 .body, searchable (c .pre .1 .0) (c .args .set) (c .pre .1 .1))
+first-clash-requires c κs = ((c .pre .0 .body, searchable (c .pre .1 .0) (c .args .set) (c .pre .1 .1)), bounded (c .pre .1 .0) (c .args .set) (c .pre .1 .1))
 
 enum-known-found : tie.Need-enum-known-found
 enum-known-found c = search needs

@@ -2,8 +2,7 @@
 -- Assumes nothing.
 use Rattle.evaluate.proofs.KeptSteps.{kept-of, with-later, without-later}
 use mathlib.Core.Path.{sym, _∙_}
-use Rattle.sets.specs.Words.{bits}
-use Rattle.evaluate.specs.Words.{pauses-of}
+use Rattle.sets.specs.Words.{bits, set-of}
 use borrow.Author.Needs.{needs}
 use Rattle.evaluate.proofs.pauses.kept_chain.Statement.{statement}
 use Rattle.evaluate.proofs.pauses.kept_chain.Tie as tie
@@ -24,10 +23,10 @@ kept-with-requires-2 : tie.Need-kept-with-requires-2
 kept-with-requires-2 c κs = search needs
 
 returns : tie.Need-returns
-returns c = kept-of (c .kept-with .ensures .0) (c .kept-with .ensures .1) (c .before .before .before .before .before .before .followed-codes .ensures) (c .before .joined .ensures ∙ with-later (bits (c .before .before .before .before .before .before .before .args .a .codes) 0) (pauses-of (c .before .before .before .before .before .before .before .args .a .pauses)) (pauses-of (c .before .before .before .before .before .before .before .args .b .pauses)) (sym (c .before .before .before .gives-zero .ensures) ∙ c .before .before .if1 .taken))
+returns c = kept-of (c .kept-with .ensures .0) (c .kept-with .ensures .1) (c .before .before .before .before .before .before .followed-codes .ensures) (c .before .joined .ensures ∙ with-later (bits (c .before .before .before .before .before .before .before .args .a .codes) 0) (set-of (c .before .before .before .before .before .before .before .args .a .pauses)) (set-of (c .before .before .before .before .before .before .before .args .b .pauses)) (sym (c .before .before .before .gives-zero .ensures) ∙ c .before .before .if1 .taken))
 
 returns-2 : tie.Need-returns-2
-returns-2 c = kept-of (c .kept-with2 .ensures .0) (c .kept-with2 .ensures .1) (c .before .before .before .before .before .followed-codes .ensures) (without-later (bits (c .before .before .before .before .before .before .args .a .codes) 0) (pauses-of (c .before .before .before .before .before .before .args .a .pauses)) (pauses-of (c .before .before .before .before .before .before .args .b .pauses)) (sym (c .before .before .gives-zero .ensures) ∙ c .before .if1 .left))
+returns-2 c = kept-of (c .kept-with2 .ensures .0) (c .kept-with2 .ensures .1) (c .before .before .before .before .before .followed-codes .ensures) (without-later (bits (c .before .before .before .before .before .before .args .a .codes) 0) (set-of (c .before .before .before .before .before .before .args .a .pauses)) (set-of (c .before .before .before .before .before .before .args .b .pauses)) (sym (c .before .before .gives-zero .ensures) ∙ c .before .if1 .left))
 
 pub kept-chain-spec : {M : Type 1} → statement M
 kept-chain-spec =

@@ -2,8 +2,8 @@
 use mathlib.Core.Path.{sym, _∙_}
 use denote.Ref.{now}
 use borrow.Author.Needs.{needs}
+use Rattle.sets.specs.Words.{set-of}
 use Rattle.sets.proofs.Members.{of-true}
-use Rattle.records.specs.Held.{set-of}
 use Rattle.records.proofs.Pairs.{root-place, clash-tested, clash-inactive}
 use Rattle.records.proofs.clash.clashing.Statement.{statement}
 use Rattle.records.proofs.clash.clashing.Tie as tie

@@ -1,33 +1,34 @@
 -- `clash::first_clash`: no pair before the present one clashes, so that the pair at the label is the first. Assumes nothing.
 use borrow.Author.Needs.{needs}
+use native.Mathlib.Omega.{arith}
 use mathlib.Core.Path.{_≡_, refl, sym, ap, _∙_}
 use mathlib.Core.Logic.{⊎-elim}
 use Prim.Native.Nat.{_-_, _<_}
+use Rattle.sets.specs.Words.{set-of}
 use Rattle.sets.proofs.Members.{of-true}
 use Rattle.rules.specs.Statements.{Stmt}
 use Rattle.records.specs.declared.clash.Clash.the-variants as clash
-use Rattle.records.specs.Held.{set-of}
 use Rattle.records.specs.Clashing.{Searchable, pair-of}
-use Rattle.records.proofs.Pairs.{Clear-first, Clear-second, first-begin, second-begin, second-more, first-tested, first-passed, none-found, pair-found}
+use Rattle.records.proofs.Pairs.{Clear-first, Clear-second, first-begin, second-begin, second-more, first-tested, first-passed, bound-passed, pair-found}
 use Rattle.records.proofs.clash.first_clash.Statement.{statement}
 use Rattle.records.proofs.clash.first_clash.Tie as tie
 
 abbrev Inv-loop : tie.InvT-loop
-Inv-loop kinds sizes count active firsts found₀ m n₀ found n =
+Inv-loop kinds sizes count pauses active firsts found₀ m n₀ found n =
     (found ≡ clash.None) × (m < n) × ((t : Stmt) → Searchable kinds sizes count active t → Clear-second t (set-of active) m n)
 
 abbrev μ-loop : tie.MeasureT-loop
-μ-loop kinds sizes count active firsts found₀ m n₀ found n = 128 - n
+μ-loop kinds sizes count pauses active firsts found₀ m n₀ found n = pauses - n
 
 abbrev Inv-pairs : tie.InvT-pairs
-Inv-pairs kinds sizes count active firsts found₀ m₀ found m =
+Inv-pairs kinds sizes count pauses active firsts found₀ m₀ found m =
     (found ≡ clash.None) × ((t : Stmt) → Searchable kinds sizes count active t → Clear-first t (set-of active) m)
 
 abbrev μ-pairs : tie.MeasureT-pairs
-μ-pairs kinds sizes count active firsts found₀ m₀ found m = 128 - m
+μ-pairs kinds sizes count pauses active firsts found₀ m₀ found m = pauses - m
 
 pauses-before-requires : tie.Need-pauses-before-requires Inv-loop μ-loop Inv-pairs μ-pairs
-pauses-before-requires c κs = c .pre .1 .few
+pauses-before-requires c κs = c .pre .0 .1 .few
 
 pairs-holds : tie.Need-pairs-holds Inv-loop μ-loop Inv-pairs μ-pairs
 pairs-holds c = (refl, λ t S. first-begin t (set-of (c .before .args .active)))
@@ -48,12 +49,12 @@ clashing-requires c κs =
     let l = c .before .before in let o = l .before .before .before .before in let s = o .before .before in
     record {
       count = s .args .count;
-      tree = s .pre .0;
-      searchable = s .pre .1;
+      tree = s .pre .0 .0;
+      searchable = s .pre .0 .1;
       filled = o .before .pauses-before .ensures;
       member = of-true (sym (l .before .before .has .ensures) ∙ l .before .if1 .taken);
       lower = l .loop .inv .1;
-      in-width = c .before .loop-test .taken;
+      in-width = let t = c .before .loop-test .taken in let w = s .pre .1 .width in omega arith;
     }
 
 add-n-2 : tie.Need-add-n-2 Inv-loop μ-loop Inv-pairs μ-pairs
@@ -82,7 +83,7 @@ pairs-again c =
     let o = c .before .before .before in let s = o .before .before in (
       ⊎-elim (λ w. w .3 ∙ w .1 .inv .0) (λ w. w .1 ∙ o .pairs .inv .0) (c .if1 .came),
       λ t S. ⊎-elim
-          (λ w. first-tested t (set-of (s .args .active)) (o .pairs .m) (w .1 .n) (o .pairs .inv .1 t S) (w .1 .inv .2 t S) (w .2 .left))
+          (λ w. first-tested t (set-of (s .args .active)) (o .pairs .m) (w .1 .n) (o .pairs .inv .1 t S) (w .1 .inv .2 t S) (s .pre .1 .bound) (w .2 .left))
           (λ w. first-passed t (set-of (s .args .active)) (o .pairs .m) (o .pairs .inv .1 t S) (c .before .has .ensures) (w .0 .left)) (c .if1 .came),
     )
 
@@ -90,13 +91,13 @@ returns : tie.Need-returns Inv-loop μ-loop Inv-pairs μ-pairs
 unfolding pair-of
 returns c =
     let o = c .before in let s = o .before .before in
-    λ t S. ap pair-of (o .pairs .inv .0) ∙ none-found t (set-of (s .args .active)) (o .pairs .m) (c .pairs-test .left) (o .pairs .inv .1 t S)
+    λ t S. ap pair-of (o .pairs .inv .0) ∙ bound-passed t (set-of (s .args .active)) (o .pairs .m) (s .pre .1 .bound) (c .pairs-test .left) (o .pairs .inv .1 t S)
 
 returns-2 : tie.Need-returns-2 Inv-loop μ-loop Inv-pairs μ-pairs
 unfolding pair-of
 returns-2 c =
     let l = c .before .before .before .before in let o = l .before .before .before .before in let s = o .before .before in
-    λ t S. pair-found t (set-of (s .args .active)) (o .pairs .m) (l .loop .n) (l .before .before .before .pairs-test .taken) (c .before .before .before .loop-test .taken)
+    λ t S. pair-found t (set-of (s .args .active)) (o .pairs .m) (l .loop .n) (let h = l .before .before .before .pairs-test .taken in omega (arith, h, s .pre .1 .width)) (let h = c .before .before .before .loop-test .taken in omega (arith, h, s .pre .1 .width))
     (o .pairs .inv .1 t S) (l .loop .inv .2 t S)
     (of-true (sym (c .before .clashing .ensures (s .args .count) t S (o .before .pauses-before .ensures)) ∙ c .if2 .taken))
 
