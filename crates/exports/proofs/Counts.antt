@@ -1,0 +1,80 @@
+-- Each answer has as many values as its layout, and a number that two bytes hold: by cases on the reading and on the verdict. Assumes nothing.
+use mathlib.Core.Path.{_≡_, refl, sym, ap, _∙_}
+use mathlib.Core.Bool.{Bool, true, false, cond}
+use mathlib.Core.List.{List, [], _∷_}
+use Prim.Native.Nat.{ℕ, zero, suc, _^_, _≤_, _<_}
+use native.Mathlib.Omega.{arith}
+use lib.Dec.{lit≤, eqb, ltb}
+use lib.ListN.{length, getD, take}
+use mir.Syntax.{w16}
+use mir.Val.{Fits}
+use Rattle.rules.specs.Rounds.{answered, not-constructive}
+use Rattle.block.specs.Format.{Reading, good, turned-down, reading}
+use Rattle.block.proofs.GoodReadings.{numbers}
+use Rattle.reaction.specs.Instants.{Verdict, refused, clash, reacted, Told, told, verdict}
+use Rattle.foldheron.specs.declared.Part.{Part}
+use Rattle.foldheron.specs.Answers.{check-owed, begun-owed, part-owed, part-values, absent-part}
+use Rattle.foldheron.proofs.Calls.{Leaves, leaves}
+use Rattle.exports.specs.Calls.{told-values, logged-values}
+
+-- So many values, the first of which is a number given back.
+pub record Counted (size : ℕ) (xs : List ℕ) : Type 0 where
+  pub counted : length xs ≡ size
+  pub small : getD xs 0 0 ≤ 14
+
+-- A cast to two bytes loses nothing.
+pub fits : {size : ℕ} {vs xs : List ℕ} → vs ≡ xs → Counted size xs → Fits w16 (getD vs 0 0)
+fits {size} {vs} {xs} e c = record { fits = let n : getD vs 0 0 ≡ getD xs 0 0 = ap (λ (l : List ℕ). getD l 0 0) e in omega (arith, n, c .small) }
+
+-- The values of a reading: those of a good block, and those of a refusal.
+module _ {size : ℕ} (values : Reading → List ℕ) (b : List ℕ) where
+  pub by-reading : ((g : _) → Counted size (values (good g))) → ((n at : ℕ) → n ≤ 14 → Counted size (values (turned-down n at))) → Counted size (values (reading b))
+  by-reading f h = go (reading b) refl
+    where
+      go : (x : Reading) → reading b ≡ x → Counted size (values x)
+      go (good g) e = f g
+      go (turned-down n at) e = h n at (let r = numbers b n at e in omega (arith, r .1))
+
+pub check-counted : (b : List ℕ) → Counted 8 (check-owed (reading b))
+unfolding check-owed
+check-counted b = by-reading check-owed b (λ g. record { counted = refl; small = lit≤ tt }) (λ n at l. record { counted = refl; small = l })
+
+begun-sized : (t : Bool) → Counted 2 (cond t (0 ∷ 0 ∷ []) (9 ∷ 0 ∷ []))
+begun-sized true = record { counted = refl; small = lit≤ tt }
+begun-sized false = record { counted = refl; small = lit≤ tt }
+
+pub begun-counted : (b s : List ℕ) → Counted 2 (begun-owed (reading b) s)
+unfolding begun-owed
+begun-counted b s = by-reading (λ x. begun-owed x s) b (λ g. begun-sized (eqb (length s) 22)) (λ n at l. record { counted = refl; small = l })
+
+part-found : (t : Bool) (p : Part) → p .number ≡ 0 → Counted 4 (part-values (cond t p (absent-part 14 0)))
+part-found true p e = record { counted = refl; small = omega arith }
+part-found false p e = record { counted = refl; small = lit≤ tt }
+
+pub part-counted : (b : List ℕ) (n : ℕ) → Counted 4 (part-values (part-owed (reading b) n))
+unfolding part-owed
+part-counted b n = by-reading (λ x. part-values (part-owed x n)) b (λ g. part-found (ltb n (g .statements)) _ refl) (λ k at l. record { counted = refl; small = l })
+
+number-small : (v : Verdict) (s : List ℕ) (roomless : Bool) → Leaves v s roomless → told v .number ≤ 14
+unfolding Leaves told
+number-small (refused n at) s roomless l = l .1
+number-small (clash pair) s roomless l = lit≤ tt
+number-small (reacted b (answered outs c st r)) s roomless l = lit≤ tt
+number-small (reacted b (not-constructive outs r)) s roomless l = lit≤ tt
+
+pub instant-counted : (b s : List ℕ) (given : ℕ) (roomless : Bool) (end : ℕ) → Counted 11 (logged-values (told (verdict b s given roomless)) end)
+instant-counted b s given roomless end = record { counted = refl; small = number-small (verdict b s given roomless) s roomless (leaves b s given roomless) }
+
+-- An instant's values without the end.
+pub without-end : {vs : List ℕ} {t : Told} → vs ≡ logged-values t 0 → take 10 vs ≡ told-values t
+without-end e = ap (take 10) e
+
+-- The first of some values of 64 bits.
+pub first-of : (n : ℕ) (l : List ℕ) → ((j : ℕ) → getD l j 0 < 2 ^ 64) → (i : ℕ) → getD (take n l) i 0 < 2 ^ 64
+first-of zero l f i = omega arith
+first-of (suc n) [] f i = f i
+first-of (suc n) (x ∷ l) f zero = f zero
+first-of (suc n) (x ∷ l) f (suc i) = first-of n l (λ j. f (suc j)) i
+
+pub same-number : {vs : List ℕ} {t : Told} → vs ≡ logged-values t 0 → getD vs 0 0 ≡ getD (take 10 vs) 0 0
+same-number e = ap (λ (l : List ℕ). getD l 0 0) e ∙ sym (ap (λ (l : List ℕ). getD (take 10 l) 0 0) e)

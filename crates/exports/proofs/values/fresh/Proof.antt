@@ -1,0 +1,54 @@
+-- `values::fresh`: each case as its definition says it, and the state as the library leaves it. Assumes nothing.
+use mathlib.Core.Path.{_∙_, sym, ap}
+use Rattle.foldheron.specs.Answers.{begun-values}
+use Rattle.exports.proofs.Laid.{with-number}
+use borrow.Author.Needs.{needs}
+use Rattle.exports.proofs.values.fresh.Statement.{statement}
+use Rattle.exports.proofs.values.fresh.Tie as tie
+use Rattle.exports.proofs.values.fresh.Reads as reads
+use Rattle.exports.proofs.values.fresh.Lts as lts
+use Rattle.foldheron.proofs.fresh.Reads as fresh-reads
+use Rattle.foldheron.proofs.number_of.Reads as number-of-reads
+
+fresh-requires : tie.Need-fresh-requires
+fresh-requires c κs = search needs
+
+enum-told : tie.Need-enum-told
+enum-told c = search needs
+
+enum-known-begun : tie.Need-enum-known-begun
+enum-known-begun c = search needs
+
+number-of-requires : tie.Need-number-of-requires
+number-of-requires c κs = search needs
+
+cast-t10 : tie.Need-cast-t10
+cast-t10 c = search needs
+
+same-length : tie.Need-same-length
+same-length c = search needs
+
+returns : tie.Need-returns
+unfolding begun-values
+returns c = (ap begun-values (sym (c .enum-told .given .1)) ∙ c .before .before .before .before .fresh .ensures .0, c .before .before .before .before .fresh .ensures .1)
+
+same-length-2 : tie.Need-same-length-2
+same-length-2 c = search needs
+
+returns-2 : tie.Need-returns-2
+unfolding begun-values
+returns-2 c = (with-number _ (c .number-of .ensures) ∙ ap begun-values (sym (c .before .before .begun .given .1)) ∙ c .before .before .before .before .before .before .fresh .ensures .0, c .before .before .before .before .before .before .fresh .ensures .1)
+
+pub fresh-spec : {M : Type 1} → statement M
+fresh-spec =
+    tie.close
+    (tie.spec
+    fresh-requires
+    enum-told
+    enum-known-begun
+    number-of-requires
+    cast-t10
+    same-length
+    returns
+    same-length-2
+    returns-2)

@@ -1,0 +1,89 @@
+-- `values::told_values`: each case as its definition says it. Assumes nothing.
+use mathlib.Core.Path.{_∙_, sym, ap}
+use Rattle.foldheron.specs.declared.instants.Instant.{Instant}
+use Rattle.foldheron.specs.InstantAnswers.{instant-told}
+use Rattle.exports.specs.Calls.{logged-values}
+use Rattle.exports.proofs.Laid.{with-number}
+use borrow.Author.Needs.{needs}
+use Rattle.exports.proofs.values.told_values.Statement.{statement}
+use Rattle.exports.proofs.values.told_values.Tie as tie
+use Rattle.exports.proofs.values.told_values.Reads as reads
+use Rattle.exports.proofs.values.told_values.Lts as lts
+use Rattle.foldheron.proofs.number_of.Reads as number-of-reads
+
+enum-known-answer : tie.Need-enum-known-answer
+enum-known-answer c = search needs
+
+cast-t11 : tie.Need-cast-t11
+cast-t11 c = search needs
+
+cast-t12 : tie.Need-cast-t12
+cast-t12 c = search needs
+
+cast-t13 : tie.Need-cast-t13
+cast-t13 c = search needs
+
+enum-known-answer-2 : tie.Need-enum-known-answer-2
+enum-known-answer-2 c = search needs
+
+cast-t14 : tie.Need-cast-t14
+cast-t14 c = search needs
+
+cast-t15 : tie.Need-cast-t15
+cast-t15 c = search needs
+
+enum-known-answer-3 : tie.Need-enum-known-answer-3
+enum-known-answer-3 c = search needs
+
+cast-t16 : tie.Need-cast-t16
+cast-t16 c = search needs
+
+cast-t17 : tie.Need-cast-t17
+cast-t17 c = search needs
+
+enum-known-answer-4 : tie.Need-enum-known-answer-4
+enum-known-answer-4 c = search needs
+
+number-of-requires : tie.Need-number-of-requires
+number-of-requires c κs = search needs
+
+cast-t19 : tie.Need-cast-t19
+cast-t19 c = search needs
+
+returns : tie.Need-returns
+unfolding instant-told
+returns c = ap (λ (x : Instant). logged-values (instant-told x) (c .before .before .before .before .before .before .args .end)) (sym (c .before .before .before .before .answer .given .1))
+
+returns-2 : tie.Need-returns-2
+unfolding instant-told
+returns-2 c = ap (λ (x : Instant). logged-values (instant-told x) (c .before .before .before .before .before .args .end)) (sym (c .before .before .before .answer2 .given .1))
+
+returns-3 : tie.Need-returns-3
+unfolding instant-told
+returns-3 c = ap (λ (x : Instant). logged-values (instant-told x) (c .before .before .before .args .end)) (sym (c .before .answer3 .given .1))
+
+returns-4 : tie.Need-returns-4
+unfolding instant-told
+returns-4 c = with-number _ (c .number-of .ensures) ∙ ap (λ (x : Instant). logged-values (instant-told x) (c .before .before .before .before .args .end)) (sym (c .before .before .answer4 .given .1))
+
+pub told-values-spec : {M : Type 1} → statement M
+told-values-spec =
+    tie.close
+    (tie.spec
+    enum-known-answer
+    cast-t11
+    cast-t12
+    cast-t13
+    enum-known-answer-2
+    cast-t14
+    cast-t15
+    enum-known-answer-3
+    cast-t16
+    cast-t17
+    enum-known-answer-4
+    number-of-requires
+    cast-t19
+    returns
+    returns-2
+    returns-3
+    returns-4)

@@ -1,0 +1,28 @@
+-- How an answer lies in the bytes that are lent for it: its values one after the other, each a number of 64 bits in 8 bytes, little-endian. What
+-- the C header documents. Assumes nothing.
+use mathlib.Core.Path.{_≡_}
+use mathlib.Core.Bool.{cond}
+use mathlib.Core.List.{List, [], _∷_, _++_}
+use Prim.Native.Nat.{ℕ, _*_, _^_, _<_}
+use lib.Dec.{eqb}
+use lib.ListN.{length, getD}
+use Rattle.records.specs.Numerals.{in-bytes}
+
+unfoldable pub laid : List ℕ → List ℕ
+laid [] = []
+laid (x ∷ xs) = in-bytes 8 x ++ laid xs
+
+-- The one where as many bytes are lent as so many values have, else the other.
+unfoldable pub lent : {A : Type 0} → ℕ → List ℕ → A → A → A
+lent count answer x y = cond (eqb (length answer) (8 * count)) x y
+
+-- Given back where another number of bytes is lent for the answer; nothing is then written anywhere.
+abbrev pub ANSWER : ℕ
+ANSWER = 64
+
+-- So many values are the answer: the number r that is given back is the first of them, and they stand in the answer's bytes, a before the call and
+-- a' after it. Nothing of them is cut off: each is a number of 64 bits.
+pub record Answers (count : ℕ) (values a a' : List ℕ) (r : ℕ) : Type 0 where
+  pub number : r ≡ lent count a (getD values 0 0) ANSWER
+  pub answer : a' ≡ lent count a (laid values) a
+  pub whole : length a ≡ 8 * count → (i : ℕ) → getD values i 0 < 2 ^ 64

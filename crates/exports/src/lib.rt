@@ -1,0 +1,96 @@
+// The library's calls under C names; include/foldheron.h documents each. A call gives back the refusal's number, 0 for none, and writes the values
+// of its whole answer, 8 bytes each, into the bytes that are lent for it. Their length is fixed for each call: with any other, a call gives back 64,
+// ANSWER, and writes nothing anywhere.
+mod layout;
+mod values;
+
+use crate::layout::put_values;
+ghost use mathlib.Core.Path.{_≡_};
+ghost use Rattle.block.specs.Format.{reading};
+ghost use Rattle.reaction.specs.Instants.{told, state-after, log-after, end-after, instant-verdict, logged-verdict};
+ghost use Rattle.foldheron.specs.Answers.{check-owed, begun-owed, state-owed, part-owed, part-values};
+ghost use Rattle.exports.specs.Layout.{lent, Answers};
+ghost use Rattle.exports.specs.Calls.{told-values, logged-values};
+
+const ANSWER: u16 = 64;
+
+// 64 bytes: the number, the place, and of a good block its version and counts.
+#[no_mangle]
+pub extern "C" fn foldheron_check(block: &[u8], answer: &mut [u8]) -> u16
+    ensures { λ r. ⌜ Answers 8 (check-owed (reading (now (block .entry)))) (now (answer .entry)) (now (answer .exit)) r ⌝ }
+{
+    if answer.len() != 64 {
+        return ANSWER;
+    }
+    let values = values::check(block);
+    put_values(answer, &values);
+    values[0] as u16
+}
+
+// 16 bytes: the number and the place.
+#[no_mangle]
+pub extern "C" fn foldheron_fresh(block: &[u8], state: &mut [u8], answer: &mut [u8]) -> u16
+    ensures { λ r. ⌜ Answers 2 (begun-owed (reading (now (block .entry))) (now (state .entry))) (now (answer .entry)) (now (answer .exit)) r ⌝ }
+    ensures { λ _. ⌜ now (state .exit) ≡ lent 2 (now (answer .entry)) (state-owed (reading (now (block .entry))) (now (state .entry))) (now (state .entry)) ⌝ }
+{
+    if answer.len() != 16 {
+        return ANSWER;
+    }
+    let values = values::fresh(block, state);
+    put_values(answer, &values);
+    values[0] as u16
+}
+
+// 80 bytes: the number, the place, the pair, present, absent and undecided outputs, rounds, code, active pauses.
+#[no_mangle]
+pub extern "C" fn foldheron_instant(
+    block: &[u8],
+    state: &mut [u8],
+    inputs: u64,
+    answer: &mut [u8],
+) -> u16
+    ensures { λ r. ⌜ Answers 10 (told-values (told (instant-verdict (now (block .entry)) (now (state .entry)) inputs))) (now (answer .entry)) (now (answer .exit)) r ⌝ }
+    ensures { λ _. ⌜ now (state .exit) ≡ lent 10 (now (answer .entry)) (state-after (now (state .entry)) (instant-verdict (now (block .entry)) (now (state .entry)) inputs)) (now (state .entry)) ⌝ }
+{
+    if answer.len() != 80 {
+        return ANSWER;
+    }
+    let values = values::instant(block, state, inputs);
+    put_values(answer, &values[..10]);
+    values[0] as u16
+}
+
+// 88 bytes: those of an instant, and the log's new end.
+#[no_mangle]
+pub extern "C" fn foldheron_instant_logged(
+    block: &[u8],
+    state: &mut [u8],
+    inputs: u64,
+    log: &mut [u8],
+    end: usize,
+    answer: &mut [u8],
+) -> u16
+    ensures { λ r. ⌜ Answers 11 (logged-values (told (logged-verdict (now (block .entry)) (now (state .entry)) inputs (now (log .entry)) end)) (end-after end (logged-verdict (now (block .entry)) (now (state .entry)) inputs (now (log .entry)) end))) (now (answer .entry)) (now (answer .exit)) r ⌝ }
+    ensures { λ _. ⌜ now (state .exit) ≡ lent 11 (now (answer .entry)) (state-after (now (state .entry)) (logged-verdict (now (block .entry)) (now (state .entry)) inputs (now (log .entry)) end)) (now (state .entry)) ⌝ }
+    ensures { λ _. ⌜ now (log .exit) ≡ lent 11 (now (answer .entry)) (log-after (now (log .entry)) end inputs (logged-verdict (now (block .entry)) (now (state .entry)) inputs (now (log .entry)) end)) (now (log .entry)) ⌝ }
+{
+    if answer.len() != 88 {
+        return ANSWER;
+    }
+    let values = values::instant_logged(block, state, inputs, log, end);
+    put_values(answer, &values);
+    values[0] as u16
+}
+
+// 32 bytes: the number, the place, and the offset and size of the part of the block.
+#[no_mangle]
+pub extern "C" fn foldheron_excerpt(block: &[u8], n: usize, answer: &mut [u8]) -> u16
+    ensures { λ r. ⌜ Answers 4 (part-values (part-owed (reading (now (block .entry))) n)) (now (answer .entry)) (now (answer .exit)) r ⌝ }
+{
+    if answer.len() != 32 {
+        return ANSWER;
+    }
+    let values = values::excerpt(block, n);
+    put_values(answer, &values);
+    values[0] as u16
+}

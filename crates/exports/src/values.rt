@@ -1,0 +1,142 @@
+// The only source file that names the library: each of its answers as plain numbers, in the order of the answer's layout. What an answer does
+// not name is 0.
+use foldheron::Begun;
+use foldheron::Checked;
+use foldheron::Instant;
+use foldheron::number_of;
+ghost use mathlib.Core.Path.{_≡_};
+ghost use Rattle.block.specs.Format.{reading};
+ghost use Rattle.reaction.specs.Instants.{told, state-after, log-after, end-after, instant-verdict, logged-verdict};
+ghost use Rattle.foldheron.specs.Answers.{check-owed, begun-owed, state-owed, part-owed, part-values};
+ghost use Rattle.foldheron.specs.InstantAnswers.{instant-told};
+ghost use Rattle.exports.specs.Calls.{logged-values};
+
+// Number, place, version, inputs, outputs, locals, statements, pauses.
+pub(crate) fn check(block: &[u8]) -> [u64; 8]
+    ensures { λ r. ⌜ r ≡ check-owed (reading (now (block .entry))) ⌝ }
+{
+    let checked = foldheron::check(block);
+    match checked {
+        Checked::Good(s) => [
+            0,
+            0,
+            s.version as u64,
+            s.inputs as u64,
+            s.outputs as u64,
+            s.locals as u64,
+            s.statements as u64,
+            s.pauses as u64,
+        ],
+        Checked::Refused(why, place) => [number_of(why) as u64, place as u64, 0, 0, 0, 0, 0, 0],
+    }
+}
+
+// Number, place.
+pub(crate) fn fresh(block: &[u8], state: &mut [u8]) -> [u64; 2]
+    ensures { λ r. ⌜ r ≡ begun-owed (reading (now (block .entry))) (now (state .entry)) ⌝ }
+    ensures { λ _. ⌜ now (state .exit) ≡ state-owed (reading (now (block .entry))) (now (state .entry)) ⌝ }
+{
+    let begun = foldheron::fresh(block, state);
+    match begun {
+        Begun::Fresh => [0, 0],
+        Begun::TurnedDown(why, place) => [number_of(why) as u64, place as u64],
+    }
+}
+
+// Number, place, pair, present, absent and undecided outputs, rounds, code, active pauses, and the end of a log.
+fn told_values(answer: Instant, end: usize) -> [u64; 11]
+    ensures { λ r. ⌜ r ≡ logged-values (instant-told answer) end ⌝ }
+{
+    let end = end as u64;
+    match answer {
+        Instant::Answered(a) => [
+            0,
+            0,
+            0,
+            0,
+            a.present,
+            0,
+            0,
+            a.rounds as u64,
+            a.code as u64,
+            a.active as u64,
+            end,
+        ],
+        Instant::NotConstructive(d) => [
+            13,
+            0,
+            0,
+            0,
+            d.present,
+            d.absent,
+            d.undecided as u64,
+            d.rounds as u64,
+            0,
+            0,
+            end,
+        ],
+        Instant::Clash(first, second) => [
+            10,
+            0,
+            first as u64,
+            second as u64,
+            0,
+            0,
+            0,
+            0,
+            0,
+            0,
+            end,
+        ],
+        Instant::Refused(why, place) => [
+            number_of(why) as u64,
+            place as u64,
+            0,
+            0,
+            0,
+            0,
+            0,
+            0,
+            0,
+            0,
+            end,
+        ],
+    }
+}
+
+// As above, with end 0.
+pub(crate) fn instant(block: &[u8], state: &mut [u8], inputs: u64) -> [u64; 11]
+    ensures { λ r. ⌜ r ≡ logged-values (told (instant-verdict (now (block .entry)) (now (state .entry)) inputs)) 0 ⌝ }
+    ensures { λ _. ⌜ now (state .exit) ≡ state-after (now (state .entry)) (instant-verdict (now (block .entry)) (now (state .entry)) inputs) ⌝ }
+{
+    told_values(foldheron::instant(block, state, inputs), 0)
+}
+
+pub(crate) fn instant_logged(
+    block: &[u8],
+    state: &mut [u8],
+    inputs: u64,
+    log: &mut [u8],
+    end: usize,
+) -> [u64; 11]
+    ensures { λ r. ⌜ r ≡ logged-values (told (logged-verdict (now (block .entry)) (now (state .entry)) inputs (now (log .entry)) end)) (end-after end (logged-verdict (now (block .entry)) (now (state .entry)) inputs (now (log .entry)) end)) ⌝ }
+    ensures { λ _. ⌜ now (state .exit) ≡ state-after (now (state .entry)) (logged-verdict (now (block .entry)) (now (state .entry)) inputs (now (log .entry)) end) ⌝ }
+    ensures { λ _. ⌜ now (log .exit) ≡ log-after (now (log .entry)) end inputs (logged-verdict (now (block .entry)) (now (state .entry)) inputs (now (log .entry)) end) ⌝ }
+{
+    let logged = foldheron::instant_logged(block, state, inputs, log, end);
+    let answer = logged.answer;
+    told_values(answer, logged.end)
+}
+
+// Number, place, and the offset and size of the part of the block.
+pub(crate) fn excerpt(block: &[u8], n: usize) -> [u64; 4]
+    ensures { λ r. ⌜ r ≡ part-values (part-owed (reading (now (block .entry))) n) ⌝ }
+{
+    let part = foldheron::part_of(block, n);
+    [
+        part.number as u64,
+        part.place as u64,
+        part.offset as u64,
+        part.size as u64,
+    ]
+}

@@ -1,0 +1,169 @@
+/* Each call once as it should be, and once as it should not: what is given back, each byte of the answer, and that nothing else that is
+ * lent changes. Prints a line for each thing that is not so; ends with 0 where all is. */
+#include "foldheron.h"
+
+#include <stdio.h>
+#include <string.h>
+
+static int wrong;
+
+#define EXPECT(fact) ((fact) ? (void)0 : (void)(wrong++, printf("calls.c:%d: not so: %s\n", __LINE__, #fact)))
+
+/* suspend, on I: pause; emit O. Version 7. */
+static const uint8_t block[] = {14, 0, 1, 0, 1, 0, 7, 0, 1, 0, 1, 0, 0, 0, 6, 0, 20, 0, 0,
+                                0,  4, 0, 21, 0, 4, 0, 17, 0, 6, 0, 18, 0, 1, 0};
+
+/* emit A parallel (present O then emit O else nothing), with outputs A, O and B, which is never emitted: refused with 13. */
+static const uint8_t cycle[] = {14, 0, 1,  0, 1, 0, 1,  0, 0, 0, 3, 0, 0,  0, 4, 0, 23, 0, 6, 0,
+                                18, 0, 0, 0, 6, 0, 19, 0, 1, 0, 6, 0, 18, 0, 1, 0, 4,  0, 16, 0};
+
+/* pause; pause, whose two pauses clash. */
+static const uint8_t pauses[] = {14, 0, 1, 0, 1, 0, 7, 0, 0, 0, 0, 0, 0, 0, 4, 0, 21, 0, 4, 0, 17, 0, 4, 0, 17, 0};
+
+/* Lent bytes with a guard on either side. */
+struct lent {
+    uint8_t before[8];
+    uint8_t bytes[120];
+};
+
+static struct lent lend(void)
+{
+    struct lent l;
+    memset(&l, 0xA5, sizeof l);
+    return l;
+}
+
+/* Every byte of l from its bytes' count on, and before them, is still the guard's. */
+static int guarded(const struct lent *l, size_t count)
+{
+    const uint8_t *all = (const uint8_t *)l;
+    for (size_t n = 0; n < sizeof *l; n++)
+        if ((n < sizeof l->before || n >= sizeof l->before + count) && all[n] != 0xA5)
+            return 0;
+    return 1;
+}
+
+/* The answer is these numbers, as many as its size has room for, and nothing around it changed. */
+static int told(const struct lent *l, size_t size, const uint64_t *numbers)
+{
+    for (size_t byte = 0; byte < size; byte++)
+        if (l->bytes[byte] != (uint8_t)(numbers[byte / 8] >> 8 * (byte % 8)))
+            return 0;
+    return guarded(l, size);
+}
+
+/* Where the header says that each number begins, against its place in an answer of numbers that count up. */
+static void try_layout(void)
+{
+    uint8_t bytes[FOLDHERON_LOGGED_SIZE];
+    for (size_t byte = 0; byte < sizeof bytes; byte++)
+        bytes[byte] = (uint8_t)(byte % 8 == 0 ? byte / 8 : byte == 87 ? 1 : 0);
+    static const size_t check[] = {FOLDHERON_AT_NUMBER, FOLDHERON_AT_PLACE, FOLDHERON_AT_VERSION, FOLDHERON_AT_INPUTS, FOLDHERON_AT_OUTPUTS,
+                                   FOLDHERON_AT_LOCALS, FOLDHERON_AT_STATEMENTS, FOLDHERON_AT_PAUSES};
+    static const size_t instant[] = {FOLDHERON_AT_NUMBER, FOLDHERON_AT_PLACE, FOLDHERON_AT_FIRST, FOLDHERON_AT_SECOND, FOLDHERON_AT_PRESENT,
+                                     FOLDHERON_AT_ABSENT, FOLDHERON_AT_UNDECIDED, FOLDHERON_AT_ROUNDS, FOLDHERON_AT_CODE, FOLDHERON_AT_ACTIVE};
+    for (size_t n = 0; n < 8; n++)
+        EXPECT(foldheron_number(bytes, check[n]) == n);
+    for (size_t n = 0; n < 10; n++)
+        EXPECT(foldheron_number(bytes, instant[n]) == n);
+    EXPECT(foldheron_number(bytes, FOLDHERON_AT_END) == (UINT64_C(1) << 56) + 10);
+    EXPECT(foldheron_number(bytes, FOLDHERON_AT_OFFSET) == 2 && foldheron_number(bytes, FOLDHERON_AT_COUNT) == 3);
+    EXPECT(FOLDHERON_CHECK_SIZE == 64 && FOLDHERON_FRESH_SIZE == 16 && FOLDHERON_INSTANT_SIZE == 80 && FOLDHERON_EXCERPT_SIZE == 32);
+    EXPECT(FOLDHERON_BLOCK_MOST == 3086 && FOLDHERON_STATE_SIZE == 22 && FOLDHERON_RECORD_SIZE == 24);
+}
+
+static void try_check(void)
+{
+    static const uint64_t good[] = {0, 0, 7, 1, 1, 0, 4, 1}, cut[] = {1, 28, 0, 0, 0, 0, 0, 0};
+    struct lent a = lend();
+    EXPECT(foldheron_check(block, sizeof block, a.bytes, FOLDHERON_CHECK_SIZE) == 0 && told(&a, 64, good));
+    a = lend();
+    EXPECT(foldheron_check(block, sizeof block - 1, a.bytes, FOLDHERON_CHECK_SIZE) == FOLDHERON_BROKEN && told(&a, 64, cut));
+    a = lend();
+    EXPECT(foldheron_check(block, sizeof block, a.bytes, 63) == FOLDHERON_ANSWER && guarded(&a, 0));
+    EXPECT(foldheron_check(block, sizeof block, a.bytes, 65) == FOLDHERON_ANSWER && guarded(&a, 0));
+    EXPECT(foldheron_check(block, sizeof block, a.bytes, 0) == FOLDHERON_ANSWER && guarded(&a, 0));
+}
+
+static void try_fresh(void)
+{
+    static const uint8_t fresh[22] = {22, 0, 2};
+    static const uint64_t written[] = {0, 0}, refused[] = {9, 0};
+    struct lent a = lend(), s = lend();
+    EXPECT(foldheron_fresh(block, sizeof block, s.bytes, 21, a.bytes, FOLDHERON_FRESH_SIZE) == FOLDHERON_STATE);
+    EXPECT(told(&a, 16, refused) && guarded(&s, 0));
+    a = lend();
+    EXPECT(foldheron_fresh(block, sizeof block, s.bytes, 22, a.bytes, 15) == FOLDHERON_ANSWER && guarded(&s, 0) && guarded(&a, 0));
+    EXPECT(foldheron_fresh(block, sizeof block, s.bytes, 22, a.bytes, FOLDHERON_FRESH_SIZE) == 0 && told(&a, 16, written));
+    EXPECT(memcmp(s.bytes, fresh, 22) == 0 && guarded(&s, 22));
+}
+
+static void try_instant(void)
+{
+    static const uint64_t waits[] = {0, 0, 0, 0, 0, 0, 0, 2, 1, 1}, unknown_input[] = {11, 0, 0, 0, 0, 0, 0, 0, 0, 0};
+    static const uint64_t ends[] = {0, 0, 0, 0, 2, 0, 0, 2, 0, 0};
+    uint8_t state[22] = {22, 0, 2}, kept[22];
+    struct lent a = lend();
+    EXPECT(foldheron_instant(block, sizeof block, state, 22, 1, a.bytes, 79) == FOLDHERON_ANSWER && guarded(&a, 0) && state[4] == 0);
+    EXPECT(foldheron_instant(block, sizeof block, state, 22, 1, a.bytes, FOLDHERON_INSTANT_SIZE) == 0 && told(&a, 80, waits));
+    EXPECT(state[4] == 1 && state[6] == 1);
+    memcpy(kept, state, 22);
+    EXPECT(foldheron_instant(block, sizeof block, state, 22, 2, a.bytes, FOLDHERON_INSTANT_SIZE) == FOLDHERON_INPUT);
+    EXPECT(told(&a, 80, unknown_input) && memcmp(state, kept, 22) == 0);
+    EXPECT(foldheron_instant(block, sizeof block, state, 22, 0, a.bytes, FOLDHERON_INSTANT_SIZE) == 0 && told(&a, 80, ends));
+    EXPECT(state[4] == 2 && state[6] == 0);
+}
+
+static void try_refusals(void)
+{
+    static const uint64_t doubt[] = {13, 0, 0, 0, 1, 4, 1, 2, 0, 0}, clash[] = {10, 0, 0, 1, 0, 0, 0, 0, 0, 0};
+    uint8_t state[22] = {22, 0, 2}, both[22] = {22, 0, 2, 0, 1, 0, 3}, kept[22];
+    struct lent a = lend();
+    memcpy(kept, state, 22);
+    EXPECT(foldheron_instant(cycle, sizeof cycle, state, 22, 0, a.bytes, FOLDHERON_INSTANT_SIZE) == FOLDHERON_NOT_CONSTRUCTIVE);
+    EXPECT(told(&a, 80, doubt) && memcmp(state, kept, 22) == 0);
+    memcpy(kept, both, 22);
+    EXPECT(foldheron_instant(pauses, sizeof pauses, both, 22, 0, a.bytes, FOLDHERON_INSTANT_SIZE) == FOLDHERON_CLASH);
+    EXPECT(told(&a, 80, clash) && memcmp(both, kept, 22) == 0);
+}
+
+static void try_logged(void)
+{
+    static const uint8_t record[24] = {24, 0, 3, 0, 1, 0, 0, 0, 0, 0, 0, 0, 0, 0, 0, 0, 0, 0, 0, 0, 1, 0, 2, 0};
+    static const uint64_t roomless[] = {12, 0, 0, 0, 0, 0, 0, 0, 0, 0, 0}, waits[] = {0, 0, 0, 0, 0, 0, 0, 2, 1, 1, 29};
+    uint8_t state[22] = {22, 0, 2};
+    struct lent a = lend(), log = lend();
+    EXPECT(foldheron_instant_logged(block, sizeof block, state, 22, 1, log.bytes, 28, 5, a.bytes, FOLDHERON_LOGGED_SIZE) == FOLDHERON_ROOM);
+    EXPECT(told(&a, 88, roomless) && guarded(&log, 0) && state[4] == 0);
+    EXPECT(foldheron_instant_logged(block, sizeof block, state, 22, 1, log.bytes, 28, SIZE_MAX, a.bytes, 88) == FOLDHERON_ROOM);
+    EXPECT(told(&a, 88, roomless));
+    EXPECT(foldheron_instant_logged(block, sizeof block, state, 22, 1, log.bytes, 29, 5, a.bytes, 87) == FOLDHERON_ANSWER);
+    EXPECT(told(&a, 88, roomless) && guarded(&log, 0) && state[4] == 0);
+    EXPECT(foldheron_instant_logged(block, sizeof block, state, 22, 1, log.bytes, 29, 5, a.bytes, FOLDHERON_LOGGED_SIZE) == 0);
+    EXPECT(told(&a, 88, waits) && state[4] == 1);
+    EXPECT(memcmp(log.bytes + 5, record, FOLDHERON_RECORD_SIZE) == 0 && log.bytes[4] == 0xA5 && guarded(&log, 29));
+}
+
+static void try_excerpt(void)
+{
+    static const uint64_t sequence[] = {0, 0, 20, 14}, none[] = {14, 0, 0, 0};
+    struct lent a = lend();
+    EXPECT(foldheron_excerpt(block, sizeof block, 1, a.bytes, FOLDHERON_EXCERPT_SIZE) == 0 && told(&a, 32, sequence));
+    EXPECT(foldheron_excerpt(block, sizeof block, 4, a.bytes, FOLDHERON_EXCERPT_SIZE) == FOLDHERON_INDEX && told(&a, 32, none));
+    EXPECT(foldheron_excerpt(block, sizeof block, SIZE_MAX, a.bytes, FOLDHERON_EXCERPT_SIZE) == FOLDHERON_INDEX && told(&a, 32, none));
+    a = lend();
+    EXPECT(foldheron_excerpt(block, sizeof block, 1, a.bytes, 33) == FOLDHERON_ANSWER && guarded(&a, 0));
+}
+
+int main(void)
+{
+    try_layout();
+    try_check();
+    try_fresh();
+    try_instant();
+    try_refusals();
+    try_logged();
+    try_excerpt();
+    printf("calls: %d wrong\n", wrong);
+    return wrong != 0;
+}

@@ -1,0 +1,133 @@
+//! Each call of the wrapper as it should be and as it should not, with what document 01 says of it: the answer, and every byte that is lent
+//! and those around it. Prints a line for each thing that is not so; ends with 0 where all is.
+
+use foldheron::{check, excerpt, fresh, instant, instant_logged, name_of};
+use foldheron::{Doubt, Instant, Logged, Reaction, Refusal, Summary};
+use std::sync::atomic::{AtomicUsize, Ordering};
+
+static WRONG: AtomicUsize = AtomicUsize::new(0);
+
+macro_rules! expect {
+    ($fact:expr) => {
+        if !$fact {
+            WRONG.fetch_add(1, Ordering::Relaxed);
+            println!("calls.rs:{}: not so: {}", line!(), stringify!($fact));
+        }
+    };
+}
+
+/// suspend, on I: pause; emit O. Version 7. The statements stand at 14, 20, 24 and 28.
+const BLOCK: [u8; 34] =
+    [14, 0, 1, 0, 1, 0, 7, 0, 1, 0, 1, 0, 0, 0, 6, 0, 20, 0, 0, 0, 4, 0, 21, 0, 4, 0, 17, 0, 6, 0, 18, 0, 1, 0];
+
+/// emit A parallel (present O then emit O else nothing), with outputs A, O and B, which is never emitted. Version 1.
+const CYCLE: [u8; 40] = [
+    14, 0, 1, 0, 1, 0, 1, 0, 0, 0, 3, 0, 0, 0, 4, 0, 23, 0, 6, 0, 18, 0, 0, 0, 6, 0, 19, 0, 1, 0, 6, 0, 18, 0, 1, 0, 4, 0, 16, 0,
+];
+
+/// pause; pause, whose two pauses clash.
+const PAUSES: [u8; 26] = [14, 0, 1, 0, 1, 0, 7, 0, 0, 0, 0, 0, 0, 0, 4, 0, 21, 0, 4, 0, 17, 0, 4, 0, 17, 0];
+
+/// A state: its phase and the first of its pauses.
+const fn state(phase: u8, active: u8) -> [u8; 22] {
+    [22, 0, 2, 0, phase, 0, active, 0, 0, 0, 0, 0, 0, 0, 0, 0, 0, 0, 0, 0, 0, 0]
+}
+
+fn refused(number: u16, place: usize) -> Refusal {
+    Refusal { number, place }
+}
+
+fn answered(present: u64, code: u16, rounds: u16, active: u16) -> Instant {
+    Instant::Answered(Reaction { present, code, rounds, active })
+}
+
+fn try_check() {
+    let good = Summary { version: 7, inputs: 1, outputs: 1, locals: 0, statements: 4, pauses: 1 };
+    expect!(check(&BLOCK) == Ok(good));
+    expect!(check(&BLOCK[..33]) == Err(refused(1, 28)));
+    expect!(check(&BLOCK[..28]) == Err(refused(7, 28)));
+    expect!(check(&[]) == Err(refused(1, 0)));
+    expect!(check(&[0; 3087]) == Err(refused(4, 0)));
+}
+
+fn try_fresh() {
+    let mut lent = [0xA5; 64];
+    expect!(fresh(&BLOCK, &mut lent[8..29]) == Err(refused(9, 0)));
+    expect!(fresh(&BLOCK, &mut lent[8..31]) == Err(refused(9, 0)));
+    expect!(fresh(&BLOCK, &mut []) == Err(refused(9, 0)));
+    expect!(fresh(&BLOCK[..33], &mut lent[8..30]) == Err(refused(1, 28)));
+    expect!(lent == [0xA5; 64]);
+    expect!(fresh(&BLOCK, &mut lent[8..30]) == Ok(()));
+    expect!(lent[8..30] == state(0, 0) && lent[..8] == [0xA5; 8] && lent[30..] == [0xA5; 34]);
+}
+
+/// The document's run, and one instant more, in which the block is finished.
+fn try_instant() {
+    let mut lent = state(0, 0);
+    expect!(instant(&BLOCK, &mut lent, 1) == answered(0, 1, 2, 1) && lent == state(1, 1));
+    expect!(instant(&BLOCK, &mut lent, 1) == answered(0, 1, 2, 1) && lent == state(1, 1));
+    expect!(instant(&BLOCK, &mut lent, 2) == Instant::Refused(refused(11, 0)) && lent == state(1, 1));
+    expect!(instant(&BLOCK, &mut lent, 0) == answered(2, 0, 2, 0) && lent == state(2, 0));
+    expect!(instant(&BLOCK, &mut lent, 0) == answered(0, 0, 2, 0) && lent == state(2, 0));
+}
+
+fn try_refusals() {
+    let doubt = Instant::NotConstructive(Doubt { present: 1, absent: 4, undecided: 1, rounds: 2 });
+    let (mut lent, mut both, mut phase) = (state(0, 0), state(1, 3), state(3, 0));
+    expect!(instant(&CYCLE, &mut lent, 0) == doubt && lent == state(0, 0));
+    expect!(instant(&PAUSES, &mut both, 0) == Instant::Clash(0, 1) && both == state(1, 3));
+    expect!(instant(&BLOCK, &mut both, 0) == Instant::Refused(refused(9, 0)) && both == state(1, 3));
+    expect!(instant(&BLOCK, &mut phase, 0) == Instant::Refused(refused(9, 0)) && phase == state(3, 0));
+    expect!(instant(&BLOCK, &mut lent[..21], 0) == Instant::Refused(refused(9, 0)) && lent == state(0, 0));
+    expect!(instant(&BLOCK[..33], &mut lent, 0) == Instant::Refused(refused(1, 28)) && lent == state(0, 0));
+}
+
+fn try_logged() {
+    let record = [24, 0, 3, 0, 1, 0, 0, 0, 0, 0, 0, 0, 0, 0, 0, 0, 0, 0, 0, 0, 1, 0, 2, 0];
+    let none = Logged { answer: Instant::Refused(refused(12, 0)), end: 0 };
+    let (mut log, mut lent) = ([0xA5; 64], state(0, 0));
+    expect!(instant_logged(&BLOCK, &mut lent, 1, &mut log[..28], 5) == none);
+    expect!(instant_logged(&BLOCK, &mut lent, 1, &mut log[..28], 29) == none);
+    expect!(instant_logged(&BLOCK, &mut lent, 1, &mut log, usize::MAX) == none);
+    expect!(instant_logged(&BLOCK, &mut lent, 1, &mut [], 0) == none);
+    let in_doubt = instant_logged(&CYCLE, &mut lent, 0, &mut log, 5);
+    expect!(in_doubt.answer.number() == 13 && in_doubt.end == 0);
+    expect!(log == [0xA5; 64] && lent == state(0, 0));
+    let good = Logged { answer: answered(0, 1, 2, 1), end: 29 };
+    expect!(instant_logged(&BLOCK, &mut lent, 1, &mut log[..29], 5) == good && lent == state(1, 1));
+    expect!(log[..5] == [0xA5; 5] && log[5..29] == record && log[29..] == [0xA5; 35]);
+}
+
+fn try_excerpt() {
+    expect!(excerpt(&BLOCK, 0) == Ok(&BLOCK[14..]));
+    expect!(excerpt(&BLOCK, 1) == Ok(&BLOCK[20..]));
+    expect!(excerpt(&BLOCK, 2) == Ok(&BLOCK[24..28]));
+    expect!(excerpt(&BLOCK, 3) == Ok(&BLOCK[28..]));
+    expect!(excerpt(&BLOCK, 4) == Err(refused(14, 0)));
+    expect!(excerpt(&BLOCK, usize::MAX) == Err(refused(14, 0)));
+    expect!(excerpt(&BLOCK[..33], 0) == Err(refused(1, 28)));
+}
+
+/// The names in the order of document 01's table, and what a refusal says of itself.
+fn try_names() {
+    let names = "BROKEN,KIND,EDITION,LIMIT,SIGNAL,EXIT,SHAPE,LOOP,STATE,CLASH,INPUT,ROOM,NOT CONSTRUCTIVE,INDEX";
+    expect!((1..15).filter_map(name_of).collect::<Vec<_>>().join(",") == names);
+    expect!(name_of(0).is_none() && name_of(15).is_none() && name_of(64).is_none() && name_of(u16::MAX).is_none());
+    expect!(refused(1, 28).to_string() == "refused with 1, BROKEN, at offset 28 of the block");
+    expect!(refused(9, 0).to_string() == "refused with 9, STATE");
+    let numbers = [answered(0, 0, 1, 0), Instant::Clash(0, 1), Instant::Refused(refused(12, 0))];
+    expect!(numbers.iter().map(Instant::number).eq([0, 10, 12]));
+}
+
+fn main() {
+    try_check();
+    try_fresh();
+    try_instant();
+    try_refusals();
+    try_logged();
+    try_excerpt();
+    try_names();
+    let wrong = WRONG.load(Ordering::Relaxed);
+    println!("calls: {} wrong", wrong);
+    std::process::exit(i32::from(wrong != 0));
+}

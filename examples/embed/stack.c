@@ -1,0 +1,152 @@
+/* How much stack the calls take. Each is run on a stack of its own that was painted before, on blocks as deep as a block may be: 64
+ * statements on a path, with up to 6 locals, 16 traps and any loops on it, from fresh and from the states that follow. Prints how many
+ * calls took more than FOLDHERON_STACK_MOST; with a word, also the most that each call took. Ends with 0 where none took more. */
+#define _XOPEN_SOURCE 600
+#include "foldheron.h"
+
+#include <stdio.h>
+#include <string.h>
+#include <ucontext.h>
+
+enum { DEEPEST = 64, ROOM = 1 << 17, PAINT = 0xA5, CALLS = 5, SPINES = 1500 };
+enum { PRESENT = 19, SUSPEND, SEQUENCE, LOOP, PARALLEL, TRAP, EXIT, LOCAL };
+
+static const char *const names[CALLS] = {"check", "fresh", "instant", "instant_logged", "excerpt"};
+static uint8_t block[FOLDHERON_BLOCK_MOST], state[FOLDHERON_STATE_SIZE], record[FOLDHERON_RECORD_SIZE], painted[ROOM];
+static size_t block_size, most[CALLS];
+static uint64_t inputs;
+static int call, over;
+static uint16_t number;
+static const uint8_t *top;
+static ucontext_t outside, inside;
+static uint32_t chance = 1;
+
+/* A number below this one. */
+static unsigned any(unsigned below)
+{
+    chance = chance * 1664525u + 1013904223u;
+    return (unsigned)((uint64_t)(chance >> 8) * below >> 24);
+}
+
+static void put(unsigned kind, unsigned operand)
+{
+    uint8_t size = kind == 1 ? 14 : kind < 18 || (kind > 20 && kind < 25) ? 4 : 6;
+    uint8_t bytes[6] = {size, 0, (uint8_t)kind, 0, (uint8_t)operand, 0};
+    memcpy(block + block_size, bytes, size < 6 ? 4 : 6);
+    block_size += size;
+}
+
+/* The header (edition 1, inputs 0 and 1, output 2, then the locals), and the statements on the path, each with a leaf beside the path where
+ * it has two children: a pause, in a sequence nothing. The leaf comes before the path's next statement or after all of them. */
+static void build(const unsigned char *kinds, unsigned locals)
+{
+    unsigned after[DEEPEST], waiting = 0, next = 3, traps = 0;
+    memset(block, 0, sizeof block);
+    block_size = 0;
+    put(1, 1);
+    block[8] = 2;
+    block[10] = 1;
+    block[12] = (uint8_t)locals;
+    for (int at = 0; at < DEEPEST - 1; at++) {
+        unsigned kind = kinds[at], leaf = kind == SEQUENCE ? 16 : 17;
+        unsigned tested = any(4) != 0 || next == 3 ? (kind == SUSPEND ? 0 : any(8) == 0 ? 2 : 1) : next - 1;
+        put(kind, kind == LOCAL ? next++ : tested);
+        traps += kind == TRAP;
+        if (kind == PRESENT || kind == SEQUENCE || kind == PARALLEL) {
+            if (kind != PRESENT && any(2) == 0)
+                put(leaf, 0);
+            else
+                after[waiting++] = leaf;
+        }
+    }
+    unsigned last = any(8);
+    put(last == 0 && traps > 0 ? EXIT : last == 1 ? 18 : 17, last == 0 ? any(traps) : 2);
+    while (waiting > 0)
+        put(after[--waiting], 0);
+}
+
+/* The call, on the painted stack. */
+static void run(void)
+{
+    uint8_t a[FOLDHERON_LOGGED_SIZE];
+    top = a + sizeof a;
+    switch (call) {
+    case 0: number = foldheron_check(block, block_size, a, FOLDHERON_CHECK_SIZE); break;
+    case 1: number = foldheron_fresh(block, block_size, state, sizeof state, a, FOLDHERON_FRESH_SIZE); break;
+    case 2: number = foldheron_instant(block, block_size, state, sizeof state, inputs, a, FOLDHERON_INSTANT_SIZE); break;
+    case 3:
+        number = foldheron_instant_logged(block, block_size, state, sizeof state, inputs, record, sizeof record, 0, a, sizeof a);
+        break;
+    default: number = foldheron_excerpt(block, block_size, DEEPEST - 1, a, FOLDHERON_EXCERPT_SIZE);
+    }
+}
+
+/* Runs a call and counts the bytes from its caller's answer down to the lowest that is no longer painted. */
+static uint16_t measure(int which)
+{
+    size_t low = 0;
+    call = which;
+    memset(painted, PAINT, sizeof painted);
+    getcontext(&inside);
+    inside.uc_stack.ss_sp = painted;
+    inside.uc_stack.ss_size = sizeof painted;
+    inside.uc_link = &outside;
+    makecontext(&inside, run, 0);
+    swapcontext(&outside, &inside);
+    while (low < sizeof painted && painted[low] == PAINT)
+        low++;
+    size_t took = (size_t)(top - (painted + low));
+    over += took > FOLDHERON_STACK_MOST;
+    if (took > most[which])
+        most[which] = took;
+    return number;
+}
+
+/* Every call on the block: four instants from fresh, in turn with and without a log. Answers how many were answered. */
+static unsigned try_block(void)
+{
+    unsigned answered = 0;
+    if (measure(0) != 0)
+        return 0;
+    measure(4);
+    measure(1);
+    for (int n = 0; n < 4; n++) {
+        inputs = n == 0 ? 2 : any(4);
+        answered += measure(2 + (int)any(2)) == 0;
+    }
+    return answered;
+}
+
+/* A path of one kind, or of any: locals and traps as far as they may nest. */
+static unsigned try_path(unsigned only)
+{
+    unsigned char kinds[DEEPEST];
+    unsigned locals = 0, traps = 0;
+    for (int at = 0; at < DEEPEST - 1; at++) {
+        unsigned kind = only != 0 ? only : PRESENT + any(8);
+        while (kind == EXIT || (kind == LOCAL && locals == 6) || (kind == TRAP && traps == 16))
+            kind = only != 0 ? SUSPEND : PRESENT + any(8);
+        locals += kind == LOCAL;
+        traps += kind == TRAP;
+        kinds[at] = (unsigned char)kind;
+    }
+    build(kinds, locals);
+    return try_block();
+}
+
+int main(int count, char **words)
+{
+    unsigned answered = 0;
+    (void)words;
+    for (unsigned kind = PRESENT; kind <= LOCAL; kind++)
+        for (int n = 0; n < 20; n++)
+            answered += try_path(kind);
+    for (int n = 0; n < SPINES; n++)
+        answered += try_path(0);
+    for (int n = 0; count > 1 && n < CALLS; n++)
+        printf("%s: %lu bytes\n", names[n], (unsigned long)most[n]);
+    if (count > 1)
+        printf("%u instants answered\n", answered);
+    printf("stack: %d calls over %d bytes\n", over, FOLDHERON_STACK_MOST);
+    return over != 0;
+}

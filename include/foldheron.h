@@ -1,0 +1,135 @@
+/* Foldheron: kernel Esterel logic blocks, checked and run one instant at a time.
+ *
+ * The calls are those of a proved library for x86-64 Linux. `rt staticlib exports` proves it and writes
+ * target/staticlib/libexports.a:
+ *
+ *     gcc -I include program.c target/staticlib/libexports.a
+ *
+ * What is proved of a call: for every block, state, log, number and answer length it ends, gives back the number and writes the
+ * bytes that the definitions say, and reads and writes nothing beyond the lengths it is given. What the caller must see to, since
+ * nothing checks a caller in C:
+ *
+ *   - each pointer is to as many bytes as the length beside it says, and is not NULL, not even beside a length of 0;
+ *   - the bytes that a call may write (state, log, answer) overlap neither each other nor the block;
+ *   - no other thread writes the block, or touches the state, the log or the answer, during the call.
+ *
+ * The library keeps nothing between calls and allocates nothing. Calls on different states and answers may run at the same time. Of the
+ * C library it needs memcpy and memset, and nothing else. A call takes less stack than FOLDHERON_STACK_MOST below: that is measured, by
+ * examples/embed/stack.c on blocks as deep as they may be, and not proved.
+ *
+ * Each call gives back the number of its refusal, 0 where it was not turned down, and writes its whole answer into lent bytes whose
+ * count is fixed for the call: with any other count it gives back FOLDHERON_ANSWER and changes no byte of anything. An answer is a row of
+ * numbers, 8 bytes each, little-endian; FOLDHERON_AT_ says at which byte each begins, and foldheron_number reads it. Every answer begins
+ * with the refusal's number and its place: of 1 to 8 an offset in the block, else 0. Numbers that an answer does not name are 0.
+ *
+ * Statements and pauses are numbered each from 0, in the order in which they stand in the block.
+ */
+#ifndef FOLDHERON_H
+#define FOLDHERON_H
+
+#include <stddef.h>
+#include <stdint.h>
+
+#ifdef __cplusplus
+extern "C" {
+#endif
+
+/* The numbers of refusals, the first that applies in this order. 1 to 8, the block: every call; 9, the state: fresh and the instants; 10, 11
+ * and 13: the instants; 12: the one with a log, before 13; 14: an excerpt. 64, the answer's bytes, comes before all of them. */
+#define FOLDHERON_GOOD 0
+#define FOLDHERON_BROKEN 1           /* a record is cut off, or has a length below 4 */
+#define FOLDHERON_KIND 2             /* a kind that is not allowed here, or not that kind's length */
+#define FOLDHERON_EDITION 3          /* the header's edition is not 1 */
+#define FOLDHERON_LIMIT 4            /* more of something than there may be */
+#define FOLDHERON_SIGNAL 5           /* a signal that may not stand here */
+#define FOLDHERON_EXIT 6             /* an exit without its trap */
+#define FOLDHERON_SHAPE 7            /* the tree ends too early or too late */
+#define FOLDHERON_LOOP 8             /* a loop that may go round without a pause */
+#define FOLDHERON_STATE 9            /* not a state of this block */
+#define FOLDHERON_CLASH 10           /* two active pauses that cannot be active together */
+#define FOLDHERON_INPUT 11           /* an input that the block does not have */
+#define FOLDHERON_ROOM 12            /* fewer than 24 bytes after the log's end, or no such end */
+#define FOLDHERON_NOT_CONSTRUCTIVE 13 /* the instant does not settle its code */
+#define FOLDHERON_INDEX 14           /* no statement of that number */
+#define FOLDHERON_ANSWER 64          /* not as many bytes as this call's answer has */
+
+/* A block has at most so many bytes, a state exactly so many, a log record exactly so many. */
+#define FOLDHERON_BLOCK_MOST 3086
+#define FOLDHERON_STATE_SIZE 22
+#define FOLDHERON_RECORD_SIZE 24
+
+/* A call takes less stack than this, from its caller's frame down; 45,320 bytes were the most that was seen. */
+#define FOLDHERON_STACK_MOST 49152
+
+/* Where every answer has its number and its place. */
+#define FOLDHERON_AT_NUMBER 0
+#define FOLDHERON_AT_PLACE 8
+
+/* Checks a block. The answer, 64 bytes: of a good block its version and its counts. Refusals: 1 to 8. */
+#define FOLDHERON_CHECK_SIZE 64
+#define FOLDHERON_AT_VERSION 16
+#define FOLDHERON_AT_INPUTS 24
+#define FOLDHERON_AT_OUTPUTS 32
+#define FOLDHERON_AT_LOCALS 40
+#define FOLDHERON_AT_STATEMENTS 48
+#define FOLDHERON_AT_PAUSES 56
+uint16_t foldheron_check(const uint8_t *block, size_t block_size, uint8_t *answer, size_t answer_size);
+
+/* Writes the block's fresh state into the lent state, which has 22 bytes; another size is refused with 9. Refused, no byte of the
+ * state changes. The answer, 16 bytes: number and place. Refusals: 1 to 8, then 9. */
+#define FOLDHERON_FRESH_SIZE 16
+uint16_t foldheron_fresh(const uint8_t *block, size_t block_size, uint8_t *state, size_t state_size, uint8_t *answer,
+                         size_t answer_size);
+
+/* Runs one instant. Bit n of inputs is set where input n is present; the other inputs are absent. Answered, the lent state is the
+ * next state; refused, no byte of it changes. Refusals: 1 to 8, then 9, 10, 11, 13. The answer, 80 bytes:
+ *   first, second   of a CLASH: the numbers of the two pauses;
+ *   present         the present outputs, bit n for signal n; of a 13, those known to be present;
+ *   absent          of a 13: the outputs known to be absent;
+ *   undecided       of a 13: how many outputs are undecided;
+ *   rounds          answered, or a 13: the rounds it took;
+ *   code            answered: 1 where the block goes on, 0 where it has finished;
+ *   active          answered: how many pauses are active in the next state. */
+#define FOLDHERON_INSTANT_SIZE 80
+#define FOLDHERON_AT_FIRST 16
+#define FOLDHERON_AT_SECOND 24
+#define FOLDHERON_AT_PRESENT 32
+#define FOLDHERON_AT_ABSENT 40
+#define FOLDHERON_AT_UNDECIDED 48
+#define FOLDHERON_AT_ROUNDS 56
+#define FOLDHERON_AT_CODE 64
+#define FOLDHERON_AT_ACTIVE 72
+uint16_t foldheron_instant(const uint8_t *block, size_t block_size, uint8_t *state, size_t state_size, uint64_t inputs,
+                           uint8_t *answer, size_t answer_size);
+
+/* Runs one instant and, where it is answered, writes its record of 24 bytes into the log from its end on: length 24, kind 3 (2 bytes
+ * each), the inputs, the present outputs (8 each), code, rounds (2 each). Nothing before or after the record changes. The answer, 88
+ * bytes: that of an instant, and the log's new end, which the caller lends with the next call. A refused instant writes no record and
+ * changes no byte of log or state; the new end is 0 then, so the caller keeps the end it had. Refusals: 1 to 8, then 9 to 13. */
+#define FOLDHERON_LOGGED_SIZE 88
+#define FOLDHERON_AT_END 80
+uint16_t foldheron_instant_logged(const uint8_t *block, size_t block_size, uint8_t *state, size_t state_size, uint64_t inputs,
+                                  uint8_t *log, size_t log_size, size_t end, uint8_t *answer, size_t answer_size);
+
+/* Finds statement n and all below it in the block, to show that part to its maker, to keep it or to compare it with the part of another
+ * block: the answer, 32 bytes, has the offset and the count of these bytes, both 0 where it was refused. The part has no header, so it is no
+ * block by itself. Refusals: 1 to 8, then 14. */
+#define FOLDHERON_EXCERPT_SIZE 32
+#define FOLDHERON_AT_OFFSET 16
+#define FOLDHERON_AT_COUNT 24
+uint16_t foldheron_excerpt(const uint8_t *block, size_t block_size, size_t n, uint8_t *answer, size_t answer_size);
+
+/* The number of 8 bytes that begins at a byte of an answer. */
+static inline uint64_t foldheron_number(const uint8_t *answer, size_t at)
+{
+    uint64_t number = 0;
+    for (size_t byte = 8; byte > 0; byte--)
+        number = number << 8 | answer[at + byte - 1];
+    return number;
+}
+
+#ifdef __cplusplus
+}
+#endif
+
+#endif

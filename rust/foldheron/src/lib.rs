@@ -1,0 +1,172 @@
+//! Foldheron from Rust: the calls of the proved static library as safe functions. No dependencies.
+//!
+//! `rt staticlib exports` writes `target/staticlib/libexports.a`, for x86-64 Linux. With Cargo, name its folder by its full path in the
+//! variable FOLDHERON_ARCHIVE; with rustc alone, link it with `-L native=target/staticlib -l static=exports`. What a call gives back is
+//! what `include/foldheron.h` documents.
+//! The three things that a C caller must see to hold by themselves here: a slice's bytes are all there, and what is lent as `&mut`
+//! overlaps nothing else that is lent and is touched by no other thread.
+
+use std::fmt;
+
+mod raw;
+
+/// A good block's version and counts.
+#[derive(Clone, Copy, PartialEq, Eq, Debug)]
+pub struct Summary {
+    pub version: u16,
+    pub inputs: u16,
+    pub outputs: u16,
+    pub locals: u16,
+    pub statements: u16,
+    pub pauses: u16,
+}
+
+/// A call that was turned down: the number and the place, an offset in the block. The place of a number above 8 is 0.
+#[derive(Clone, Copy, PartialEq, Eq, Debug)]
+pub struct Refusal {
+    pub number: u16,
+    pub place: usize,
+}
+
+/// The names of the refusals, from 1 on.
+const NAMES: [&str; 14] = [
+    "BROKEN", "KIND", "EDITION", "LIMIT", "SIGNAL", "EXIT", "SHAPE", "LOOP", "STATE", "CLASH", "INPUT", "ROOM", "NOT CONSTRUCTIVE", "INDEX",
+];
+
+/// The name of a refusal's number; none of a number that no call gives back.
+pub fn name_of(number: u16) -> Option<&'static str> {
+    usize::from(number).checked_sub(1).and_then(|at| NAMES.get(at)).copied()
+}
+
+impl fmt::Display for Refusal {
+    fn fmt(&self, f: &mut fmt::Formatter<'_>) -> fmt::Result {
+        write!(f, "refused with {}, {}", self.number, name_of(self.number).unwrap_or("which has no name"))?;
+        match self.number {
+            1..=8 => write!(f, ", at offset {} of the block", self.place),
+            _ => Ok(()),
+        }
+    }
+}
+
+impl std::error::Error for Refusal {}
+
+/// An answered instant: the present outputs by signal number, the code (1: it goes on, 0: it finished), the rounds, the active pauses.
+#[derive(Clone, Copy, PartialEq, Eq, Debug)]
+pub struct Reaction {
+    pub present: u64,
+    pub code: u16,
+    pub rounds: u16,
+    pub active: u16,
+}
+
+/// What is known of an instant that is not constructive (13).
+#[derive(Clone, Copy, PartialEq, Eq, Debug)]
+pub struct Doubt {
+    pub present: u64,
+    pub absent: u64,
+    pub undecided: u16,
+    pub rounds: u16,
+}
+
+#[derive(Clone, Copy, PartialEq, Eq, Debug)]
+pub enum Instant {
+    Answered(Reaction),
+    /// 13: the state is as it was.
+    NotConstructive(Doubt),
+    /// 10: two active pauses of the state that cannot be active together, by their numbers, from 0 as they stand in the block.
+    Clash(u16, u16),
+    Refused(Refusal),
+}
+
+impl Instant {
+    /// The number of the refusal, 0 where the instant was answered.
+    pub fn number(&self) -> u16 {
+        match self {
+            Instant::Answered(_) => 0,
+            Instant::NotConstructive(_) => 13,
+            Instant::Clash(_, _) => 10,
+            Instant::Refused(refusal) => refusal.number,
+        }
+    }
+}
+
+/// An instant with a log: its answer, and the log's new end. Where it was refused no record is written and the end here is 0: the
+/// caller goes on with the end it had.
+#[derive(Clone, Copy, PartialEq, Eq, Debug)]
+pub struct Logged {
+    pub answer: Instant,
+    pub end: usize,
+}
+
+/// The bytes of a state, and of a log record.
+pub const STATE: usize = 22;
+pub const RECORD: usize = 24;
+
+/// Checks a block.
+pub fn check(block: &[u8]) -> Result<Summary, Refusal> {
+    let a = raw::check(block);
+    refusal(&a)?;
+    Ok(Summary {
+        version: small(&a, 2),
+        inputs: small(&a, 3),
+        outputs: small(&a, 4),
+        locals: small(&a, 5),
+        statements: small(&a, 6),
+        pauses: small(&a, 7),
+    })
+}
+
+/// Writes the fresh state of a block into 22 lent bytes.
+pub fn fresh(block: &[u8], state: &mut [u8]) -> Result<(), Refusal> {
+    refusal(&raw::fresh(block, state))
+}
+
+/// Runs one instant: bit n of `inputs` is set where input n is present. Answered, the state is the next one; else it is as it was.
+pub fn instant(block: &[u8], state: &mut [u8], inputs: u64) -> Instant {
+    told(&raw::instant(block, state, inputs))
+}
+
+/// Runs one instant and writes its record into the log from `end` on; refused, no byte of the log changes.
+pub fn instant_logged(block: &[u8], state: &mut [u8], inputs: u64, log: &mut [u8], end: usize) -> Logged {
+    let a = raw::instant_logged(block, state, inputs, log, end);
+    Logged { answer: told(&a), end: number(&a, 10) as usize }
+}
+
+/// The part of the block that holds statement n and all below it, to show or compare. Statements are numbered from 0 as they stand in
+/// the block.
+pub fn excerpt(block: &[u8], n: usize) -> Result<&[u8], Refusal> {
+    let a = raw::excerpt(block, n);
+    refusal(&a)?;
+    let offset = number(&a, 2) as usize;
+    Ok(&block[offset..offset + number(&a, 3) as usize])
+}
+
+/// The n-th number of an answer, and one that is never large.
+fn number(a: &[u8], n: usize) -> u64 {
+    let mut bytes = [0; 8];
+    bytes.copy_from_slice(&a[8 * n..8 * n + 8]);
+    u64::from_le_bytes(bytes)
+}
+
+fn small(a: &[u8], n: usize) -> u16 {
+    number(a, n) as u16
+}
+
+fn refusal(a: &[u8]) -> Result<(), Refusal> {
+    match small(a, 0) {
+        0 => Ok(()),
+        turned_down => Err(Refusal { number: turned_down, place: number(a, 1) as usize }),
+    }
+}
+
+fn told(a: &[u8]) -> Instant {
+    let (present, rounds) = (number(a, 4), small(a, 7));
+    match refusal(a) {
+        Ok(()) => Instant::Answered(Reaction { present, code: small(a, 8), rounds, active: small(a, 9) }),
+        Err(Refusal { number: 13, .. }) => {
+            Instant::NotConstructive(Doubt { present, absent: number(a, 5), undecided: small(a, 6), rounds })
+        }
+        Err(Refusal { number: 10, .. }) => Instant::Clash(small(a, 2), small(a, 3)),
+        Err(other) => Instant::Refused(other),
+    }
+}

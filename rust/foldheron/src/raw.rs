@@ -1,0 +1,60 @@
+//! The C names, and one call of each with an answer of its length: the only unsafe code.
+//!
+//! Nothing compares these declarations with the library's source: they are those of `include/foldheron.h`.
+//! A slice's pointer is never null, and its bytes are all there, so each call gets what it is promised.
+
+extern "C" {
+    fn foldheron_check(block: *const u8, block_len: usize, answer: *mut u8, answer_len: usize) -> u16;
+    fn foldheron_fresh(
+        block: *const u8, block_len: usize, state: *mut u8, state_len: usize, answer: *mut u8, answer_len: usize,
+    ) -> u16;
+    fn foldheron_instant(
+        block: *const u8, block_len: usize, state: *mut u8, state_len: usize, inputs: u64, answer: *mut u8, answer_len: usize,
+    ) -> u16;
+    fn foldheron_instant_logged(
+        block: *const u8, block_len: usize, state: *mut u8, state_len: usize, inputs: u64, log: *mut u8, log_len: usize,
+        end: usize, answer: *mut u8, answer_len: usize,
+    ) -> u16;
+    fn foldheron_excerpt(block: *const u8, block_len: usize, n: usize, answer: *mut u8, answer_len: usize) -> u16;
+}
+
+/// The answer, which begins with the number that was given back. It does not where the archive asks for answers of another length.
+fn told<const N: usize>(number: u16, answer: [u8; N]) -> [u8; N] {
+    assert_eq!([answer[0], answer[1]], number.to_le_bytes(), "libexports.a is not the archive that this wrapper is for");
+    answer
+}
+
+pub fn check(block: &[u8]) -> [u8; 64] {
+    let mut answer = [0; 64];
+    let number = unsafe { foldheron_check(block.as_ptr(), block.len(), answer.as_mut_ptr(), answer.len()) };
+    told(number, answer)
+}
+
+pub fn fresh(block: &[u8], state: &mut [u8]) -> [u8; 16] {
+    let mut answer = [0; 16];
+    let (lent, size) = (state.as_mut_ptr(), state.len());
+    let number = unsafe { foldheron_fresh(block.as_ptr(), block.len(), lent, size, answer.as_mut_ptr(), answer.len()) };
+    told(number, answer)
+}
+
+pub fn instant(block: &[u8], state: &mut [u8], inputs: u64) -> [u8; 80] {
+    let mut answer = [0; 80];
+    let (lent, size) = (state.as_mut_ptr(), state.len());
+    let number = unsafe { foldheron_instant(block.as_ptr(), block.len(), lent, size, inputs, answer.as_mut_ptr(), answer.len()) };
+    told(number, answer)
+}
+
+pub fn instant_logged(block: &[u8], state: &mut [u8], inputs: u64, log: &mut [u8], end: usize) -> [u8; 88] {
+    let mut answer = [0; 88];
+    let (lent, size) = (state.as_mut_ptr(), state.len());
+    let (kept, room) = (log.as_mut_ptr(), log.len());
+    let (into, length) = (answer.as_mut_ptr(), answer.len());
+    let number = unsafe { foldheron_instant_logged(block.as_ptr(), block.len(), lent, size, inputs, kept, room, end, into, length) };
+    told(number, answer)
+}
+
+pub fn excerpt(block: &[u8], n: usize) -> [u8; 32] {
+    let mut answer = [0; 32];
+    let number = unsafe { foldheron_excerpt(block.as_ptr(), block.len(), n, answer.as_mut_ptr(), answer.len()) };
+    told(number, answer)
+}
