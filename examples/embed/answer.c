@@ -1,0 +1,137 @@
+/* Answers calls that stand in a file, a line each: answer FILE. The file is what `tools/reference calls` writes, and the lines are what the program
+ * `compare` and `tools/reference answers` print of it, so that the C names are held to the reference evaluator. Ends with 1 where the file
+ * cannot be read whole. */
+#include "foldheron.h"
+
+#include <errno.h>
+#include <inttypes.h>
+#include <stdio.h>
+#include <string.h>
+
+/* A case: which call, the bytes that are lent to it, and its two numbers; the second is a log's end or the number of an excerpt. */
+struct call {
+    unsigned kind;
+    size_t block_size, state_size, log_size;
+    uint64_t inputs, other;
+};
+
+static uint8_t block[1 << 20], state[256], log_bytes[1 << 16], answer[FOLDHERON_LOGGED_SIZE];
+
+static uint64_t number(const uint8_t *bytes, size_t count)
+{
+    uint64_t sum = 0;
+    while (count-- > 0)
+        sum = sum << 8 | bytes[count];
+    return sum;
+}
+
+/* The next case: 1 where there is one, 0 at the file's end, -1 where it ends within one. */
+static int next_call(FILE *file, struct call *call)
+{
+    uint8_t head[24];
+    size_t count = fread(head, 1, sizeof head, file);
+    if (count == 0 && !ferror(file))
+        return 0;
+    if (count != sizeof head)
+        return -1;
+    call->kind = head[0];
+    call->state_size = head[1];
+    call->log_size = (size_t)number(head + 2, 2);
+    call->block_size = (size_t)number(head + 4, 4);
+    call->inputs = number(head + 8, 8);
+    call->other = number(head + 16, 8);
+    if (call->block_size > sizeof block)
+        return -1;
+    if (fread(block, 1, call->block_size, file) != call->block_size || fread(state, 1, call->state_size, file) != call->state_size)
+        return -1;
+    return fread(log_bytes, 1, call->log_size, file) == call->log_size ? 1 : -1;
+}
+
+/* The number that was given back, and those of the answer that begin at these bytes, in base 16. */
+static void put_numbers(unsigned given, const size_t *at, size_t count)
+{
+    printf(" %x", given);
+    for (size_t n = 1; n < count; n++)
+        printf(" %" PRIx64, foldheron_number(answer, at[n]));
+}
+
+static void put_bytes(const uint8_t *bytes, size_t count)
+{
+    putchar(' ');
+    for (size_t n = 0; n < count; n++)
+        printf("%02x", bytes[n]);
+    if (count == 0)
+        putchar('-');
+}
+
+static const size_t at_check[] = {FOLDHERON_AT_NUMBER, FOLDHERON_AT_PLACE, FOLDHERON_AT_VERSION, FOLDHERON_AT_INPUTS, FOLDHERON_AT_OUTPUTS,
+                                  FOLDHERON_AT_LOCALS, FOLDHERON_AT_STATEMENTS, FOLDHERON_AT_PAUSES};
+static const size_t at_instant[] = {FOLDHERON_AT_NUMBER, FOLDHERON_AT_PLACE, FOLDHERON_AT_FIRST, FOLDHERON_AT_SECOND, FOLDHERON_AT_PRESENT,
+                                    FOLDHERON_AT_ABSENT, FOLDHERON_AT_UNDECIDED, FOLDHERON_AT_CODE, FOLDHERON_AT_ROUNDS, FOLDHERON_AT_ACTIVE,
+                                    FOLDHERON_AT_END};
+
+static void answer_check(const struct call *call)
+{
+    unsigned given = foldheron_check(block, call->block_size, answer, FOLDHERON_CHECK_SIZE);
+    printf("check");
+    put_numbers(given, at_check, 8);
+}
+
+static void answer_fresh(const struct call *call)
+{
+    unsigned given = foldheron_fresh(block, call->block_size, state, call->state_size, answer, FOLDHERON_FRESH_SIZE);
+    printf("fresh");
+    put_numbers(given, at_instant, 2);
+    put_bytes(state, call->state_size);
+}
+
+static void answer_instant(const struct call *call)
+{
+    unsigned given = foldheron_instant(block, call->block_size, state, call->state_size, call->inputs, answer, FOLDHERON_INSTANT_SIZE);
+    printf("instant");
+    put_numbers(given, at_instant, 10);
+    put_bytes(state, call->state_size);
+}
+
+static void answer_logged(const struct call *call)
+{
+    unsigned given = foldheron_instant_logged(block, call->block_size, state, call->state_size, call->inputs, log_bytes, call->log_size,
+                                              (size_t)call->other, answer, FOLDHERON_LOGGED_SIZE);
+    printf("logged");
+    put_numbers(given, at_instant, 11);
+    put_bytes(state, call->state_size);
+    put_bytes(log_bytes, call->log_size);
+}
+
+static void answer_excerpt(const struct call *call)
+{
+    unsigned given = foldheron_excerpt(block, call->block_size, (size_t)call->other, answer, FOLDHERON_EXCERPT_SIZE);
+    printf("excerpt");
+    put_numbers(given, at_instant, 2);
+    put_bytes(block + foldheron_number(answer, FOLDHERON_AT_OFFSET), (size_t)foldheron_number(answer, FOLDHERON_AT_COUNT));
+}
+
+int main(int argc, char **argv)
+{
+    static void (*const answers[])(const struct call *) = {answer_check, answer_fresh, answer_instant, answer_logged, answer_excerpt};
+    struct call call;
+    int more = -1;
+    if (argc != 2) {
+        fprintf(stderr, "answer: name one file of calls\n");
+        return 2;
+    }
+    FILE *file = fopen(argv[1], "rb");
+    if (file == NULL) {
+        fprintf(stderr, "answer: %s: %s\n", argv[1], strerror(errno));
+        return 1;
+    }
+    while ((more = next_call(file, &call)) == 1 && call.kind >= 1 && call.kind <= 5) {
+        memset(answer, 0xA5, sizeof answer);
+        answers[call.kind - 1](&call);
+        putchar('\n');
+    }
+    fclose(file);
+    if (more != 0)
+        fprintf(stderr, "answer: %s is no file of calls\n", argv[1]);
+    return more != 0;
+}
