@@ -1,5 +1,5 @@
 //! Times instants of the library and of the plain evaluator, in one run of one program, and prints the ratios.
-//!   bench [smoke] MACHINE..    smoke: a second in all, to see that it runs and that both give the same answers
+//!   bench [smoke] MACHINE..    smoke: a few seconds in all, to see that it runs and that both give the same answers
 //! Ends with 1 where the two give different answers.
 
 mod library;

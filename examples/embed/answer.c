@@ -1,6 +1,6 @@
 /* Answers calls that stand in a file, a line each: answer FILE. The file is what `tools/reference calls` writes, and the lines are what the program
  * `compare` and `tools/reference answers` print of it, so that the C names are held to the reference evaluator. Ends with 1 where the file
- * cannot be read whole. */
+ * cannot be read whole, and with 2 where not one file is named. */
 #include "foldheron.h"
 
 #include <errno.h>

@@ -1,6 +1,7 @@
 //! Runs a block on sets of inputs, as the run program does, and keeps a log of it: pump FOLDER reads FOLDER/block.bin and
 //! FOLDER/inputs.bin and prints a line an instant: its number, the refusal or 0, the code, the present outputs, the active pauses (of
-//! a 13, the undecided outputs), the rounds. A file that is missing or cannot be read ends it with 1, after a line on standard error.
+//! a 13, the undecided outputs), the rounds. Last, on standard error, how long the log is. A file that is missing or cannot be read ends it
+//! with 1, after a line there.
 
 use foldheron::{Instant, RECORD, STATE};
 use std::io::Write;

@@ -102,7 +102,7 @@ static uint16_t measure(int which)
     return number;
 }
 
-/* Every call on the block: four instants from fresh, in turn with and without a log. Answers how many were answered. */
+/* Every call on the block: four instants from fresh, with or without a log by chance. Answers how many were answered. */
 static unsigned try_block(void)
 {
     unsigned answered = 0;

@@ -98,8 +98,9 @@ pub struct Logged {
     pub end: usize,
 }
 
-/// The bytes of a state, and of a log record.
+/// How many bytes a state has.
 pub const STATE: usize = 22;
+/// How many bytes a log record has.
 pub const RECORD: usize = 24;
 
 /// Checks a block.
@@ -141,13 +142,14 @@ pub fn excerpt(block: &[u8], n: usize) -> Result<&[u8], Refusal> {
     Ok(&block[offset..offset + number(&a, 3) as usize])
 }
 
-/// The n-th number of an answer, and one that is never large.
+/// The n-th number of an answer.
 fn number(a: &[u8], n: usize) -> u64 {
     let mut bytes = [0; 8];
     bytes.copy_from_slice(&a[8 * n..8 * n + 8]);
     u64::from_le_bytes(bytes)
 }
 
+/// One that two bytes hold: a count, a code, a pause or a refusal.
 fn small(a: &[u8], n: usize) -> u16 {
     number(a, n) as u16
 }
