@@ -15,7 +15,7 @@ fn put_byte(out: &mut [u8], at: usize, byte: u8) -> usize
 }
 
 // Bytes as they are.
-pub fn put(out: &mut [u8], at: usize, bytes: &[u8]) -> usize
+pub(crate) fn put(out: &mut [u8], at: usize, bytes: &[u8]) -> usize
     requires { ⌜ at ≤ length (now out) ⌝ }
     ensures { λ r. ⌜ r ≤ length (now (out .entry)) ⌝ }
 {
@@ -29,7 +29,7 @@ pub fn put(out: &mut [u8], at: usize, bytes: &[u8]) -> usize
 }
 
 // A space and a number, in hex.
-pub fn put_number(out: &mut [u8], at: usize, n: u64) -> usize
+pub(crate) fn put_number(out: &mut [u8], at: usize, n: u64) -> usize
     requires { ⌜ at ≤ length (now out) ⌝ }
     ensures { λ r. ⌜ r ≤ length (now (out .entry)) ⌝ }
 {
@@ -40,7 +40,7 @@ pub fn put_number(out: &mut [u8], at: usize, n: u64) -> usize
 }
 
 // The first `count` of the numbers.
-pub fn put_numbers(out: &mut [u8], at: usize, numbers: &[u64; 11], count: usize) -> usize
+pub(crate) fn put_numbers(out: &mut [u8], at: usize, numbers: &[u64; 11], count: usize) -> usize
     requires { ⌜ at ≤ length (now out) ⌝ }
     requires { ⌜ count ≤ 11 ⌝ }
     ensures { λ r. ⌜ r ≤ length (now (out .entry)) ⌝ }
@@ -55,7 +55,7 @@ pub fn put_numbers(out: &mut [u8], at: usize, numbers: &[u64; 11], count: usize)
 }
 
 // A space and bytes, two digits each; a dash for none.
-pub fn put_bytes(out: &mut [u8], at: usize, bytes: &[u8]) -> usize
+pub(crate) fn put_bytes(out: &mut [u8], at: usize, bytes: &[u8]) -> usize
     requires { ⌜ at ≤ length (now out) ⌝ }
     ensures { λ r. ⌜ r ≤ length (now (out .entry)) ⌝ }
 {

@@ -65,7 +65,7 @@ fn after(i: usize) -> u8 {
 }
 
 // The line of the instant `number`.
-pub fn put_line(out: &mut [u8], at: usize, number: u64, line: Line) -> usize
+pub(crate) fn put_line(out: &mut [u8], at: usize, number: u64, line: Line) -> usize
     requires { ⌜ at + 126 ≤ length (now out) ⌝ }
     ensures { λ r. ⌜ r ≤ at + 126 ⌝ }
 {
@@ -81,7 +81,7 @@ pub fn put_line(out: &mut [u8], at: usize, number: u64, line: Line) -> usize
 }
 
 // The line for 1 to 7 bytes that are left: 6 bytes.
-pub fn put_short(out: &mut [u8], at: usize) -> usize
+pub(crate) fn put_short(out: &mut [u8], at: usize) -> usize
     requires { ⌜ at + 6 ≤ length (now out) ⌝ }
     ensures { λ r. ⌜ r ≤ at + 6 ⌝ }
 {
@@ -89,7 +89,7 @@ pub fn put_short(out: &mut [u8], at: usize) -> usize
 }
 
 // The line of a block that is turned down: at most 48 bytes.
-pub fn put_block(out: &mut [u8], number: u16, place: usize) -> usize
+pub(crate) fn put_block(out: &mut [u8], number: u16, place: usize) -> usize
     requires { ⌜ 48 ≤ length (now out) ⌝ }
     ensures { λ r. ⌜ Counts r (now (out .exit)) ⌝ }
 {
