@@ -18,38 +18,39 @@ use Rattle.rules.specs.Coherence.{Locals, Execution, assigning, kept-wit
 use Rattle.rules.proofs.Sentences.{doing}
 
 -- What an execution does: the signals whose emit is executed, the code, the pauses kept.
-abbrev execution : Numbers → ℕ → Numbers → Execution
+abbrev pub execution : Numbers → ℕ → Numbers → Execution
 execution ss c ks = record { emitted = ss; completes = c; keeps = ks }
 
 -- A run with the signals of W present, and what it does: each local, each time its body is started or resumed, is given present or absent, each is
 -- present exactly when its emit is executed in that run of its body, and this is executed.
-abbrev Run : Step → Numbers → Execution → Type 0
+abbrev pub Run : Step → Numbers → Execution → Type 0
 Run P W x = (l : Locals P) × LocalsAgree P l W × (execute P l W ≡ x)
 
 -- Two parts side by side: union of signals, the larger code, and the union of pauses if that code is 1.
-abbrev together : Execution → Execution → Execution
+abbrev pub together : Execution → Execution → Execution
 together y z =
     let c = max (y .completes) (z .completes) in
     execution (union (y .emitted) (z .emitted)) c (kept-with c (union (y .keeps) (z .keeps)))
 
-abbrev Together : (Execution → Type 0) → (Execution → Type 0) → Execution → Type 0
+abbrev pub Together : (Execution → Type 0) → (Execution → Type 0) → Execution → Type 0
 Together R S x = (y : Execution) × (z : Execution) × R y × S z × (x ≡ together y z)
 
 -- Two parts one after the other: the signals and the pauses of both, and the second's code.
-abbrev in-turn : Execution → Execution → Execution
+abbrev pub in-turn : Execution → Execution → Execution
 in-turn y z = execution (union (y .emitted) (z .emitted)) (z .completes) (union (y .keeps) (z .keeps))
 
 -- Where the first gives 0 the second is executed too; else the first is all.
-abbrev After : (Execution → Type 0) → (Execution → Type 0) → Execution → Type 0
+abbrev pub After : (Execution → Type 0) → (Execution → Type 0) → Execution → Type 0
 After R S x = (y : Execution) × R y × (((y .completes ≡ 0) × ((z : Execution) × S z × (x ≡ in-turn y z))) ⊎ ((y .completes ≢ 0) × (x ≡ y)))
 
 -- A trap: signals as the body, its code down, and the body's pauses if the code is then 1.
-abbrev trapped : Execution → Execution
+abbrev pub trapped : Execution → Execution
 trapped y = let c = down (y .completes) in execution (y .emitted) c (kept-with c (y .keeps))
 
 -- THE NINE FORMS, for the proofs below
 
-some-locals : (P : Step) → Locals P
+-- statuses for the locals that are not executed
+pub some-locals : (P : Step) → Locals P
 some-locals done = tt
 some-locals (stay A) = tt
 some-locals (say s) = tt
@@ -86,28 +87,28 @@ keeps-no (chain P Q) l W e n =
 keeps-no (beside P Q) l W e n = rw e
 
 module _ (W : Numbers) (x : Execution) where
-  test-then : (s : ℕ) (P Q : Step) → W s ≡ true → Run (test s P Q) W x ↔ Run P W x
+  pub test-then : (s : ℕ) (P Q : Step) → W s ≡ true → Run (test s P Q) W x ↔ Run P W x
   unfolding execute LocalsAgree
   test-then s P Q e = (
     λ r. (r .0 .0, rw e at (r .1), rw e at (r .2)),
     λ r. ((r .0, some-locals Q), rw e (r .1), rw e (r .2)),
   )
 
-  test-else : (s : ℕ) (P Q : Step) → W s ≡ false → Run (test s P Q) W x ↔ Run Q W x
+  pub test-else : (s : ℕ) (P Q : Step) → W s ≡ false → Run (test s P Q) W x ↔ Run Q W x
   unfolding execute LocalsAgree
   test-else s P Q e = (
     λ r. (r .0 .1, rw e at (r .1), rw e at (r .2)),
     λ r. ((some-locals P, r .0), rw e (r .1), rw e (r .2)),
   )
 
-  catch-run : (P : Step) → Run (catch P) W x ↔ ((y : Execution) × Run P W y × (x ≡ trapped y))
+  pub catch-run : (P : Step) → Run (catch P) W x ↔ ((y : Execution) × Run P W y × (x ≡ trapped y))
   unfolding execute LocalsAgree
   catch-run P = (
     λ r. (execute P (r .0) W, (r .0, r .1, refl), sym (r .2)),
     λ r. (r .1 .0, r .1 .1, ap trapped (r .1 .2) ∙ sym (r .2)),
   )
 
-  scope-run : (s : ℕ) (P : Step)
+  pub scope-run : (s : ℕ) (P : Step)
       → Run (scope s P) W x ↔ ((v : Bool) × (y : Execution) × Run P (assigning W s v) y × (v ≡ y .emitted s)
       × (x ≡ execution (without s (y .emitted)) (y .completes) (y .keeps)))
   unfolding execute LocalsAgree
@@ -120,7 +121,7 @@ module _ (W : Numbers) (x : Execution) where
     ),
   )
 
-  beside-run : (P Q : Step) → Run (beside P Q) W x ↔ Together (Run P W) (Run Q W) x
+  pub beside-run : (P Q : Step) → Run (beside P Q) W x ↔ Together (Run P W) (Run Q W) x
   unfolding execute LocalsAgree
   beside-run P Q = (
     λ r. (execute P (r .0 .0) W, execute Q (r .0 .1) W, (r .0 .0, r .1 .0, refl), (r .0 .1, r .1 .1, refl), sym (r .2)),
@@ -151,7 +152,7 @@ module _ (W : Numbers) (x : Execution) where
   so-if true f = f refl
   so-if false f = tt
 
-  chain-run : (P Q : Step) → Run (chain P Q) W x ↔ After (Run P W) (Run Q W) x
+  pub chain-run : (P Q : Step) → Run (chain P Q) W x ↔ After (Run P W) (Run Q W) x
   unfolding execute LocalsAgree
   chain-run P Q = (λ r. there (r .0 .0) (r .0 .1) (r .1 .0) (r .1 .1) (r .2) (eqb (execute P (r .0 .0) W .completes) 0) refl, λ r. back (r .0) (r .1 .0) (r .1 .1) (r .1 .2) (r .2))
     where
@@ -366,7 +367,7 @@ module _ (b : Block) (given : Numbers) (outs : List Bool) where
 
   -- the reaction is coherent if it is a run of the block in which each output is present exactly when its emit is executed in the block; its code
   -- is the run's, and its next state is running with the pauses kept for code 1, finished for 0
-  coherent : (st : State) (c : ℕ) (st′ : State) → Coherent b st given outs c st′ ↔ (
+  pub coherent : (st : State) (c : ℕ) (st′ : State) → Coherent b st given outs c st′ ↔ (
       (length outs ≡ b .outputs) × (x : Execution) × Run (step (b .body) st) (world b given outs) x
       × ((i : ℕ) → i < b .outputs → getD outs i false ≡ x .emitted (b .inputs + i)) × (x .completes ≡ c) × (next c (x .keeps) ≡ st′))
   coherent st c st′ = (
