@@ -1,6 +1,6 @@
 //! Rows as a module of the proof language, so that the product's definitions are computed on them and compared.
 
-use crate::antt::some_rows;
+use crate::antt::{law_rows, some_rows};
 use crate::block::{Form, Token};
 use crate::coherence::{reactions, Outcome};
 use crate::fault::Fault;
@@ -36,16 +36,21 @@ const LAW_OPENED: &str = "unfolding reactions listed members pauses phase-of act
 /// How many rows one statement of equality takes.
 const TOGETHER: usize = 20;
 
-/// Prints a module that is accepted exactly if the definitions give every row's answer and its coherent reactions.
+/// Prints a module that is accepted exactly if the definitions give every row's answer and coherent reactions. A quarter as many rows
+/// are added that tell wrong versions of the coherence law.
 pub fn print_module(count: usize, seed: u64) {
     println!("{HEAD}");
-    for (n, rows) in some_rows(count, seed).chunks(TOGETHER).enumerate() {
-        let lines: Vec<String> = rows.iter().map(in_proof).collect();
-        println!("abbrev rows{n} : List Row\nrows{n} = {} ∷ []\n", lines.join("\n    ∷ "));
-        println!("agree{n} : map answers rows{n} ≡ map (λ r. r .told) rows{n}\n{OPENED}\nagree{n} = refl\n");
-        let laws: Vec<String> = rows.iter().map(law).collect();
-        println!("abbrev laws{n} : List LawRow\nlaws{n} = {} ∷ []\n", laws.join("\n    ∷ "));
-        println!("lawful{n} : map coherent-of laws{n} ≡ map (λ r. r .coherent) laws{n}\n{LAW_OPENED}\nlawful{n} = refl\n");
+    let rows = some_rows(count, seed);
+    print_equal("rows", "Row", "answers", "told", OPENED, &rows.iter().map(in_proof).collect::<Vec<String>>());
+    let laws: Vec<String> = rows.iter().chain(&law_rows((count + 3) / 4, seed)).map(law).collect();
+    print_equal("laws", "LawRow", "coherent-of", "coherent", LAW_OPENED, &laws);
+}
+
+/// Prints lists of rows, and of each that what is computed is what the rows tell.
+fn print_equal(name: &str, of: &str, computed: &str, told: &str, opened: &str, rows: &[String]) {
+    for (n, lines) in rows.chunks(TOGETHER).enumerate() {
+        println!("abbrev {name}{n} : List {of}\n{name}{n} = {} ∷ []\n", lines.join("\n    ∷ "));
+        println!("{name}-agree{n} : map {computed} {name}{n} ≡ map (λ r. r .{told}) {name}{n}\n{opened}\n{name}-agree{n} = refl\n");
     }
 }
 

@@ -14,7 +14,7 @@ use Rattle.rules.specs.Statements.{Block, code}
 use Rattle.rules.specs.Instant.{Step, done, stay, say, leave, test, catch, scope, chain, beside}
 use Rattle.rules.specs.States.{State, step, next}
 use Rattle.rules.specs.Coherence.{Execution, assigning, execute, LocalsAgree, world, Coherent}
-use Rattle.rules.proofs.LawSentences.{execution, Run, together, Together, in-turn, After, trapped, test-then, test-else, catch-run, scope-run, beside-run, chain-run, coherent}
+use Rattle.rules.proofs.LawSentences.{execution, Run, together, in-turn, trapped, test-then, test-else, catch-run, scope-run, beside-run, chain-run, coherent}
 
 -- LISTS
 

@@ -3,14 +3,14 @@
 -- by cases on a signal or a code; the sentences then only name the form that a statement takes. Assumes nothing.
 use mathlib.Core.Path.{_≡_, refl, sym, _∙_, ap, subst}
 use mathlib.Core.Logic.{_↔_, _≢_, _⊎_, inl, inr}
-use mathlib.Core.Bool.{Bool, true, false, not, cond, _&&_, _||_, true≢false}
+use mathlib.Core.Bool.{Bool, true, false, cond, _||_, true≢false}
 use mathlib.Core.List.{List}
 use mathlib.Core.Option.{Option, none, some}
-use Prim.Native.Nat.{ℕ, zero, suc, _+_, _-_, _<_, max}
-use lib.Dec.{T, eqb, ltb, eqb→eq, eqb-refl}
+use Prim.Native.Nat.{ℕ, suc, _+_, _-_, _<_, max}
+use lib.Dec.{eqb, ltb, eqb→eq, eqb-refl}
 use lib.ListN.{length, getD}
 use Rattle.sets.specs.Numbers.{Numbers, empty, single, union, without, down}
-use Rattle.sets.proofs.Members.{ext, is-true, of-true, of-false, eqb-in, eqb-not, cases}
+use Rattle.sets.proofs.Members.{ext, is-true, of-true, of-false, eqb-in, eqb-not}
 use Rattle.rules.specs.Statements.{Block, depth, code, Stmt, nothing, pause, emit, present?_then_else_, suspend_on_, _⨾_, loop, _parallel_, trap, exit, local}
 use Rattle.rules.specs.Instant.{Step, done, stay, say, leave, test, catch, scope, chain, beside, active, held, started, resumed}
 use Rattle.rules.specs.States.{State, fresh, running, finished, step, next}
