@@ -4,7 +4,7 @@ use std::collections::HashSet;
 
 use crate::block::{decode, encode_tokens, Block};
 use crate::chance::Chance;
-use crate::coherence::{reactions, reactions_with, Slip, SLIPS};
+use crate::coherence::{reactions, Outcome, Slip, SLIPS};
 use crate::fault::{Fault, RULES};
 use crate::generate::{phases, some_inputs, some_phase};
 use crate::mutate::some_mixed_block;
@@ -75,11 +75,13 @@ pub fn law_rows(count: usize, seed: u64) -> Vec<Row> {
 /// The first instant of a block at which a wrong version of the law finds other coherent reactions.
 fn slipped(block: &Block, slip: Slip) -> Option<Row> {
     let (inputs, outputs) = (block.header.inputs, block.header.outputs);
-    let instants = phases(block, 32).into_iter().flat_map(|phase| (0..1 << inputs).map(move |given| (phase, given)));
+    let shown = |slip: Slip, phase: Phase, given: u64| -> Vec<Outcome> {
+        reactions(slip, block, phase, given).into_iter().map(|outcome| outcome.shown()).collect()
+    };
+    let mut instants = phases(block, 32).into_iter().flat_map(|phase| (0..1 << inputs).map(move |given| (phase, given)));
     instants
-        .filter(|&(phase, given)| reactions(block, phase, given) != reactions_with(slip, block, phase, given))
+        .find(|&(phase, given)| shown(Slip::None, phase, given) != shown(slip, phase, given))
         .map(|(phase, given)| Row { inputs, outputs, tokens: block.root.tokens(), phase, given })
-        .next()
 }
 
 /// A block of 3 to 12 statements that declares, three times in four, only the signals it names.

@@ -18,6 +18,11 @@ impl Outcome {
     fn code(code: u32) -> Outcome {
         Outcome { signals: 0, code, kept: 0 }
     }
+
+    /// What the reaction shows: the state that it leaves has pauses only with code 1.
+    pub fn shown(self) -> Outcome {
+        Outcome { kept: if self.code == 1 { self.kept } else { 0 }, ..self }
+    }
 }
 
 /// A wrong version of the law, planted so that it can be seen which blocks tell it from the true one.
@@ -53,13 +58,8 @@ pub const SLIPS: [Slip; 11] = [
     Slip::SecondAlways, Slip::LoopEnds, Slip::IdleArmStarts, Slip::LocalUnasked, Slip::LocalOverRestart,
 ];
 
-/// Every coherent reaction, one for each coherent assignment.
-pub fn reactions(block: &Block, phase: Phase, inputs: u64) -> Vec<Outcome> {
-    reactions_with(Slip::None, block, phase, inputs)
-}
-
-/// The same by the law or by a wrong version of it.
-pub fn reactions_with(slip: Slip, block: &Block, phase: Phase, inputs: u64) -> Vec<Outcome> {
+/// Every coherent reaction, one for each coherent assignment, by the law or by a wrong version of it.
+pub fn reactions(slip: Slip, block: &Block, phase: Phase, inputs: u64) -> Vec<Outcome> {
     let outputs = signal_bits(block.header.inputs, block.header.outputs);
     let mut found = Vec::new();
     let mut present = outputs;

@@ -2,7 +2,7 @@
 
 use crate::antt::{law_rows, some_rows};
 use crate::block::{Form, Token};
-use crate::coherence::{reactions, Outcome};
+use crate::coherence::{reactions, Outcome, Slip};
 use crate::fault::Fault;
 use crate::reaction::{active_of, Phase, Reaction};
 use crate::row::Row;
@@ -64,7 +64,7 @@ fn in_proof(row: &Row) -> String {
 /// A row with every coherent reaction, one for each coherent assignment: those with the first output present first, and so on.
 fn law(row: &Row) -> String {
     let block = row.block().expect("a row holds a good block");
-    let mut found = reactions(&block, row.phase, row.given);
+    let mut found = reactions(Slip::None, &block, row.phase, row.given);
     found.sort_by_key(|outcome| present(row, outcome).map(|present| !present).collect::<Vec<bool>>());
     let all = list(found.iter().map(|outcome| lawful(row, outcome)));
     format!("law {} {all}", instant(row))
