@@ -21,9 +21,9 @@ use Rattle.rules.specs.Instant.{any, active, held, started, resumed}
 use Rattle.rules.specs.MustCan.{gives}
 use Rattle.rules.specs.States.{fresh, finished, phase-of, active-of, step, kept, next}
 use Rattle.rules.specs.Rounds.{marks, round, begin, undecided, all-same, settle, final-of, answer, react}
-use Rattle.rules.specs.Coherence.{world}
+use Rattle.rules.specs.Coherence.{execute, world}
 use Rattle.rules.proofs.Cases.{Row, row, active-on, ends, waits, stuck, answers}
-use Rattle.rules.proofs.AllRuns.{runs, all-outs, outs-agree, reactions}
+use Rattle.rules.proofs.AllRuns.{assigned, runs, all-outs, outs-agree, reactions}
 use Rattle.rules.proofs.CoherentTable.{LawRow, law, finishes, stays-on, coherent-of}
 ";
 
@@ -31,7 +31,7 @@ use Rattle.rules.proofs.CoherentTable.{LawRow, law, finishes, stays-on, coheren
 const OPENED: &str = "unfolding react listed members pauses phase-of active-of undecided gives kept started resumed any active held code marks round begin all-same settle final-of answer some-to maxima down downs lowest step next event";
 
 /// All that has to be opened for the coherent reactions to be computed.
-const LAW_OPENED: &str = "unfolding reactions listed members pauses phase-of active-of runs all-outs outs-agree started resumed any active held code down step next world";
+const LAW_OPENED: &str = "unfolding reactions listed members pauses phase-of active-of runs assigned execute all-outs outs-agree started resumed any active held code down step next world";
 
 /// How many rows one statement of equality takes.
 const TOGETHER: usize = 20;

@@ -1,20 +1,20 @@
--- Every run of a step and every coherent reaction of an instant, as lists that compute. That they list these and no others goes by induction, with the
--- law of each form in `LawSentences`. Assumes nothing.
+-- Every run of a step and every coherent reaction of an instant, as lists that compute: the assignments are tried, and each is executed by the
+-- definition itself. That the lists have these and no others goes by induction over the step. Assumes nothing.
 use mathlib.Core.Path.{_≡_, refl, sym, _∙_, ap, subst}
-use mathlib.Core.Logic.{_↔_, _≢_, _⊎_, inl, inr}
+use mathlib.Core.Logic.{_↔_, _⊎_, inl, inr}
 use mathlib.Core.Bool.{Bool, true, false, not, cond, _&&_, true≢false, false≢true}
 use mathlib.Core.List.{List, [], _∷_, _++_}
 use Prim.Native.Nat.{ℕ, zero, suc, _+_, _<_}
 use native.Mathlib.Omega.{arith}
-use lib.Dec.{eqb, eqb→eq}
+use lib.Dec.{eqb}
 use lib.ListN.{length, getD}
-use Rattle.sets.specs.Numbers.{Numbers, empty, single, without}
-use Rattle.sets.proofs.Members.{is-true, of-true, of-false, and-left, and-right, eqb-in}
-use Rattle.rules.specs.Statements.{Block, code}
+use Rattle.sets.specs.Numbers.{Numbers, without}
+use Rattle.sets.proofs.Members.{is-true, of-true, and-left, and-right}
+use Rattle.rules.specs.Statements.{Block}
 use Rattle.rules.specs.Instant.{Step, done, stay, say, leave, test, catch, scope, chain, beside}
 use Rattle.rules.specs.States.{State, step, next}
-use Rattle.rules.specs.Coherence.{Execution, assigning, execute, LocalsAgree, world, Coherent}
-use Rattle.rules.proofs.LawSentences.{execution, Run, together, in-turn, trapped, test-then, test-else, catch-run, scope-run, beside-run, chain-run, coherent}
+use Rattle.rules.specs.Coherence.{Locals, Execution, assigning, run-on, execute, LocalsAgree, world, Coherent}
+use Rattle.rules.proofs.LawSentences.{execution, Run, together, trapped, some-locals, coherent}
 
 -- LISTS
 
@@ -102,111 +102,169 @@ in-either-status false = inr (inl refl)
 
 -- EVERY RUN
 
+-- The assignments that agree, each local tried present and absent where its body is executed; where it is not it is left absent.
+unfoldable pub assigned : (P : Step) → Numbers → List (Locals P)
+assigned done W = tt ∷ []
+assigned (stay A) W = tt ∷ []
+assigned (say s) W = tt ∷ []
+assigned (leave d) W = tt ∷ []
+assigned (test s P Q) W = cond (W s) (each (λ l. (l, some-locals Q) ∷ []) (assigned P W)) (each (λ l. (some-locals P, l) ∷ []) (assigned Q W))
+assigned (catch P) W = assigned P W
+assigned (scope s P) W =
+    each (λ v. each (λ l. if (as-emitted v (execute P l (assigning W s v) .emitted s)) (v, l)) (assigned P (assigning W s v))) either-status
+assigned (chain P Q) W =
+    each (λ l. cond (eqb (execute P l W .completes) 0) (each (λ m. (l, m) ∷ []) (assigned Q W)) ((l, some-locals Q) ∷ [])) (assigned P W)
+assigned (beside P Q) W = each (λ l. each (λ m. (l, m) ∷ []) (assigned Q W)) (assigned P W)
+
+-- What is executed with each of them.
 unfoldable pub runs : Step → Numbers → List Execution
-runs done W = execution empty 0 empty ∷ []
-runs (stay A) W = execution empty 1 A ∷ []
-runs (say s) W = execution (single s) 0 empty ∷ []
-runs (leave d) W = execution empty (code d) empty ∷ []
-runs (test s P Q) W = cond (W s) (runs P W) (runs Q W)
-runs (catch P) W = each (λ y. trapped y ∷ []) (runs P W)
-runs (scope s P) W =
-    each (λ v. each (λ y. if (as-emitted v (y .emitted s)) (execution (without s (y .emitted)) (y .completes) (y .keeps))) (runs P (assigning W s v)))
-    either-status
-runs (chain P Q) W = each (λ y. cond (eqb (y .completes) 0) (each (λ z. in-turn y z ∷ []) (runs Q W)) (y ∷ [])) (runs P W)
-runs (beside P Q) W = each (λ y. each (λ z. together y z ∷ []) (runs Q W)) (runs P W)
+unfolding assigned
+runs P W = each (λ l. execute P l W ∷ []) (assigned P W)
 
--- the list has those of which it holds, and no others
-abbrev Lists : List Execution → (Execution → Type 0) → Type 0
-Lists xs R = (x : Execution) → In x xs ↔ R x
+-- Those listed agree; and every assignment that agrees is executed as one of those listed.
+pub record Complete (P : Step) (W : Numbers) (ls : List (Locals P)) : Type 0 where
+  pub agrees : (l : Locals P) → In l ls → LocalsAgree P l W
+  pub found : (l : Locals P) → LocalsAgree P l W → (m : Locals P) × In m ls × (execute P m W ≡ execute P l W)
 
-one-listed : (y : Execution) (P : Step) (W : Numbers) → ((x : Execution) → Run P W x ↔ (x ≡ y)) → Lists (y ∷ []) (Run P W)
-one-listed y P W f x = (λ h. f x .1 (in-one h), λ r. inl (f x .0 r))
+module _ (W : Numbers) (P Q : Step) (ps : List (Locals P)) (qs : List (Locals Q)) (f : Complete P W ps) (g : Complete Q W qs) where
+  test-complete : (s : ℕ) (b : Bool) → W s ≡ b
+      → Complete (test s P Q) W (cond b (each (λ l. (l, some-locals Q) ∷ []) ps) (each (λ l. (some-locals P, l) ∷ []) qs))
+  unfolding execute LocalsAgree
+  test-complete s true e = record {
+    agrees = λ l h.
+        let r = each-in (λ l. (l, some-locals Q) ∷ []) l ps h in
+        rw e (subst (λ (k : Locals P). LocalsAgree P k W) (sym (ap (λ (k : Locals P × Locals Q). k .0) (in-one (r .2)))) (f .agrees (r .0) (r .1)));
+    found = λ l a.
+        let r = f .found (l .0) (rw e at a) in
+        ((r .0, some-locals Q), in-each (λ l. (l, some-locals Q) ∷ []) (r .0, some-locals Q) (r .0) ps (r .1) (inl refl), rw e (r .2));
+  }
+  test-complete s false e = record {
+    agrees = λ l h.
+        let r = each-in (λ l. (some-locals P, l) ∷ []) l qs h in
+        rw e (subst (λ (k : Locals Q). LocalsAgree Q k W) (sym (ap (λ (k : Locals P × Locals Q). k .1) (in-one (r .2)))) (g .agrees (r .0) (r .1)));
+    found = λ l a.
+        let r = g .found (l .1) (rw e at a) in
+        ((some-locals P, r .0), in-each (λ l. (some-locals P, l) ∷ []) (some-locals P, r .0) (r .0) qs (r .1) (inl refl), rw e (r .2));
+  }
 
-module _ (W : Numbers) (P Q : Step) (ps qs : List Execution) (f : Lists ps (Run P W)) (g : Lists qs (Run Q W)) where
-  test-listed : (s : ℕ) (b : Bool) → W s ≡ b → Lists (cond b ps qs) (Run (test s P Q) W)
-  test-listed s true e x = (λ h. test-then W x s P Q e .1 (f x .0 h), λ r. f x .1 (test-then W x s P Q e .0 r))
-  test-listed s false e x = (λ h. test-else W x s P Q e .1 (g x .0 h), λ r. g x .1 (test-else W x s P Q e .0 r))
+  catch-complete : Complete (catch P) W ps
+  unfolding execute LocalsAgree
+  catch-complete = record {
+    agrees = f .agrees;
+    found = λ l a. let r = f .found l a in (r .0, r .1, ap trapped (r .2));
+  }
 
-  catch-listed : Lists (each (λ y. trapped y ∷ []) ps) (Run (catch P) W)
-  catch-listed x = (
-    λ h. let r = each-in (λ y. trapped y ∷ []) x ps h in catch-run W x P .1 (r .0, f (r .0) .0 (r .1), in-one (r .2)),
-    λ h. let r = catch-run W x P .0 h in in-each (λ y. trapped y ∷ []) x (r .0) ps (f (r .0) .1 (r .1)) (inl (r .2)),
-  )
+  beside-complete : Complete (beside P Q) W (each (λ l. each (λ m. (l, m) ∷ []) qs) ps)
+  unfolding execute LocalsAgree
+  beside-complete = record {
+    agrees = λ l h.
+        let r = each-in (λ k. each (λ m. (k, m) ∷ []) qs) l ps h in
+        let t = each-in (λ m. (r .0, m) ∷ []) l qs (r .2) in
+        subst (λ (k : Locals P × Locals Q). LocalsAgree P (k .0) W × LocalsAgree Q (k .1) W) (sym (in-one (t .2)))
+        (f .agrees (r .0) (r .1), g .agrees (t .0) (t .1));
+    found = λ l a.
+        let r = f .found (l .0) (a .0) in
+        let t = g .found (l .1) (a .1) in (
+          (r .0, t .0),
+          in-each (λ k. each (λ m. (k, m) ∷ []) qs) (r .0, t .0) (r .0) ps (r .1) (in-each (λ m. (r .0, m) ∷ []) (r .0, t .0) (t .0) qs (t .1) (inl refl)),
+          ap (λ (y : Execution). together y (execute Q (t .0) W)) (r .2) ∙ ap (together (execute P (l .0) W)) (t .2),
+        );
+  }
 
-  beside-listed : Lists (each (λ y. each (λ z. together y z ∷ []) qs) ps) (Run (beside P Q) W)
-  beside-listed x = (
-    λ h.
-        let r = each-in (λ y. each (λ z. together y z ∷ []) qs) x ps h in
-        let t = each-in (λ z. together (r .0) z ∷ []) x qs (r .2) in
-        beside-run W x P Q .1 (r .0, t .0, f (r .0) .0 (r .1), g (t .0) .0 (t .1), in-one (t .2)),
-    λ h.
-        let r = beside-run W x P Q .0 h in
-        in-each (λ y. each (λ z. together y z ∷ []) qs) x (r .0) ps (f (r .0) .1 (r .2))
-        (in-each (λ z. together (r .0) z ∷ []) x (r .1) qs (g (r .1) .1 (r .3)) (inl (r .4))),
-  )
+  -- a sequence goes on from the first part's assignment, or ends with it
+  abbrev pairs-with : Locals P → List (Locals P × Locals Q)
+  pairs-with l = each (λ m. (l, m) ∷ []) qs
 
-  abbrev on-from : Execution → List Execution
-  on-from y = cond (eqb (y .completes) 0) (each (λ z. in-turn y z ∷ []) qs) (y ∷ [])
+  abbrev on-from : Locals P → List (Locals P × Locals Q)
+  on-from l = cond (eqb (execute P l W .completes) 0) (pairs-with l) ((l, some-locals Q) ∷ [])
 
-  on-listed : (x y : Execution) (b : Bool) → eqb (y .completes) 0 ≡ b → In x (cond b (each (λ z. in-turn y z ∷ []) qs) (y ∷ []))
-      ↔ (((y .completes ≡ 0) × ((z : Execution) × Run Q W z × (x ≡ in-turn y z))) ⊎ ((y .completes ≢ 0) × (x ≡ y)))
-  on-listed x y true e = (
-    λ h. let t = each-in (λ z. in-turn y z ∷ []) x qs h in inl (eqb→eq (y .completes) 0 (of-true e), (t .0, g (t .0) .0 (t .1), in-one (t .2))),
-    back,
-  )
-    where
-      back : ((y .completes ≡ 0) × ((z : Execution) × Run Q W z × (x ≡ in-turn y z))) ⊎ ((y .completes ≢ 0) × (x ≡ y)) → In x (each (λ z. in-turn y z ∷ []) qs)
-      back (inl h) = in-each (λ z. in-turn y z ∷ []) x (h .1 .0) qs (g (h .1 .0) .1 (h .1 .1)) (inl (h .1 .2))
-      back (inr h) = absurd (h .0 (eqb→eq (y .completes) 0 (of-true e)))
-  on-listed x y false e = (λ h. inr (λ z. of-false e (eqb-in z), in-one h), back)
-    where
-      back : ((y .completes ≡ 0) × ((z : Execution) × Run Q W z × (x ≡ in-turn y z))) ⊎ ((y .completes ≢ 0) × (x ≡ y)) → In x (y ∷ [])
-      back (inl h) = absurd (of-false e (eqb-in (h .0)))
-      back (inr h) = inl (h .1)
+  on-agrees : (k : Locals P) (l : Locals P × Locals Q) (b : Bool) → eqb (execute P k W .completes) 0 ≡ b
+      → In l (cond b (pairs-with k) ((k, some-locals Q) ∷ [])) → LocalsAgree P k W → LocalsAgree (chain P Q) l W
+  unfolding LocalsAgree
+  on-agrees k l true e h a =
+      let t = each-in (λ m. (k, m) ∷ []) l qs h in
+      subst (λ (j : Locals P × Locals Q). LocalsAgree P (j .0) W × cond (eqb (execute P (j .0) W .completes) 0) (LocalsAgree Q (j .1) W) (Unit {0}))
+      (sym (in-one (t .2))) (a, rw e (g .agrees (t .0) (t .1)))
+  on-agrees k l false e h a =
+      subst (λ (j : Locals P × Locals Q). LocalsAgree P (j .0) W × cond (eqb (execute P (j .0) W .completes) 0) (LocalsAgree Q (j .1) W) (Unit {0}))
+      (sym (in-one h)) (a, rw e tt)
 
-  chain-listed : Lists (each on-from ps) (Run (chain P Q) W)
-  chain-listed x = (
-    λ h.
-        let r = each-in on-from x ps h in
-        chain-run W x P Q .1 (r .0, f (r .0) .0 (r .1), on-listed x (r .0) (eqb (r .0 .completes) 0) refl .0 (r .2)),
-    λ h.
-        let r = chain-run W x P Q .0 h in
-        in-each on-from x (r .0) ps (f (r .0) .1 (r .1)) (on-listed x (r .0) (eqb (r .0 .completes) 0) refl .1 (r .2)),
-  )
+  on-found : (l : Locals P × Locals Q) (b : Bool) → eqb (execute P (l .0) W .completes) 0 ≡ b → LocalsAgree (chain P Q) l W
+      → (m : Locals P × Locals Q) × In m (each on-from ps)
+      × (execute (chain P Q) m W ≡ execute (chain P Q) l W)
+  unfolding execute LocalsAgree
+  on-found l true e a =
+      let r = f .found (l .0) (a .0) in
+      let t = g .found (l .1) (rw e at (a .1)) in
+      let goes-on : eqb (execute P (r .0) W .completes) 0 ≡ true = ap (λ (y : Execution). eqb (y .completes) 0) (r .2) ∙ e in (
+        (r .0, t .0),
+        in-each on-from (r .0, t .0) (r .0) ps (r .1) (rw goes-on (in-each (λ m. (r .0, m) ∷ []) (r .0, t .0) (t .0) qs (t .1) (inl refl))),
+        ap (λ (y : Execution). run-on y (execute Q (t .0) W)) (r .2) ∙ ap (run-on (execute P (l .0) W)) (t .2),
+      )
+  on-found l false e a =
+      let r = f .found (l .0) (a .0) in
+      let ends : eqb (execute P (r .0) W .completes) 0 ≡ false = ap (λ (y : Execution). eqb (y .completes) 0) (r .2) ∙ e in (
+        (r .0, some-locals Q),
+        in-each on-from (r .0, some-locals Q) (r .0) ps (r .1) (rw ends (inl refl)),
+        ap (λ (y : Execution). run-on y (execute Q (some-locals Q) W)) (r .2) ∙ rw e,
+      )
 
-module _ (W : Numbers) (s : ℕ) (P : Step) (ps : Bool → List Execution) (f : (v : Bool) → Lists (ps v) (Run P (assigning W s v))) where
-  abbrev without-s : Execution → Execution
-  without-s y = execution (without s (y .emitted)) (y .completes) (y .keeps)
+  chain-complete : Complete (chain P Q) W (each on-from ps)
+  chain-complete = record {
+    agrees = λ l h.
+        let r = each-in on-from l ps h in
+        on-agrees (r .0) l (eqb (execute P (r .0) W .completes) 0) refl (r .2) (f .agrees (r .0) (r .1));
+    found = λ l a. on-found l (eqb (execute P (l .0) W .completes) 0) refl a;
+  }
 
-  abbrev agreeing : Bool → List Execution
-  agreeing v = each (λ y. if (as-emitted v (y .emitted s)) (without-s y)) (ps v)
+module _ (W : Numbers) (s : ℕ) (P : Step) (ps : Bool → List (Locals P)) (f : (v : Bool) → Complete P (assigning W s v) (ps v)) where
+  abbrev was-emitted : Bool → Locals P → Bool
+  was-emitted v l = execute P l (assigning W s v) .emitted s
 
-  scope-listed : Lists (each agreeing either-status) (Run (scope s P) W)
-  scope-listed x = (
-    λ h.
-        let r = each-in agreeing x either-status h in
-        let t = each-in (λ y. if (as-emitted (r .0) (y .emitted s)) (without-s y)) x (ps (r .0)) (r .2) in
-        let u = if-in (as-emitted (r .0) (t .0 .emitted s)) (t .2) in
-        scope-run W x s P .1 (r .0, t .0, f (r .0) (t .0) .0 (t .1), as-emitted-is (r .0) (t .0 .emitted s) (u .0), u .1),
-    λ h.
-        let r = scope-run W x s P .0 h in
-        in-each agreeing x (r .0) either-status (in-either-status (r .0))
-        (in-each (λ y. if (as-emitted (r .0) (y .emitted s)) (without-s y)) x (r .1) (ps (r .0)) (f (r .0) (r .1) .1 (r .2))
-        (in-if (as-emitted (r .0) (r .1 .emitted s)) (emitted-as (r .0) (r .1 .emitted s) (r .3)) (r .4))),
-  )
+  abbrev agreeing : Bool → List (Bool × Locals P)
+  agreeing v = each (λ l. if (as-emitted v (was-emitted v l)) (v, l)) (ps v)
 
--- the runs of a step
-pub all-runs : (P : Step) (W : Numbers) → Lists (runs P W) (Run P W)
-unfolding runs execute LocalsAgree
-all-runs done W = one-listed (execution empty 0 empty) done W (λ x. (λ r. sym (r .2), λ e. (tt, tt, sym e)))
-all-runs (stay A) W = one-listed (execution empty 1 A) (stay A) W (λ x. (λ r. sym (r .2), λ e. (tt, tt, sym e)))
-all-runs (say s) W = one-listed (execution (single s) 0 empty) (say s) W (λ x. (λ r. sym (r .2), λ e. (tt, tt, sym e)))
-all-runs (leave d) W = one-listed (execution empty (code d) empty) (leave d) W (λ x. (λ r. sym (r .2), λ e. (tt, tt, sym e)))
-all-runs (test s P Q) W = test-listed W P Q (runs P W) (runs Q W) (all-runs P W) (all-runs Q W) s (W s) refl
-all-runs (catch P) W = catch-listed W P P (runs P W) (runs P W) (all-runs P W) (all-runs P W)
-all-runs (scope s P) W = scope-listed W s P (λ v. runs P (assigning W s v)) (λ v. all-runs P (assigning W s v))
-all-runs (chain P Q) W = chain-listed W P Q (runs P W) (runs Q W) (all-runs P W) (all-runs Q W)
-all-runs (beside P Q) W = beside-listed W P Q (runs P W) (runs Q W) (all-runs P W) (all-runs Q W)
+  scope-complete : Complete (scope s P) W (each agreeing either-status)
+  unfolding execute LocalsAgree
+  scope-complete = record {
+    agrees = λ l h.
+        let r = each-in agreeing l either-status h in
+        let t = each-in (λ k. if (as-emitted (r .0) (was-emitted (r .0) k)) (r .0, k)) l (ps (r .0)) (r .2) in
+        let u = if-in (as-emitted (r .0) (was-emitted (r .0) (t .0))) (t .2) in
+        subst (λ (k : Bool × Locals P). (k .0 ≡ was-emitted (k .0) (k .1)) × LocalsAgree P (k .1) (assigning W s (k .0))) (sym (u .1))
+        (as-emitted-is (r .0) (was-emitted (r .0) (t .0)) (u .0), f (r .0) .agrees (t .0) (t .1));
+    found = λ l a.
+        let r = f (l .0) .found (l .1) (a .1) in
+        let same : l .0 ≡ was-emitted (l .0) (r .0) = a .0 ∙ ap (λ (y : Execution). y .emitted s) (sym (r .2)) in (
+          (l .0, r .0),
+          in-each agreeing (l .0, r .0) (l .0) either-status (in-either-status (l .0))
+              (in-each (λ k. if (as-emitted (l .0) (was-emitted (l .0) k)) (l .0, k)) (l .0, r .0) (r .0) (ps (l .0)) (r .1)
+              (in-if (as-emitted (l .0) (was-emitted (l .0) (r .0))) (emitted-as (l .0) (was-emitted (l .0) (r .0)) same) refl)),
+          ap (λ (y : Execution). execution (without s (y .emitted)) (y .completes) (y .keeps)) (r .2),
+        );
+  }
+
+complete : (P : Step) (W : Numbers) → Complete P W (assigned P W)
+unfolding assigned execute LocalsAgree
+complete done W = record { agrees = λ l h. tt; found = λ l a. (tt, inl refl, refl) }
+complete (stay A) W = record { agrees = λ l h. tt; found = λ l a. (tt, inl refl, refl) }
+complete (say s) W = record { agrees = λ l h. tt; found = λ l a. (tt, inl refl, refl) }
+complete (leave d) W = record { agrees = λ l h. tt; found = λ l a. (tt, inl refl, refl) }
+complete (test s P Q) W = test-complete W P Q (assigned P W) (assigned Q W) (complete P W) (complete Q W) s (W s) refl
+complete (catch P) W = catch-complete W P P (assigned P W) (assigned P W) (complete P W) (complete P W)
+complete (scope s P) W = scope-complete W s P (λ v. assigned P (assigning W s v)) (λ v. complete P (assigning W s v))
+complete (chain P Q) W = chain-complete W P Q (assigned P W) (assigned Q W) (complete P W) (complete Q W)
+complete (beside P Q) W = beside-complete W P Q (assigned P W) (assigned Q W) (complete P W) (complete Q W)
+
+-- the runs of a step are those listed
+pub all-runs : (P : Step) (W : Numbers) (x : Execution) → In x (runs P W) ↔ Run P W x
+unfolding runs
+all-runs P W x = (
+  λ h. let r = each-in (λ l. execute P l W ∷ []) x (assigned P W) h in (r .0, complete P W .agrees (r .0) (r .1), sym (in-one (r .2))),
+  λ r.
+      let m = complete P W .found (r .0) (r .1) in
+      in-each (λ l. execute P l W ∷ []) x (m .0) (assigned P W) (m .1) (inl (sym (r .2) ∙ sym (m .2))),
+)
 
 -- EVERY COHERENT REACTION
 

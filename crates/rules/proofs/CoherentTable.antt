@@ -9,9 +9,9 @@ use lib.ListN.{length}
 use Rattle.sets.specs.Numbers.{members, listed, down}
 use Rattle.rules.specs.Statements.{depth, code, Stmt, nothing, pause, emit, present?_then_else_, suspend_on_, _⨾_, loop, _parallel_, trap, exit, local, pauses}
 use Rattle.rules.specs.Instant.{any, active, held, started, resumed}
-use Rattle.rules.specs.States.{State, fresh, running, finished, phase-of, active-of, step, next}
-use Rattle.rules.specs.Coherence.{world}
-use Rattle.rules.proofs.AllRuns.{runs, all-outs, outs-agree, Reaction, reactions}
+use Rattle.rules.specs.States.{State, fresh, finished, phase-of, active-of, step, next}
+use Rattle.rules.specs.Coherence.{execute, world}
+use Rattle.rules.proofs.AllRuns.{assigned, runs, all-outs, outs-agree, Reaction, reactions}
 use Rattle.rules.proofs.Cases.{active-on}
 
 -- A coherent reaction with its sets as lists: the outputs present (true) or absent, the code, the phase of the next state and the pauses kept.
@@ -167,5 +167,5 @@ law-table =
     ∷ present-resumes ∷ later-part ∷ over ∷ []
 
 pub lawful : map coherent-of law-table ≡ map (λ r. r .coherent) law-table
-unfolding law-table reactions listed members pauses phase-of active-of runs all-outs outs-agree started resumed any active held code down step next world
+unfolding law-table reactions listed members pauses phase-of active-of runs assigned execute all-outs outs-agree started resumed any active held code down step next world
 lawful = refl

@@ -32,15 +32,15 @@ together y z =
     let c = max (y .completes) (z .completes) in
     execution (union (y .emitted) (z .emitted)) c (kept-with c (union (y .keeps) (z .keeps)))
 
-abbrev pub Together : (Execution → Type 0) → (Execution → Type 0) → Execution → Type 0
+abbrev Together : (Execution → Type 0) → (Execution → Type 0) → Execution → Type 0
 Together R S x = (y : Execution) × (z : Execution) × R y × S z × (x ≡ together y z)
 
 -- Two parts one after the other: the signals and the pauses of both, and the second's code.
-abbrev pub in-turn : Execution → Execution → Execution
+abbrev in-turn : Execution → Execution → Execution
 in-turn y z = execution (union (y .emitted) (z .emitted)) (z .completes) (union (y .keeps) (z .keeps))
 
 -- Where the first gives 0 the second is executed too; else the first is all.
-abbrev pub After : (Execution → Type 0) → (Execution → Type 0) → Execution → Type 0
+abbrev After : (Execution → Type 0) → (Execution → Type 0) → Execution → Type 0
 After R S x = (y : Execution) × R y × (((y .completes ≡ 0) × ((z : Execution) × S z × (x ≡ in-turn y z))) ⊎ ((y .completes ≢ 0) × (x ≡ y)))
 
 -- A trap: signals as the body, its code down, and the body's pauses if the code is then 1.
@@ -87,28 +87,28 @@ keeps-no (chain P Q) l W e n =
 keeps-no (beside P Q) l W e n = rw e
 
 module _ (W : Numbers) (x : Execution) where
-  pub test-then : (s : ℕ) (P Q : Step) → W s ≡ true → Run (test s P Q) W x ↔ Run P W x
+  test-then : (s : ℕ) (P Q : Step) → W s ≡ true → Run (test s P Q) W x ↔ Run P W x
   unfolding execute LocalsAgree
   test-then s P Q e = (
     λ r. (r .0 .0, rw e at (r .1), rw e at (r .2)),
     λ r. ((r .0, some-locals Q), rw e (r .1), rw e (r .2)),
   )
 
-  pub test-else : (s : ℕ) (P Q : Step) → W s ≡ false → Run (test s P Q) W x ↔ Run Q W x
+  test-else : (s : ℕ) (P Q : Step) → W s ≡ false → Run (test s P Q) W x ↔ Run Q W x
   unfolding execute LocalsAgree
   test-else s P Q e = (
     λ r. (r .0 .1, rw e at (r .1), rw e at (r .2)),
     λ r. ((some-locals P, r .0), rw e (r .1), rw e (r .2)),
   )
 
-  pub catch-run : (P : Step) → Run (catch P) W x ↔ ((y : Execution) × Run P W y × (x ≡ trapped y))
+  catch-run : (P : Step) → Run (catch P) W x ↔ ((y : Execution) × Run P W y × (x ≡ trapped y))
   unfolding execute LocalsAgree
   catch-run P = (
     λ r. (execute P (r .0) W, (r .0, r .1, refl), sym (r .2)),
     λ r. (r .1 .0, r .1 .1, ap trapped (r .1 .2) ∙ sym (r .2)),
   )
 
-  pub scope-run : (s : ℕ) (P : Step)
+  scope-run : (s : ℕ) (P : Step)
       → Run (scope s P) W x ↔ ((v : Bool) × (y : Execution) × Run P (assigning W s v) y × (v ≡ y .emitted s)
       × (x ≡ execution (without s (y .emitted)) (y .completes) (y .keeps)))
   unfolding execute LocalsAgree
@@ -121,7 +121,7 @@ module _ (W : Numbers) (x : Execution) where
     ),
   )
 
-  pub beside-run : (P Q : Step) → Run (beside P Q) W x ↔ Together (Run P W) (Run Q W) x
+  beside-run : (P Q : Step) → Run (beside P Q) W x ↔ Together (Run P W) (Run Q W) x
   unfolding execute LocalsAgree
   beside-run P Q = (
     λ r. (execute P (r .0 .0) W, execute Q (r .0 .1) W, (r .0 .0, r .1 .0, refl), (r .0 .1, r .1 .1, refl), sym (r .2)),
@@ -152,7 +152,7 @@ module _ (W : Numbers) (x : Execution) where
   so-if true f = f refl
   so-if false f = tt
 
-  pub chain-run : (P Q : Step) → Run (chain P Q) W x ↔ After (Run P W) (Run Q W) x
+  chain-run : (P Q : Step) → Run (chain P Q) W x ↔ After (Run P W) (Run Q W) x
   unfolding execute LocalsAgree
   chain-run P Q = (λ r. there (r .0 .0) (r .0 .1) (r .1 .0) (r .1 .1) (r .2) (eqb (execute P (r .0 .0) W .completes) 0) refl, λ r. back (r .0) (r .1 .0) (r .1 .1) (r .1 .2) (r .2))
     where
