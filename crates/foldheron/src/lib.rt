@@ -3,6 +3,7 @@ mod instants;
 
 pub use crate::instants::Instant;
 pub use crate::instants::Logged;
+pub use block::kinds::Code;
 use block::kinds::wide;
 use block::whole::Answer;
 pub use block::whole::Summary;
