@@ -4,5 +4,10 @@ pub mod Instants
 pub mod Runs
 pub mod Learnt
 pub mod Calls
+pub mod Tests
+pub mod FirstRefusal
 pub mod Promises
 pub mod OneAnswer
+pub mod Exists
+pub mod LoggedRuns
+pub mod Demand1

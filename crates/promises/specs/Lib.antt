@@ -1,3 +1,4 @@
 pub mod Promised
 pub mod Runs
 pub mod Calls
+pub mod Demand1
