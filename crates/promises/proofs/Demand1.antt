@@ -1,12 +1,12 @@
 -- Demand 1, sentence by sentence, of the calls as their contracts tell of them (`specs/Calls`). Each theorem is proved in the file that the `use`
 -- lines name. Assumes nothing.
-use mathlib.Core.Path.{_≡_, refl, sym, ap, _∙_, subst}
+use mathlib.Core.Path.{_≡_, refl, sym, ap, _∙_, subst, subst⁻¹}
 use mathlib.Core.Logic.{_≢_}
 use mathlib.Core.Bool.{false}
 use mathlib.Core.List.{List, []}
 use Prim.Native.Nat.{ℕ}
 use lib.ListN.{take, drop}
-use Rattle.block.specs.Format.{reading}
+use Rattle.block.specs.Format.{Reading, good, turned-down, reading}
 use Rattle.records.specs.LogRecord.{no-room}
 use Rattle.reaction.specs.Instants.{CLASH, Told, state-after, log-after, end-after, instant-verdict, logged-verdict}
 use Rattle.foldheron.specs.declared.Why.{Why}
@@ -15,7 +15,7 @@ use Rattle.foldheron.specs.declared.Begun.{Begun}
 use Rattle.foldheron.specs.declared.Part.{Part}
 use Rattle.foldheron.specs.declared.instants.Instant.{Instant}
 use Rattle.foldheron.specs.declared.instants.Logged.{Logged}
-use Rattle.foldheron.specs.Answers.{number, check-values, begun-values, state-owed, part-owed}
+use Rattle.foldheron.specs.Answers.{number, check-values, check-owed, begun-values, state-owed, part-owed}
 use Rattle.foldheron.specs.InstantAnswers.{instant-told}
 use Rattle.foldheron.proofs.Owed.{check-told-apart, begun-told-apart}
 use Rattle.foldheron.proofs.number_of.Kinds as number-of-kinds
@@ -48,10 +48,14 @@ use Rattle.foldheron.proofs.instant_logged.Statement as logged-statement
 use Rattle.foldheron.proofs.instant_logged.Met as logged-met
 use Rattle.promises.specs.Calls.{Place, CheckCalled, FreshCalled, Called, CalledWithLog, PartCalled, ExcerptCalled, NumberCalled, LoggedCalls}
 use Rattle.promises.specs.Demand1.{Test, First, block-tests, fresh-tests, excerpt-tests, instant-tests, logged-tests, Returns, ExactlyOne, number-in, place-in, PlacedBy, PairOf, LoggedRun}
-use Rattle.promises.proofs.Learnt.{check-says, fresh-says, instant-says, logged-answer, logged-end, logged-state, logged-log, part-says, excerpt-part, excerpt-number, excerpt-place, number-says}
+use Rattle.promises.specs.FirstRecord.{Decides, InOrder}
+use Rattle.promises.proofs.Learnt.{check-says, fresh-says, instant-says, logged-answer, logged-end, logged-state, logged-log, part-says}
+use Rattle.promises.proofs.Learnt.{excerpt-part, excerpt-number, excerpt-place, number-says}
 use Rattle.promises.proofs.OneAnswer.{an-instant-has-one-answer}
 use Rattle.promises.proofs.Exists.{a-check, a-beginning, an-instant}
-use Rattle.promises.proofs.FirstRefusal.{first-is-one, check-first, fresh-first, part-first, instant-first, logged-first, check-placed, fresh-placed, part-placed, verdict-placed, verdict-paired, fresh-stays, part-absent}
+use Rattle.promises.proofs.FirstRefusal.{first-is-one, check-first, fresh-first, part-first, instant-first, logged-first, check-placed}
+use Rattle.promises.proofs.FirstRefusal.{fresh-placed, part-placed, verdict-placed, verdict-paired, fresh-stays, part-absent}
+use Rattle.promises.proofs.FirstRecord.{in-order, decides-alone}
 use Rattle.promises.proofs.LoggedRuns.{left, logged-run}
 
 -- "Every block, state record, input set and log gets an answer and the call ends."
@@ -180,6 +184,23 @@ module _ (b : List ℕ) where
       → instant-told (r .answer) .number ≡ CLASH → PairOf b s (instant-told (r .answer) .first) (instant-told (r .answer) .second)
   a-logged-clash-names-the-first-pair {s} {log = log} {w = w} {end = end} c =
       subst (λ (t : Told). t .number ≡ CLASH → PairOf b s (t .first) (t .second)) (sym (logged-answer b c)) (verdict-paired b s w (no-room log end))
+
+  -- Within 1 to 8: after the size test the records are read from the front; the first record at fault decides, and within it the lowest number; LOOP
+  -- comes after a whole good reading (`specs/FirstRecord` has each test of a record on its own). Where none decides, all is good; and nothing else decides.
+  pub the-first-record-at-fault-decides : InOrder b (reading b)
+  the-first-record-at-fault-decides = in-order b
+
+  pub nothing-else-decides : (n at : ℕ) → Decides b n at → reading b ≡ turned-down n at
+  nothing-else-decides = decides-alone b
+
+  pub a-refused-block-is-decided-so : {r : Checked} → CheckCalled b r → number-in (check-values r) ≢ 0 → Decides b (number-in (check-values r)) (place-in (check-values r))
+  unfolding InOrder check-owed
+  a-refused-block-is-decided-so {r} c h =
+      subst⁻¹ (λ (l : List ℕ). Decides b (number-in l) (place-in l)) (check-says b c) (go (reading b) (in-order b) (λ z. h (ap number-in (check-says b c) ∙ z)))
+    where
+      go : (x : Reading) → InOrder b x → number-in (check-owed x) ≢ 0 → Decides b (number-in (check-owed x)) (place-in (check-owed x))
+      go (good g) w k = absurd (k refl)
+      go (turned-down n at) w k = w
 
   -- "A refused instant changes no byte of state or log", whatever its number; nor does a refused `fresh`, and a refused excerpt is empty.
   pub a-refused-instant-changes-nothing : {s s′ : List ℕ} {w : ℕ} {r : Instant} → Called b s w r s′ → instant-told r .number ≢ 0 → s′ ≡ s

@@ -21,7 +21,10 @@ use Rattle.records.specs.LogRecord.{no-room}
 use Rattle.reaction.specs.Instants.{STATE, CLASH, INPUT, ROOM, Verdict, refused, clash, reacted, block-of, try-inputs, try-clash, try-state, try-block, verdict, told, instant-verdict, logged-verdict}
 use Rattle.foldheron.specs.declared.Part.{Part}
 use Rattle.foldheron.specs.Answers.{check-owed, begun-owed, state-owed, absent-part, part-owed}
-use Rattle.promises.specs.Demand1.{Test, First, TurnedDown, NoState, Incompatible, HeldBy, Clashing, Undeclared, Unsettled, of-block, one-to-8, block-tests, state-test, clash-test, input-test, code-test, room-test, fresh-tests, excerpt-tests, instant-tests, logged-tests, INDEX, NoStatement, number-in, place-in, FirstPair, PairOf, PlacedBy, in-block, at-0}
+use Rattle.promises.specs.Demand1.{Test, First, TurnedDown, NoState, Incompatible, HeldBy, Clashing, Undeclared, Unsettled, of-block, one-to-8}
+use Rattle.promises.specs.Demand1.{block-tests, state-test, clash-test, input-test, code-test, room-test, fresh-tests, excerpt-tests}
+use Rattle.promises.specs.Demand1.{instant-tests, logged-tests, INDEX, NoStatement, number-in, place-in, FirstPair, PairOf, PlacedBy, in-block}
+use Rattle.promises.specs.Demand1.{at-0}
 use Rattle.promises.proofs.Records.{checked}
 use Rattle.promises.proofs.Tests.{wrong-read, read-wrong, none-clash, first-pair, declared-none, undeclared-some, room-missing, room-there, NoCode, code-unknown, code-known}
 

@@ -4,10 +4,12 @@ pub mod Instants
 pub mod Runs
 pub mod Learnt
 pub mod Calls
-pub mod Tests
-pub mod FirstRefusal
-pub mod Promises
 pub mod OneAnswer
 pub mod Exists
+pub mod Tests
+pub mod FirstRefusal
+pub mod RecordTests
+pub mod FirstRecord
 pub mod LoggedRuns
 pub mod Demand1
+pub mod Promises

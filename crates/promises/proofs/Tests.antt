@@ -37,7 +37,8 @@ use Rattle.records.proofs.Pairs.{clash-first, clash-second, clash-lower, clash-
 use Rattle.records.proofs.LegalStates.{no-clash}
 use Rattle.records.proofs.Logs.{has-room, room-has}
 use Rattle.reaction.specs.Instants.{block-of}
-use Rattle.promises.specs.Demand1.{WrongState, not-22-bytes, wrong-length, wrong-kind, wrong-phase, bit-beyond, bits-while-fresh, none-while-running, bits-while-finished, Incompatible, FirstPair, NoRoom}
+use Rattle.promises.specs.Demand1.{WrongState, not-22-bytes, wrong-length, wrong-kind, wrong-phase, bit-beyond, bits-while-fresh}
+use Rattle.promises.specs.Demand1.{none-while-running, bits-while-finished, Incompatible, FirstPair, NoRoom}
 
 -- STATE.
 no-state : (x y z : Bool) (f : Found) → f ≡ not-a-state → cond (x && y && z) f not-a-state ≡ not-a-state
