@@ -3,8 +3,8 @@
 use mathlib.Core.Path.{_≡_, refl, sym, ap, ap₂, _∙_, subst}
 use mathlib.Core.Logic.{_≢_}
 use mathlib.Core.Bool.{Bool, true, false, cond}
-use mathlib.Core.List.{List, [], _∷_, _++_, append-assoc}
-use Prim.Native.Nat.{ℕ, zero, suc, _+_, _≤_}
+use mathlib.Core.List.{List, [], _∷_, _++_, map, append-assoc}
+use Prim.Native.Nat.{ℕ, zero, suc, _+_, _*_, _≤_}
 use native.Mathlib.Omega.{arith}
 use lib.Dec.{eqb}
 use lib.ListN.{length, take, drop, length-append, take-append-drop}
@@ -14,13 +14,15 @@ use Rattle.rules.specs.Rounds.{answered, not-constructive}
 use Rattle.records.specs.LogRecord.{log-record, logged-at, no-room}
 use Rattle.records.proofs.Back.{log-length}
 use Rattle.records.proofs.Logs.{has-room, logged-length}
-use Rattle.reaction.specs.Instants.{Verdict, refused, clash, reacted, Told, told, state-after, log-after, end-after, logged-verdict}
+use Rattle.reaction.specs.Instants.{Verdict, refused, clash, reacted, Told, told, state-after, log-after, end-after, instant-verdict, logged-verdict}
 use Rattle.foldheron.specs.declared.instants.Logged.{Logged}
 use Rattle.foldheron.specs.InstantAnswers.{instant-told}
 use Rattle.foldheron.proofs.Calls.{Leaves, leaves}
-use Rattle.promises.specs.Calls.{CalledWithLog, went-on, LoggedCalls, no-call, one-more}
+use Rattle.promises.specs.Calls as calls
+use Rattle.promises.specs.Calls.{Called, Calls, CalledWithLog, went-on, LoggedCalls, no-call, one-more}
 use Rattle.promises.specs.Demand1.{record-of, records, written-from, LoggedRun}
-use Rattle.promises.proofs.Learnt.{logged-answer, logged-end, logged-log}
+use Rattle.promises.proofs.Learnt.{logged-answer, logged-end, logged-state, logged-log}
+use Rattle.promises.proofs.Runs.{same-verdict}
 
 -- A refusal leaves every byte and gives end 0.
 pub record Left (v : Verdict) (s log : List ℕ) (end w : ℕ) : Type 0 where
@@ -86,6 +88,25 @@ module _ (log r q : List ℕ) (end : ℕ) (sized : length r ≡ 24) (room : end 
 
 record-length : (w : ℕ) (t : Told) → length (record-of w t) ≡ 24
 record-length w t = log-length _
+
+-- A call keeps the log's length, and the caller goes on at most a record further.
+logged-step : (b s s₁ log log₁ : List ℕ) (end w : ℕ) (r : Logged) → CalledWithLog b s w log end r s₁ log₁ → (length log₁ ≡ length log) × (went-on end r ≤ end + 24)
+unfolding went-on
+logged-step b s s₁ log log₁ end w r c = go (eqb (instant-told (r .answer) .number) 0) refl
+  where
+    v : Verdict
+    v = logged-verdict b s w log end
+
+    told-number : instant-told (r .answer) .number ≡ told v .number
+    told-number = ap (λ (t : Told). t .number) (logged-answer b c)
+
+    go : (x : Bool) → eqb (instant-told (r .answer) .number) 0 ≡ x → (length log₁ ≡ length log) × (cond x (r .end) end ≤ end + 24)
+    go true q =
+        let u = wrote v s log end w (leaves b s w (no-room log end)) (sym told-number ∙ eqb-true (instant-told (r .answer) .number) 0 q) in
+        (ap length (logged-log b c) ∙ u .keeps-length, (let e : r .end ≡ end + 24 = logged-end b c ∙ u .end-is in omega arith))
+    go false q =
+        let l = left v s log end w (λ z. eqb-false (instant-told (r .answer) .number) 0 q (told-number ∙ z)) in
+        (ap length (logged-log b c ∙ l .log-stays), omega arith)
 
 -- The first call of a run and the rest.
 module _ (b s s₁ log log₁ log′ ws : List ℕ) (end end′ w : ℕ) (r : Logged) (rs : List Logged) (c : CalledWithLog b s w log end r s₁ log₁)
@@ -155,3 +176,20 @@ unfolding records
 logged-run b (no-call {log = log} {end = end}) = record { log-is = nothing-written end log; end-is = omega arith; same-length = refl }
 logged-run b (one-more {s = s} {s₁ = s₁} {log = log} {log₁ = log₁} {log′ = log′} {ws = ws} {end = end} {end′ = end′} {w = w} {r = r} {rs = rs} c rest) =
     first-and-rest b s s₁ log log₁ log′ ws end end′ w r rs c (logged-run b rest)
+
+-- With room for a record each, calls with a log are calls without one: the same answers on the same bytes of state.
+pub without-log : (b : List ℕ) {s log : List ℕ} {end : ℕ} {ws : List ℕ} {rs : List Logged} {s′ log′ : List ℕ} {end′ : ℕ} → LoggedCalls b s log end ws rs s′ log′ end′
+    → end + 24 * length ws ≤ length log → Calls b s ws (map (λ r. r .answer) rs) s′
+without-log b no-call room = calls.no-call
+without-log b (one-more {s = s} {s₁ = s₁} {log = log} {log₁ = log₁} {ws = ws} {end = end} {w = w} {r = r} c rest) room =
+    let first : end + 24 ≤ length log = omega arith in
+    let same : logged-verdict b s w log end ≡ instant-verdict b s w = same-verdict log end first b s w in
+    let made : Called b s w (r .answer) s₁ = record {
+      call = record {
+        lifetimes = ([], ([], tt));
+        places = c .call .places;
+        learnt = (logged-answer b c ∙ ap told same, logged-state b c ∙ ap (state-after s) same);
+      };
+    } in
+    let l = logged-step b s s₁ log log₁ end w r c in
+    calls.one-more made (without-log b rest (omega (arith, l .0, l .1)))

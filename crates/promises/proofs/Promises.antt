@@ -20,11 +20,12 @@ use Rattle.foldheron.specs.declared.instants.Logged.{Logged}
 use Rattle.foldheron.specs.InstantAnswers.{instant-told}
 use Rattle.promises.specs.Promised.{ReadAs, Holds, Inputs, PromisedAnswer, Promised, PromisedLogged, PromisedCalls}
 use Rattle.promises.specs.Runs.{verdicts, bytes-left, logged-verdicts, logged-bytes-left, numbers, sets, PromisedRun}
-use Rattle.promises.specs.Calls.{CheckCalled, FreshCalled, Called, Calls, CalledWithLog}
+use Rattle.promises.specs.Calls.{CheckCalled, FreshCalled, Called, Calls, CalledWithLog, LoggedCalls}
 use Rattle.promises.proofs.Records.{checked, held-is-legal, legal-is-held}
 use Rattle.promises.proofs.Instants.{promised}
 use Rattle.promises.proofs.Runs.{promised-run, same-verdict, same-run}
 use Rattle.promises.proofs.Calls.{good-is-read, fresh-is-held, call, calls, calls-keep, call-with-log}
+use Rattle.promises.proofs.LoggedRuns.{without-log}
 
 -- The one hypothesis on a block is that `check` answered Good to it.
 module _ (b : List ℕ) (said : Summary) (good-answer : CheckCalled b (GoodOne said)) where
@@ -80,6 +81,10 @@ module _ (b : List ℕ) (said : Summary) (good-answer : CheckCalled b (GoodOne s
     pub each-logged-call-keeps-the-promise : (w : Inputs g) (log : List ℕ) (end : ℕ) → end + 24 ≤ length log → (r : Logged) (s′ log′ : List ℕ)
         → CalledWithLog b s (w .number) log end r s′ log′ → PromisedLogged g s st w log end r s′ log′
     each-logged-call-keeps-the-promise = call-with-log b g e s st h
+
+    pub each-of-the-logged-calls-keeps-the-promise : (ws : List (Inputs g)) (rs : List Logged) (log log′ : List ℕ) (end end′ : ℕ) (s′ : List ℕ)
+        → end + 24 * length (numbers ws) ≤ length log → LoggedCalls b s log end (numbers ws) rs s′ log′ end′ → PromisedCalls g s st ws (map (λ r. r .answer) rs) s′
+    each-of-the-logged-calls-keeps-the-promise ws rs log log′ end end′ s′ room made = calls-keep b g e s st h ws (map (λ r. r .answer) rs) s′ (without-log b made room)
 
     -- Behind it: each instant is the only coherent reaction, written as a legal state, or 13 with every byte kept;
     pub each-instant-is-the-only-reaction-or-13 : (w : Inputs g) → Promised b g s st w
