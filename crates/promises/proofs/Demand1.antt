@@ -1,12 +1,12 @@
 -- Demand 1, sentence by sentence, of the calls as their contracts tell of them (`specs/Calls`). Each theorem is proved in the file that the `use`
 -- lines name. Assumes nothing.
-use mathlib.Core.Path.{_≡_, refl, sym, ap, _∙_, subst, subst⁻¹}
+use mathlib.Core.Path.{_≡_, refl, sym, ap, _∙_, subst}
 use mathlib.Core.Logic.{_≢_}
 use mathlib.Core.Bool.{false}
 use mathlib.Core.List.{List, []}
 use Prim.Native.Nat.{ℕ}
 use lib.ListN.{take, drop}
-use Rattle.block.specs.Format.{Reading, good, turned-down, reading}
+use Rattle.block.specs.Format.{turned-down, reading}
 use Rattle.records.specs.LogRecord.{no-room}
 use Rattle.reaction.specs.Instants.{CLASH, Told, state-after, log-after, end-after, instant-verdict, logged-verdict}
 use Rattle.foldheron.specs.declared.Why.{Why}
@@ -15,7 +15,7 @@ use Rattle.foldheron.specs.declared.Begun.{Begun}
 use Rattle.foldheron.specs.declared.Part.{Part}
 use Rattle.foldheron.specs.declared.instants.Instant.{Instant}
 use Rattle.foldheron.specs.declared.instants.Logged.{Logged}
-use Rattle.foldheron.specs.Answers.{number, check-values, check-owed, begun-values, state-owed, part-owed}
+use Rattle.foldheron.specs.Answers.{number, check-values, begun-values, state-owed, part-owed}
 use Rattle.foldheron.specs.InstantAnswers.{instant-told}
 use Rattle.foldheron.proofs.Owed.{check-told-apart, begun-told-apart}
 use Rattle.foldheron.proofs.number_of.Kinds as number-of-kinds
@@ -47,14 +47,16 @@ use Rattle.foldheron.proofs.instant_logged.Reads as logged
 use Rattle.foldheron.proofs.instant_logged.Statement as logged-statement
 use Rattle.foldheron.proofs.instant_logged.Met as logged-met
 use Rattle.promises.specs.Calls.{Place, CheckCalled, FreshCalled, Called, CalledWithLog, PartCalled, ExcerptCalled, NumberCalled, LoggedCalls}
-use Rattle.promises.specs.Demand1.{Test, First, block-tests, fresh-tests, excerpt-tests, instant-tests, logged-tests, Returns, ExactlyOne, number-in, place-in, PlacedBy, PairOf, LoggedRun}
+use Rattle.promises.specs.Tests.{Test, First}
+use Rattle.promises.specs.Demand1.{block-tests, fresh-tests, excerpt-tests, instant-tests, logged-tests, Returns, ExactlyOne, number-in, place-in, PlacedBy, PairOf, LoggedRun}
 use Rattle.promises.specs.FirstRecord.{Decides, InOrder}
 use Rattle.promises.proofs.Learnt.{check-says, fresh-says, instant-says, logged-answer, logged-end, logged-state, logged-log, part-says}
 use Rattle.promises.proofs.Learnt.{excerpt-part, excerpt-number, excerpt-place, number-says}
 use Rattle.promises.proofs.OneAnswer.{an-instant-has-one-answer}
 use Rattle.promises.proofs.Exists.{a-check, a-beginning, an-instant}
-use Rattle.promises.proofs.FirstRefusal.{first-is-one, check-first, fresh-first, part-first, instant-first, logged-first, check-placed}
+use Rattle.promises.proofs.FirstRefusal.{check-first, fresh-first, part-first, instant-first, logged-first, check-placed}
 use Rattle.promises.proofs.FirstRefusal.{fresh-placed, part-placed, verdict-placed, verdict-paired, fresh-stays, part-absent}
+use Rattle.promises.proofs.RecordTests.{first-is-one}
 use Rattle.promises.proofs.FirstRecord.{in-order, decides-alone}
 use Rattle.promises.proofs.LoggedRuns.{left, logged-run}
 
@@ -156,7 +158,7 @@ module _ (b : List ℕ) where
   pub part-of-gives-the-first : {n : ℕ} {r : Part} → PartCalled b n r → First (excerpt-tests b n) (r .number)
   part-of-gives-the-first {n} c = subst (First (excerpt-tests b n)) (sym (ap (λ (x : Part). x .number) (part-says b c))) (part-first b n)
 
-  -- Its place is where the block's reading was turned down, and 0 from 9 on; a CLASH names the first pair.
+  -- Its place is where the block is turned down, and 0 from 9 on; a CLASH names the first pair.
   pub check-gives-its-place : {r : Checked} → CheckCalled b r → PlacedBy b (number-in (check-values r)) (place-in (check-values r))
   check-gives-its-place c = subst (λ (l : List ℕ). PlacedBy b (number-in l) (place-in l)) (sym (check-says b c)) (check-placed b)
 
@@ -192,15 +194,6 @@ module _ (b : List ℕ) where
 
   pub nothing-else-decides : (n at : ℕ) → Decides b n at → reading b ≡ turned-down n at
   nothing-else-decides = decides-alone b
-
-  pub a-refused-block-is-decided-so : {r : Checked} → CheckCalled b r → number-in (check-values r) ≢ 0 → Decides b (number-in (check-values r)) (place-in (check-values r))
-  unfolding InOrder check-owed
-  a-refused-block-is-decided-so {r} c h =
-      subst⁻¹ (λ (l : List ℕ). Decides b (number-in l) (place-in l)) (check-says b c) (go (reading b) (in-order b) (λ z. h (ap number-in (check-says b c) ∙ z)))
-    where
-      go : (x : Reading) → InOrder b x → number-in (check-owed x) ≢ 0 → Decides b (number-in (check-owed x)) (place-in (check-owed x))
-      go (good g) w k = absurd (k refl)
-      go (turned-down n at) w k = w
 
   -- "A refused instant changes no byte of state or log", whatever its number; nor does a refused `fresh`, and a refused excerpt is empty.
   pub a-refused-instant-changes-nothing : {s s′ : List ℕ} {w : ℕ} {r : Instant} → Called b s w r s′ → instant-told r .number ≢ 0 → s′ ≡ s

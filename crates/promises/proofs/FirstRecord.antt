@@ -18,11 +18,10 @@ use Rattle.block.specs.Format.{LIMIT, SHAPE, LOOP, kind-at, operand-at, Header,
 use Rattle.block.specs.Format.{Got, got, refused, and-then, with-children, read, numbered, offset, endless, lowest-endless, Good, Reading, good, turned-down, loops-checked, ended}
 use Rattle.block.specs.Format.{outermost, begun, reading}
 use Rattle.block.proofs.GoodReadings.{statements-read, reading-is}
-use Rattle.promises.specs.Demand1.{First}
+use Rattle.promises.specs.Tests.{First}
 use Rattle.promises.specs.FirstRecord.{header-tests, Due, statement-tests, so-many, children-due, GoodRecords, no-record, one-good, FirstAtFault, root, WholeTree, EndsRight}
 use Rattle.promises.specs.FirstRecord.{Decides, too-large, header-at-fault, record-at-fault, wrong-end, loop, AllGood, InOrder}
-use Rattle.promises.proofs.FirstRefusal.{first-is-one}
-use Rattle.promises.proofs.RecordTests.{statement-first, no-room-on-the-path, header-first}
+use Rattle.promises.proofs.RecordTests.{first-is-one, statement-first, no-room-on-the-path, header-first}
 
 module _ (b : List ℕ) (h : Header) where
   -- Good records and then more.
@@ -155,6 +154,10 @@ module _ (b : List ℕ) where
           came (ltb-false 3086 (length b) e) (subst (First (header-tests b)) (eqb-true (header-fault b) 0 q) (header-first b)) (read 64 b h outermost begun) refl
           (walk b h 64 outermost begun [])
       go false e false q = header-at-fault (ltb-false 3086 (length b) e) (header-first b) (eqb-false (header-fault b) 0 q)
+
+pub turned-down-decides : (b : List ℕ) (n at : ℕ) → reading b ≡ turned-down n at → Decides b n at
+unfolding InOrder
+turned-down-decides b n at e = subst (InOrder b) e (in-order b)
 
 -- And what decides is the only thing that does: good records lead one way, to one record at fault or to the end.
 module _ (b : List ℕ) (h : Header) where

@@ -21,20 +21,14 @@ use Rattle.records.specs.LogRecord.{no-room}
 use Rattle.reaction.specs.Instants.{STATE, CLASH, INPUT, ROOM, Verdict, refused, clash, reacted, block-of, try-inputs, try-clash, try-state, try-block, verdict, told, instant-verdict, logged-verdict}
 use Rattle.foldheron.specs.declared.Part.{Part}
 use Rattle.foldheron.specs.Answers.{check-owed, begun-owed, state-owed, absent-part, part-owed}
-use Rattle.promises.specs.Demand1.{Test, First, TurnedDown, NoState, Incompatible, HeldBy, Clashing, Undeclared, Unsettled, of-block, one-to-8}
+use Rattle.promises.specs.Tests.{Test, First}
+use Rattle.promises.specs.Demand1.{TurnedDown, NoState, Incompatible, HeldBy, Clashing, Undeclared, Unsettled, of-block, one-to-8}
 use Rattle.promises.specs.Demand1.{block-tests, state-test, clash-test, input-test, code-test, room-test, fresh-tests, excerpt-tests}
 use Rattle.promises.specs.Demand1.{instant-tests, logged-tests, INDEX, NoStatement, number-in, place-in, FirstPair, PairOf, PlacedBy, in-block}
 use Rattle.promises.specs.Demand1.{at-0}
 use Rattle.promises.proofs.Records.{checked}
+use Rattle.promises.proofs.FirstRecord.{turned-down-decides, decides-alone}
 use Rattle.promises.proofs.Tests.{wrong-read, read-wrong, none-clash, first-pair, declared-none, undeclared-some, room-missing, room-there, NoCode, code-unknown, code-known}
-
--- No two numbers are first.
-pub first-is-one : (ts : List Test) (m n : ℕ) → First ts m → First ts n → m ≡ n
-first-is-one [] m n p q = p ∙ sym q
-first-is-one (t ∷ ts) m n (inl p) (inl q) = p .1 ∙ sym (q .1)
-first-is-one (t ∷ ts) m n (inl p) (inr q) = absurd (q .0 (p .0))
-first-is-one (t ∷ ts) m n (inr p) (inl q) = absurd (p .0 (q .0))
-first-is-one (t ∷ ts) m n (inr p) (inr q) = first-is-one ts m n (p .1) (q .1)
 
 -- 1 to 8.
 good-or-not : {A : Type 0} (g : Good) (n at : ℕ) → good g ≡ turned-down n at → A
@@ -42,7 +36,7 @@ good-or-not g n at e = let z : _≡_ {A = ℕ} 0 1 = cc in absurd (omega arith)
 
 pub past-block : (b : List ℕ) (g : Good) → reading b ≡ good g → (ns : List ℕ) (ts : List Test) (n : ℕ) → First ts n → First (of-block b ns ++ ts) n
 past-block b g e [] ts n f = f
-past-block b g e (k ∷ ns) ts n f = inr ((λ t. good-or-not g k (t .place) (sym e ∙ t .is-turned-down)), past-block b g e ns ts n f)
+past-block b g e (k ∷ ns) ts n f = inr ((λ t. good-or-not g k (t .place) (sym e ∙ decides-alone b k (t .place) (t .decided))), past-block b g e ns ts n f)
 
 same-number : (n at k place : ℕ) → turned-down n at ≡ turned-down k place → n ≡ k
 same-number n at k place e = cc
@@ -55,8 +49,8 @@ one-of b n at e (k ∷ ns) h ts = go (eqb n k) refl h (λ l. one-of b n at e ns 
     go : (x : Bool) → eqb n k ≡ x → T (x || listed ns n) → (T (listed ns n) → First (of-block b ns ++ ts) n) → First (of-block b (k ∷ ns) ++ ts) n
     go true q h rest =
         let d : n ≡ k = eqb-true n k q in
-        inl (record { place = at; is-turned-down = e ∙ ap (λ (m : ℕ). turned-down m at) d }, d)
-    go false q h rest = inr ((λ t. eqb-false n k q (same-number n at k (t .place) (sym e ∙ t .is-turned-down))), rest h)
+        inl (record { place = at; decided = turned-down-decides b k at (e ∙ ap (λ (m : ℕ). turned-down m at) d) }, d)
+    go false q h rest = inr ((λ t. eqb-false n k q (same-number n at k (t .place) (sym e ∙ decides-alone b k (t .place) (t .decided)))), rest h)
 
 among : (n : ℕ) → 1 ≤ n → n ≤ 8 → T (listed one-to-8 n)
 unfolding listed
@@ -223,7 +217,7 @@ module _ (b s : List ℕ) (w : ℕ) (roomless : Bool) where
       go (good g) e =
           subst (λ (at : ℕ). PlacedBy b (told (try-state g w roomless (read-state (g .pauses) s)) .number) at) (sym (past-tests b s w roomless g e .0))
           (at-0 (told (try-state g w roomless (read-state (g .pauses) s)) .number) g e)
-      go (turned-down n at) e = in-block n at e
+      go (turned-down n at) e = in-block n at (turned-down-decides b n at e)
 
   pub verdict-paired : told (verdict b s w roomless) .number ≡ CLASH → PairOf b s (told (verdict b s w roomless) .first) (told (verdict b s w roomless) .second)
   unfolding told verdict try-block
@@ -253,7 +247,7 @@ module _ (b : List ℕ) where
     where
       go : (x : Reading) → reading b ≡ x → PlacedBy b (number-in (check-owed x)) (place-in (check-owed x))
       go (good g) e = at-0 0 g e
-      go (turned-down n at) e = in-block n at e
+      go (turned-down n at) e = in-block n at (turned-down-decides b n at e)
 
   module _ (s : List ℕ) where
     pub fresh-first : First (fresh-tests b s) (number-in (begun-owed (reading b) s))
@@ -281,7 +275,7 @@ module _ (b : List ℕ) where
 
         go : (x : Reading) → reading b ≡ x → PlacedBy b (number-in (begun-owed x s)) (place-in (begun-owed x s))
         go (good g) e = sized g e (eqb (length s) 22)
-        go (turned-down n at) e = in-block n at e
+        go (turned-down n at) e = in-block n at (turned-down-decides b n at e)
 
     pub fresh-stays : number-in (begun-owed (reading b) s) ≢ 0 → state-owed (reading b) s ≡ s
     unfolding begun-owed state-owed
@@ -330,7 +324,7 @@ module _ (b : List ℕ) where
 
         go : (x : Reading) → reading b ≡ x → PlacedBy b (part-owed x n .number) (part-owed x n .place)
         go (good g) e = counted g e (ltb n (g .statements))
-        go (turned-down k at) e = in-block k at e
+        go (turned-down k at) e = in-block k at (turned-down-decides b k at e)
 
     pub part-absent : part-owed (reading b) n .number ≢ 0 → part-owed (reading b) n .size ≡ 0
     unfolding part-owed found

@@ -6,10 +6,10 @@ pub mod Learnt
 pub mod Calls
 pub mod OneAnswer
 pub mod Exists
-pub mod Tests
-pub mod FirstRefusal
 pub mod RecordTests
 pub mod FirstRecord
+pub mod Tests
+pub mod FirstRefusal
 pub mod LoggedRuns
 pub mod Demand1
 pub mod Promises

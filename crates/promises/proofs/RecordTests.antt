@@ -11,10 +11,18 @@ use borrow.Author.Tests.{eqb-true, eqb-false, ltb-true, ltb-false, leb-true, leb
 use Rattle.sets.proofs.Members.{is-true, of-true, of-false, cases, and-in, and-left, and-right, or-left, or-right, or-out, eqb-in}
 use Rattle.block.specs.Format.{BROKEN, KIND, EDITION, LIMIT, SIGNAL, EXIT, SHAPE, two-bytes, length-at, kind-at, operand-at, is-broken, Header, header, header-fault}
 use Rattle.block.specs.Format.{length-of, Sofar, Around, declared-here, over-limit, wrong-signal, wrong-exit, statement-fault}
-use Rattle.promises.specs.Demand1.{Test, First}
+use Rattle.promises.specs.Tests.{Test, First}
 use Rattle.promises.specs.FirstRecord.{Broken, fewer-than-4, length-below-4, above-what-is-left, header-tests, Due, WrongKind, not-allowed, not-its-length}
 use Rattle.promises.specs.FirstRecord.{OverLimit, on-the-path, in-all, pauses, nested-traps, nested-locals, WrongSignal, emit-undeclared, emit-of-an-input}
 use Rattle.promises.specs.FirstRecord.{present-undeclared, suspend-undeclared, local-too-many, local-not-the-next, WrongExit, statement-tests}
+
+-- No two numbers are first.
+pub first-is-one : (ts : List Test) (m n : ℕ) → First ts m → First ts n → m ≡ n
+first-is-one [] m n p q = p ∙ sym q
+first-is-one (t ∷ ts) m n (inl p) (inl q) = p .1 ∙ sym (q .1)
+first-is-one (t ∷ ts) m n (inl p) (inr q) = absurd (q .0 (p .0))
+first-is-one (t ∷ ts) m n (inr p) (inl q) = absurd (p .0 (q .0))
+first-is-one (t ∷ ts) m n (inr p) (inr q) = first-is-one ts m n (p .1) (q .1)
 
 module _ (b : List ℕ) (at : ℕ) where
   abbrev few : Bool

@@ -1,6 +1,6 @@
 -- Demand 1: every block, state record, input set and log gets an answer and the call ends; a bad one gets the first refusal in the written
 -- order; a refused instant changes no byte of state or log. Here are the tests, each on its own and in document 01's words, the order in which
--- they are written, and what it is to be the first that applies. Assumes nothing.
+-- they are written, and what is promised besides. Assumes nothing.
 use mathlib.Core.Path.{_≡_}
 use mathlib.Core.Logic.{_⊎_, _≢_}
 use mathlib.Core.Bool.{true, false, cond}
@@ -16,31 +16,23 @@ use Rattle.rules.specs.Events.{Status, event}
 use Rattle.rules.specs.MustCan.{must, gives}
 use Rattle.rules.specs.States.{State, active-of, compatible, step}
 use Rattle.rules.specs.Rounds.{begin, Rounds}
-use Rattle.block.specs.Format.{BROKEN, KIND, EDITION, LIMIT, SIGNAL, EXIT, SHAPE, LOOP, Good, good, turned-down, reading}
+use Rattle.block.specs.Format.{BROKEN, KIND, EDITION, LIMIT, SIGNAL, EXIT, SHAPE, LOOP, Good, good, reading}
 use Rattle.records.specs.Numerals.{field}
 use Rattle.records.specs.StateRecord.{state, active-in, none-active, read-state}
 use Rattle.records.specs.LogRecord.{log-record}
 use Rattle.reaction.specs.Instants.{STATE, CLASH, INPUT, ROOM, NOT-CONSTRUCTIVE, block-of, Told}
 use Rattle.foldheron.specs.declared.instants.Logged.{Logged}
 use Rattle.foldheron.specs.InstantAnswers.{instant-told}
+use Rattle.promises.specs.Tests.{Test}
+use Rattle.promises.specs.FirstRecord.{Decides}
 
 abbrev pub INDEX : ℕ
 INDEX = 14
 
--- A test: the number that is given back, and when it applies.
-pub record Test : Type 1 where
-  pub number : ℕ
-  pub Applies : Type 0
-
--- The number of the first test of a list that applies, and 0 where none does.
-abbrev pub First : List Test → ℕ → Type 0
-First [] n = n ≡ 0
-First (t ∷ ts) n = (t .Applies × (n ≡ t .number)) ⊎ ((t .Applies → ⊥) × First ts n)
-
--- 1 to 8: the reading of the block is turned down with this number, at some place.
+-- 1 to 8: the block is turned down with this number, at some place (`FirstRecord` has the tests of each record and their order).
 pub record TurnedDown (b : List ℕ) (n : ℕ) : Type 0 where
   pub place : ℕ
-  pub is-turned-down : reading b ≡ turned-down n place
+  pub decided : Decides b n place
 
 -- 9 STATE, for a block with so many pauses: not 22 bytes, wrong length, kind or phase, a bit at or above the pause count, bits set while fresh or
 -- finished, none while running.
@@ -185,9 +177,9 @@ number-in values = getD values 0 0
 abbrev pub place-in : List ℕ → ℕ
 place-in values = getD values 1 0
 
--- Where an answer's place is: of 1 to 8 the one at which the block's reading was turned down with this number, else 0.
+-- Where an answer's place is: of 1 to 8 the one at which the block is turned down with this number, else 0.
 pub data PlacedBy (b : List ℕ) : ℕ → ℕ → Type 0 where
-  in-block : (n at : ℕ) → reading b ≡ turned-down n at → PlacedBy b n at
+  in-block : (n at : ℕ) → Decides b n at → PlacedBy b n at
   at-0 : (n : ℕ) (g : Good) → reading b ≡ good g → PlacedBy b n 0
 
 -- The pair of a CLASH: the first of the state that the record holds.

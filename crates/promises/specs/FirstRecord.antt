@@ -10,7 +10,7 @@ use Rattle.rules.specs.Statements.{Stmt}
 use Rattle.block.specs.Table.{statements}
 use Rattle.block.specs.Format.{BROKEN, KIND, EDITION, LIMIT, SIGNAL, EXIT, SHAPE, LOOP, two-bytes, length-at, kind-at, operand-at, Header, header, length-of, children-of}
 use Rattle.block.specs.Format.{Sofar, Around, declared-here, past, inside, got, read, numbered, offset, endless, Good, Reading, good, turned-down, outermost, begun}
-use Rattle.promises.specs.Demand1.{Test, First}
+use Rattle.promises.specs.Tests.{Test, First}
 
 -- Bytes from a place on that hold no whole record: fewer than 4 left, length below 4 or above what is left.
 pub data Broken (b : List ℕ) (at : ℕ) : Type 0 where
