@@ -15,7 +15,7 @@ use Rattle.foldheron.specs.declared.Begun.{Begun}
 use Rattle.foldheron.specs.declared.Part.{Part}
 use Rattle.foldheron.specs.declared.instants.Instant.{Instant}
 use Rattle.foldheron.specs.declared.instants.Logged.{Logged}
-use Rattle.foldheron.specs.Answers.{number, check-values, begun-values, state-owed, part-owed}
+use Rattle.foldheron.specs.Answers.{number, check-values, begun-values, state-owed, part-owed, part-in}
 use Rattle.foldheron.specs.InstantAnswers.{instant-told}
 use Rattle.foldheron.proofs.Owed.{check-told-apart, begun-told-apart}
 use Rattle.foldheron.proofs.number_of.Kinds as number-of-kinds
@@ -53,7 +53,7 @@ use Rattle.promises.specs.FirstRecord.{Decides, InOrder}
 use Rattle.promises.proofs.Learnt.{check-says, fresh-says, instant-says, logged-answer, logged-end, logged-state, logged-log, part-says}
 use Rattle.promises.proofs.Learnt.{excerpt-part, excerpt-number, excerpt-place, number-says}
 use Rattle.promises.proofs.OneAnswer.{an-instant-has-one-answer}
-use Rattle.promises.proofs.Exists.{a-check, a-beginning, an-instant}
+use Rattle.promises.proofs.Exists.{a-check, a-beginning, an-instant, part-within}
 use Rattle.promises.proofs.FirstRefusal.{check-first, fresh-first, part-first, instant-first, logged-first, check-placed}
 use Rattle.promises.proofs.FirstRefusal.{fresh-placed, part-placed, verdict-placed, verdict-paired, fresh-stays, part-absent}
 use Rattle.promises.proofs.RecordTests.{first-is-one}
@@ -130,6 +130,22 @@ instant-logged-has-one-answer b s w log end =
         logged-state b c i,
         logged-log b c i,
       );
+    }
+
+pub part-of-has-one-answer : (b : List ℕ) (n : ℕ) → ExactlyOne (PartCalled b n)
+part-of-has-one-answer b n = record {
+  the-one = part-owed (reading b) n;
+  it-is = record { call = record { lifetimes = ([], tt); places = anywhere; learnt = (refl, part-within b n) } };
+  no-other = λ r c. part-says b c;
+}
+
+pub excerpt-has-one-answer : (b : List ℕ) (n : ℕ) → ExactlyOne (λ (x : List ℕ × ℕ × ℕ). ExcerptCalled b n (x .0) (x .1) (x .2))
+excerpt-has-one-answer b n =
+    let p = part-owed (reading b) n in
+    record {
+      the-one = (part-in b p, p .number, p .place);
+      it-is = record { number-before = 0; place-before = 0; call = record { lifetimes = ([], ([], ([], tt))); places = anywhere; learnt = (refl, (refl, refl)) } };
+      no-other = λ x c i. (excerpt-part b c i, excerpt-number b c i, excerpt-place b c i);
     }
 
 -- "A bad one gets the first refusal in the written order." The number given back is that of the first test in the written order that applies
