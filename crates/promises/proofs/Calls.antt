@@ -9,7 +9,6 @@ use lib.ListN.{length, getD}
 use Rattle.rules.specs.States.{State, fresh, Legal}
 use Rattle.theorems.specs.Traces.{run, arrives}
 use Rattle.block.specs.Format.{Good, Reading, good, turned-down, reading}
-use Rattle.block.specs.Told.{summary-of}
 use Rattle.block.specs.declared.whole.Summary.{Summary}
 use Rattle.block.proofs.GoodReadings.{numbers as refusal-numbers}
 use Rattle.records.specs.StateRecord.{state-record}

@@ -5,22 +5,20 @@ use mathlib.Core.Logic.{_≢_}
 use mathlib.Core.Bool.{Bool, true, false, cond, _&&_}
 use mathlib.Core.List.{List, [], _∷_, _++_}
 use mathlib.Core.Option.{Option, none, some}
-use Prim.Native.Nat.{ℕ, zero, suc, _≤_, _<_}
-use native.Mathlib.Omega.{arith}
-use lib.Dec.{T, eqb, ltb}
+use Prim.Native.Nat.{ℕ, zero, suc, _≤_}
+use lib.Dec.{eqb, ltb}
 use lib.ListN.{length}
 use borrow.Author.Tests.{eqb-true, eqb-false, ltb-true, ltb-false, eq-eqb, ne-eqb, lt-ltb, le-ltb}
-use Rattle.sets.specs.Numbers.{lowest}
 use Rattle.sets.proofs.Counts.{lowest-some, lowest-none, lowest-in}
 use Rattle.rules.specs.Statements.{Stmt}
 use Rattle.block.specs.Table.{statements}
-use Rattle.block.specs.Format.{LIMIT, SHAPE, LOOP, kind-at, operand-at, Header, header, header-fault, children-of, Sofar, Around, statement-fault, past, inside, leaf, above, joined}
-use Rattle.block.specs.Format.{Got, got, refused, and-then, with-children, read, numbered, offset, endless, lowest-endless, Good, Reading, good, turned-down, loops-checked, ended}
+use Rattle.block.specs.Format.{LIMIT, SHAPE, kind-at, operand-at, Header, header, header-fault, children-of, Sofar, Around, statement-fault, past, inside, above, joined}
+use Rattle.block.specs.Format.{Got, got, refused, and-then, with-children, read, numbered, endless, lowest-endless, Good, turned-down, loops-checked, ended}
 use Rattle.block.specs.Format.{outermost, begun, reading}
 use Rattle.block.proofs.GoodReadings.{statements-read, reading-is}
 use Rattle.promises.specs.Tests.{First}
-use Rattle.promises.specs.FirstRecord.{header-tests, Due, statement-tests, so-many, children-due, GoodRecords, no-record, one-good, FirstAtFault, root, WholeTree, EndsRight}
-use Rattle.promises.specs.FirstRecord.{Decides, too-large, header-at-fault, record-at-fault, wrong-end, loop, AllGood, InOrder}
+use Rattle.promises.specs.FirstRecord.{header-tests, Due, statement-tests, so-many, GoodRecords, no-record, one-good, FirstAtFault, root, WholeTree, EndsRight}
+use Rattle.promises.specs.FirstRecord.{Decides, too-large, header-at-fault, record-at-fault, wrong-end, loop, InOrder}
 use Rattle.promises.proofs.RecordTests.{first-is-one, statement-first, no-room-on-the-path, header-first}
 
 module _ (b : List ℕ) (h : Header) where

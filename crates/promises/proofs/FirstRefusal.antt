@@ -1,7 +1,7 @@
 -- The number that a call gives back is that of the first test that applies: by cases on what each test finds, in their order. A test that
 -- applies found what the call's definition found, since a block has one reading and a record holds one state. Assumes nothing.
 use mathlib.Core.Path.{_≡_, refl, sym, ap, _∙_, subst}
-use mathlib.Core.Logic.{_⊎_, inl, inr, _≢_}
+use mathlib.Core.Logic.{inl, inr, _≢_}
 use mathlib.Core.Bool.{Bool, true, false, cond, true≢false, _||_}
 use mathlib.Core.List.{List, [], _∷_, _++_}
 use mathlib.Core.Option.{Option, none, some}
@@ -22,9 +22,9 @@ use Rattle.reaction.specs.Instants.{STATE, CLASH, INPUT, ROOM, Verdict, refused
 use Rattle.foldheron.specs.declared.Part.{Part}
 use Rattle.foldheron.specs.Answers.{check-owed, begun-owed, state-owed, absent-part, part-owed}
 use Rattle.promises.specs.Tests.{Test, First}
-use Rattle.promises.specs.Demand1.{TurnedDown, NoState, Incompatible, HeldBy, Clashing, Undeclared, Unsettled, of-block, one-to-8}
+use Rattle.promises.specs.Demand1.{NoState, Incompatible, HeldBy, Clashing, Undeclared, Unsettled, of-block, one-to-8}
 use Rattle.promises.specs.Demand1.{block-tests, state-test, clash-test, input-test, code-test, room-test, fresh-tests, excerpt-tests}
-use Rattle.promises.specs.Demand1.{instant-tests, logged-tests, INDEX, NoStatement, number-in, place-in, FirstPair, PairOf, PlacedBy, in-block}
+use Rattle.promises.specs.Demand1.{instant-tests, logged-tests, INDEX, NoStatement, number-in, place-in, PairOf, PlacedBy, in-block}
 use Rattle.promises.specs.Demand1.{at-0}
 use Rattle.promises.proofs.Records.{checked}
 use Rattle.promises.proofs.FirstRecord.{turned-down-decides, decides-alone}

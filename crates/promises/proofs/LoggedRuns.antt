@@ -4,14 +4,14 @@ use mathlib.Core.Path.{_≡_, refl, sym, ap, ap₂, _∙_, subst}
 use mathlib.Core.Logic.{_≢_}
 use mathlib.Core.Bool.{Bool, true, false, cond}
 use mathlib.Core.List.{List, [], _∷_, _++_, map, append-assoc}
-use Prim.Native.Nat.{ℕ, zero, suc, _+_, _*_, _≤_}
+use Prim.Native.Nat.{ℕ, _+_, _*_, _≤_}
 use native.Mathlib.Omega.{arith}
 use lib.Dec.{eqb}
 use lib.ListN.{length, take, drop, length-append, take-append-drop}
 use lib.Seq.{take-at, drop-append-add, drop-drop, length-take-le}
 use borrow.Author.Tests.{eqb-true, eqb-false}
 use Rattle.rules.specs.Rounds.{answered, not-constructive}
-use Rattle.records.specs.LogRecord.{log-record, logged-at, no-room}
+use Rattle.records.specs.LogRecord.{logged-at, no-room}
 use Rattle.records.proofs.Back.{log-length}
 use Rattle.records.proofs.Logs.{has-room, logged-length}
 use Rattle.reaction.specs.Instants.{Verdict, refused, clash, reacted, Told, told, state-after, log-after, end-after, instant-verdict, logged-verdict}

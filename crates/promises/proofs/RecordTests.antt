@@ -1,5 +1,5 @@
 -- The tests of a record, each on its own, are those that the reading makes: each is a Boolean's two ways. Assumes nothing.
-use mathlib.Core.Path.{_≡_, refl, sym, ap, _∙_}
+use mathlib.Core.Path.{_≡_, refl, sym, _∙_}
 use mathlib.Core.Logic.{_⊎_, inl, inr, _≢_}
 use mathlib.Core.Bool.{Bool, true, false, not, cond, _&&_, _||_}
 use mathlib.Core.List.{List, [], _∷_}
@@ -8,9 +8,9 @@ use native.Mathlib.Omega.{arith}
 use lib.Dec.{T, eqb, ltb, leb, not-T, T-not, ltb→lt, lt→ltb, leb→le, eqb→eq}
 use lib.ListN.{length}
 use borrow.Author.Tests.{eqb-true, eqb-false, ltb-true, ltb-false, leb-true, leb-false, le-leb}
-use Rattle.sets.proofs.Members.{is-true, of-true, of-false, cases, and-in, and-left, and-right, or-left, or-right, or-out, eqb-in}
+use Rattle.sets.proofs.Members.{of-true, of-false, and-in, and-left, and-right, or-left, or-right, or-out, eqb-in}
 use Rattle.block.specs.Format.{BROKEN, KIND, EDITION, LIMIT, SIGNAL, EXIT, SHAPE, two-bytes, length-at, kind-at, operand-at, is-broken, Header, header, header-fault}
-use Rattle.block.specs.Format.{length-of, Sofar, Around, declared-here, over-limit, wrong-signal, wrong-exit, statement-fault}
+use Rattle.block.specs.Format.{length-of, Sofar, declared-here, over-limit, wrong-signal, wrong-exit, statement-fault}
 use Rattle.promises.specs.Tests.{Test, First}
 use Rattle.promises.specs.FirstRecord.{Broken, fewer-than-4, length-below-4, above-what-is-left, header-tests, Due, WrongKind, not-allowed, not-its-length}
 use Rattle.promises.specs.FirstRecord.{OverLimit, on-the-path, in-all, pauses, nested-traps, nested-locals, WrongSignal, emit-undeclared, emit-of-an-input}

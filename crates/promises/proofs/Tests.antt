@@ -1,28 +1,27 @@
 -- Each test on its own is the test that the definitions of the calls make: of a record, of two pauses, of an input set, of a log, of the final
 -- round. Each way by the laws of the crate that has the test. Assumes nothing.
 use mathlib.Core.Path.{_≡_, refl, sym, ap, ap₂, _∙_, subst}
-use mathlib.Core.Logic.{_⊎_, inl, inr, _≢_}
+use mathlib.Core.Logic.{inl, inr, _≢_}
 use mathlib.Core.Bool.{Bool, true, false, not, cond, _&&_, true≢false}
 use mathlib.Core.List.{List}
 use mathlib.Core.Option.{Option, none, some}
 use Prim.Native.Nat.{ℕ, _+_, _/_, _^_, _≤_, _<_}
 use native.Mathlib.Omega.{arith}
-use native.Mathlib.Decide.{ℕ-discrete}
 use lib.Dec.{T, eqb, ltb, leb, not-T, lt→ltb, eqb→eq}
 use lib.Count.{trailingZeros}
 use lib.ListN.{length}
 use borrow.Author.Tests.{eqb-true, eqb-false, ltb-true, ltb-false, leb-true, leb-false, eq-eqb, ne-eqb}
 use Rattle.sets.specs.Numbers.{Numbers, some-to, lowest}
 use Rattle.sets.specs.Words.{bits, two-words}
-use Rattle.sets.proofs.Members.{is-true, of-true, is-false, of-false, cases, and-in, and-left, and-right}
+use Rattle.sets.proofs.Members.{is-true, of-true, is-false, of-false, and-in, and-left, and-right}
 use Rattle.sets.proofs.Counts.{lowest-some}
 use Rattle.sets.proofs.Maxima.{some-to-in}
 use Rattle.sets.proofs.Words.{bits-shift, lt-pow, lowest-there}
-use Rattle.rules.specs.Statements.{Stmt, Block}
+use Rattle.rules.specs.Statements.{Block}
 use Rattle.rules.specs.Events.{Status, event}
 use Rattle.rules.specs.MustCan.{must, gives}
-use Rattle.rules.specs.States.{State, fresh, running, finished, active-of, compatible, step}
-use Rattle.rules.specs.Rounds.{begin, Rounds, Answer, answered, not-constructive, react}
+use Rattle.rules.specs.States.{State, fresh, running, finished, compatible, step}
+use Rattle.rules.specs.Rounds.{begin, Rounds, answered, not-constructive, react}
 use Rattle.theorems.specs.Checked.{Checked}
 use Rattle.theorems.specs.Traces.{Instant, answers, refuses}
 use Rattle.theorems.proofs.Instants.{reacts}
@@ -32,11 +31,10 @@ use Rattle.records.specs.Numerals.{field}
 use Rattle.records.specs.StateRecord.{Found, not-a-state, state, active-in, none-active, beyond, in-phase, read-state, Pair, paired, with-second, clashes, first-clash, undeclared-input}
 use Rattle.records.specs.LogRecord.{no-room}
 use Rattle.records.proofs.TwoWords.{set-of-none, none-from, beyond-in, beyond-out}
-use Rattle.records.proofs.Reading.{read-sized, read-headed, read-kind, read-whole}
+use Rattle.records.proofs.Reading.{read-sized, read-headed, read-kind}
 use Rattle.records.proofs.Pairs.{clash-first, clash-second, clash-lower, clash-apart}
 use Rattle.records.proofs.LegalStates.{no-clash}
 use Rattle.records.proofs.Logs.{has-room, room-has}
-use Rattle.reaction.specs.Instants.{block-of}
 use Rattle.promises.specs.Demand1.{WrongState, not-22-bytes, wrong-length, wrong-kind, wrong-phase, bit-beyond, bits-while-fresh}
 use Rattle.promises.specs.Demand1.{none-while-running, bits-while-finished, Incompatible, FirstPair, NoRoom}
 

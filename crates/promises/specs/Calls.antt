@@ -1,7 +1,7 @@
 -- Calls of the library, each by its function's own contract: `Learnt` is what the contract lets a caller learn of a call. It is made from the
 -- clauses in `foldheron/src`, so nothing is written a second time here, and a clause that a contract loses is lost here too. Assumes nothing.
--- A further call takes two lines here and two in `proofs/Learnt`: `Learnt` of its function, of the arguments, the result and the arguments at exit, each in the order of the
--- parameters; a lent slice or number is `at i holds x`, with x′ for x at exit where the function may write it.
+-- A further call takes two lines here and two in `proofs/Learnt`. Here it is `Learnt` of its function, of the arguments, the result and the
+-- arguments at exit, each in the order of the parameters; a lent slice or number is `at i holds x`, with x′ for x at exit where it may be written.
 use mathlib.Core.Bool.{cond}
 use mathlib.Core.List.{List, [], _∷_}
 use Prim.Native.Nat.{ℕ}
