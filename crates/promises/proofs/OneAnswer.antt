@@ -105,7 +105,7 @@ why-of n =
     (cond (eqb n 12) Why.Room
     Why.Index))))))))))
 
-remade : Told → Instant
+unfoldable pub remade : Told → Instant
 unfolding why-of
 remade t =
     cond (eqb (t .number) 0)
