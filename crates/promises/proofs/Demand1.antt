@@ -4,7 +4,7 @@ use mathlib.Core.Path.{_≡_, refl, sym, ap, _∙_, subst}
 use mathlib.Core.Logic.{_≢_}
 use mathlib.Core.Bool.{false}
 use mathlib.Core.List.{List, []}
-use Prim.Native.Nat.{ℕ}
+use Prim.Native.Nat.{ℕ, zero, suc, _+_}
 use lib.ListN.{take, drop}
 use Rattle.block.specs.Format.{turned-down, reading}
 use Rattle.records.specs.LogRecord.{no-room}
@@ -15,7 +15,7 @@ use Rattle.foldheron.specs.declared.Begun.{Begun}
 use Rattle.foldheron.specs.declared.Part.{Part}
 use Rattle.foldheron.specs.declared.instants.Instant.{Instant}
 use Rattle.foldheron.specs.declared.instants.Logged.{Logged}
-use Rattle.foldheron.specs.Answers.{number, check-values, begun-values, state-owed, part-owed, part-in}
+use Rattle.foldheron.specs.Answers.{number, check-values, begun-values, state-owed, part-owed}
 use Rattle.foldheron.specs.InstantAnswers.{instant-told}
 use Rattle.foldheron.proofs.Owed.{check-told-apart, begun-told-apart}
 use Rattle.foldheron.proofs.number_of.Kinds as number-of-kinds
@@ -51,7 +51,7 @@ use Rattle.promises.specs.Tests.{Test, First}
 use Rattle.promises.specs.Demand1.{block-tests, fresh-tests, excerpt-tests, instant-tests, logged-tests, Returns, ExactlyOne, number-in, place-in, PlacedBy, PairOf, LoggedRun}
 use Rattle.promises.specs.FirstRecord.{Decides, InOrder}
 use Rattle.promises.proofs.Learnt.{check-says, fresh-says, instant-says, logged-answer, logged-end, logged-state, logged-log, part-says}
-use Rattle.promises.proofs.Learnt.{excerpt-part, excerpt-number, excerpt-place, number-says}
+use Rattle.promises.proofs.Learnt.{excerpt-lies, excerpt-number, excerpt-place, number-says}
 use Rattle.promises.proofs.OneAnswer.{an-instant-has-one-answer}
 use Rattle.promises.proofs.Exists.{a-check, a-beginning, an-instant, part-within}
 use Rattle.promises.proofs.FirstRefusal.{check-first, fresh-first, part-first, instant-first, logged-first, check-placed}
@@ -139,13 +139,27 @@ part-of-has-one-answer b n = record {
   no-other = λ r c. part-says b c;
 }
 
+-- (A returned part has its place in memory fixed too, by where the block lies: `excerpt-lies`.)
+in-the-block : ℕ → ℕ → Place
+in-the-block offset zero = record { ptr = (0, 0); name = 0 }
+in-the-block offset (suc i) = record { ptr = (0, 0 + offset); name = 0 }
+
 pub excerpt-has-one-answer : (b : List ℕ) (n : ℕ) → ExactlyOne (λ (x : List ℕ × ℕ × ℕ). ExcerptCalled b n (x .0) (x .1) (x .2))
+unfolding in-the-block
 excerpt-has-one-answer b n =
     let p = part-owed (reading b) n in
     record {
-      the-one = (part-in b p, p .number, p .place);
-      it-is = record { number-before = 0; place-before = 0; call = record { lifetimes = ([], ([], ([], tt))); places = anywhere; learnt = (refl, (refl, refl)) } };
-      no-other = λ x c i. (excerpt-part b c i, excerpt-number b c i, excerpt-place b c i);
+      the-one = (take (p .size) (drop (p .offset) b), p .number, p .place);
+      it-is = record {
+        number-before = 0;
+        place-before = 0;
+        call = record {
+          lifetimes = ([], ([], ([], tt)));
+          places = in-the-block (p .offset);
+          learnt = (record { in-its-memory = refl; from-offset = refl; within = part-within b n; its-bytes = refl }, (refl, refl));
+        };
+      };
+      no-other = λ x c i. (excerpt-lies b c .its-bytes i, excerpt-number b c i, excerpt-place b c i);
     }
 
 -- "A bad one gets the first refusal in the written order." The number given back is that of the first test in the written order that applies
@@ -227,7 +241,7 @@ module _ (b : List ℕ) where
 
   pub a-refused-excerpt-is-empty : {n k p : ℕ} {part : List ℕ} → ExcerptCalled b n part k p → k ≢ 0 → part ≡ []
   a-refused-excerpt-is-empty {n} c h =
-      excerpt-part b c ∙ ap (λ (m : ℕ). take m (drop (part-owed (reading b) n .offset) b)) (part-absent b n (λ z. h (excerpt-number b c ∙ z)))
+      excerpt-lies b c .its-bytes ∙ ap (λ (m : ℕ). take m (drop (part-owed (reading b) n .offset) b)) (part-absent b n (λ z. h (excerpt-number b c ∙ z)))
 
   -- Over runs with a log, the log's bytes after the run are the records of its answered instants one after the other from the first end on, and
   -- all else as it was.

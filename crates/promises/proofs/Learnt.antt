@@ -12,8 +12,8 @@ use Rattle.foldheron.specs.declared.Part.{Part}
 use Rattle.foldheron.specs.declared.instants.Instant.{Instant}
 use Rattle.foldheron.specs.declared.instants.Logged.{Logged}
 use Rattle.foldheron.specs.InstantAnswers.{instant-told}
-use Rattle.foldheron.specs.Answers.{number, check-values, check-owed, begun-values, begun-owed, state-owed, part-owed, part-in}
-use Rattle.promises.specs.Calls.{CheckCalled, FreshCalled, Called, CalledWithLog, PartCalled, ExcerptCalled, NumberCalled}
+use Rattle.foldheron.specs.Answers.{number, check-values, check-owed, begun-values, begun-owed, state-owed, part-owed, part-lies}
+use Rattle.promises.specs.Calls.{_holds_, CheckCalled, FreshCalled, Called, CalledWithLog, PartCalled, ExcerptCalled, NumberCalled}
 
 module _ (b : List ℕ) where
   pub check-says : {r : Checked} → CheckCalled b r → check-values r ≡ check-owed (reading b)
@@ -43,8 +43,8 @@ module _ (b : List ℕ) where
   part-says c = c .call .learnt .0
 
   module _ {n k p : ℕ} {part : List ℕ} (c : ExcerptCalled b n part k p) where
-    pub excerpt-part : part ≡ part-in b (part-owed (reading b) n)
-    excerpt-part = c .call .learnt .0
+    pub excerpt-lies : part-lies (c .call .places 3 holds part) (c .call .places 0 holds b) (part-owed (reading b) n)
+    excerpt-lies = c .call .learnt .0
 
     pub excerpt-number : k ≡ part-owed (reading b) n .number
     excerpt-number = c .call .learnt .1 .0
