@@ -13,13 +13,10 @@ pub fn down(codes: u32) -> u32 {
     codes & (ZERO | ONE) | codes >> 2 & ZERO | codes >> 1 & !(ZERO | ONE)
 }
 
-/// All codes from the lowest of a set on.
-fn from_lowest(codes: u32) -> u32 {
-    if codes == 0 { 0 } else { u32::MAX - ((1 << codes.trailing_zeros()) - 1) }
-}
-
-/// The larger of two codes, one of each set, for every such pair. This is the library's own method: another one on this side would
-/// make the race one of maxima.
+/// The larger of two codes, one of each set, for every such pair: what is in either set from the larger of the two least codes on. This is the
+/// library's own method: another one on this side would make the race one of maxima.
 pub fn maxima(a: u32, b: u32) -> u32 {
-    a & from_lowest(b) | b & from_lowest(a)
+    let either = u64::from(a | b);
+    let above = either >> a.trailing_zeros() << a.trailing_zeros();
+    (above >> b.trailing_zeros() << b.trailing_zeros()) as u32
 }

@@ -3,10 +3,8 @@ use crate::kinds::Code;
 use crate::kinds::Depth;
 use crate::kinds::code_of;
 ghost use mathlib.Core.Path.{_≡_};
-ghost use mathlib.Core.Bool.{_&&_};
-ghost use Prim.Native.Nat.{ℕ, _<_};
-ghost use lib.Dec.{ltb};
-ghost use Rattle.sets.specs.Numbers.{single, union, without, only-if, some-to, maxima, downs};
+ghost use Prim.Native.Nat.{_<_};
+ghost use Rattle.sets.specs.Numbers.{single, union, without, only-if, maxima, downs};
 ghost use Rattle.sets.specs.Words.{bits};
 ghost use Rattle.rules.specs.Statements.{depth, code};
 ghost use Rattle.block.specs.Codes.{codes-for};
@@ -63,22 +61,17 @@ pub fn followed_codes(a: u32, b: u32) -> u32
     }
 }
 
-// All codes from the lowest of a set on.
-fn from_lowest(codes: u32) -> u32
-    ensures { λ r. ⌜ ((n : ℕ) → bits r n ≡ (ltb n 32 && some-to (bits codes) n)) ⌝ }
-{
-    if codes == 0 {
-        return 0;
-    }
-    let k = u32::trailing_zeros(codes);
-    0xffff_ffff - ((1u32 << k) - 1)
-}
-
-// The larger of two codes, one of each set, for every such pair: a code with one of the other set at or below it.
+// The larger of two codes, one of each set, for every such pair: every code of either set from the larger of the two least ones on. An empty set
+// has 32 trailing zeros, and clearing 32 places leaves nothing; in 64 bits a shift by 32 is allowed. One path, no branch.
 pub fn larger(a: u32, b: u32) -> u32
     ensures { λ r. ⌜ bits r ≡ maxima (bits a) (bits b) ⌝ }
 {
-    a & from_lowest(b) | b & from_lowest(a)
+    let least = u32::trailing_zeros(a);
+    let other = u32::trailing_zeros(b);
+    let either = (a | b) as u64;
+    let above = (either >> least) << least;
+    let both = (above >> other) << other;
+    both as u32
 }
 
 // A statement's codes, from its kind and operand and its children's codes.

@@ -8,7 +8,7 @@ ghost use mathlib.Core.Path.{_≡_};
 ghost use mathlib.Core.Bool.{true, false, _&&_};
 ghost use lib.Dec.{ltb};
 ghost use Prim.Native.Nat.{ℕ, _+_, _<_};
-ghost use Rattle.sets.specs.Numbers.{single, union, without, only-if, some-to, maxima, downs};
+ghost use Rattle.sets.specs.Numbers.{single, union, without, only-if, maxima, downs};
 ghost use Rattle.sets.specs.Words.{bits};
 ghost use Rattle.rules.specs.Statements.{depth, code};
 ghost use Rattle.rules.specs.Events.{unknown, giving};

@@ -2,14 +2,15 @@
 -- Assumes nothing.
 use mathlib.Core.Path.{_≡_, refl, sym, subst, subst⁻¹, _∙_, ap, ap₂}
 use mathlib.Core.Logic.{_⊎_, inl, inr}
-use mathlib.Core.Bool.{Bool, _&&_, _||_, or-comm}
+use mathlib.Core.Bool.{Bool, true, false, _&&_, _||_, or-comm}
 use Prim.Native.Nat.{ℕ, zero, suc, _≤_, max}
 use native.Mathlib.Nat.{le-refl, le-step, le-suc-iff, max-eq-left, max-eq-right, le-of-lt, lt-of-not-le}
 use native.Mathlib.Decide.{decLe}
 use native.Mathlib.Omega.{arith}
-use lib.Dec.{T, eqb-refl}
-use Rattle.sets.specs.Numbers.{Numbers, empty, single, some-to, maxima, down, downs, Within}
-use Rattle.sets.proofs.Members.{and-in, and-left, and-right, or-left, or-right, or-out, eqb-in, single-out, ext, ext-T}
+use lib.Dec.{T, leb, eqb-refl}
+use borrow.Author.Tests.{le-leb, lt-leb}
+use Rattle.sets.specs.Numbers.{Numbers, empty, single, some-to, maxima, Least, down, downs, Within}
+use Rattle.sets.proofs.Members.{is-true, is-false, and-in, and-left, and-right, or-left, or-right, or-out, eqb-in, single-out, ext, ext-T}
 
 -- A member at or below a number.
 pub some-to-in : (a : Numbers) {m : ℕ} (k : ℕ) → m ≤ k → T (a m) → T (some-to a k)
@@ -79,6 +80,40 @@ maxima-least a b c f = record { at = go }
   where
     go : (k : ℕ) → T (maxima a b k) → T (c k)
     go k t = let r = maxima-out a b k t in subst (λ (x : ℕ). T (c x)) (r .4) (f (r .0) (r .1) (r .2) (r .3))
+
+-- In a straight line: the members of either set that have a member of each at or below them,
+pub maxima-from : (a b : Numbers) (n : ℕ) → maxima a b n ≡ ((a n || b n) && (some-to a n && some-to b n))
+unfolding maxima
+maxima-from a b n = go (a n) (b n) (some-to a n) (some-to b n) (some-to-in a n (le-refl n)) (some-to-in b n (le-refl n))
+  where
+    go : (x y p q : Bool) → (T x → T p) → (T y → T q) → (x && q || y && p) ≡ ((x || y) && (p && q))
+    go true true true true f g = refl
+    go true true true false f g = absurd (g tt)
+    go true false true true f g = refl
+    go true false true false f g = refl
+    go true y false q f g = absurd (f tt)
+    go false true true true f g = refl
+    go false true false true f g = refl
+    go false true p false f g = absurd (g tt)
+    go false false p q f g = refl
+
+-- that is, where both sets have members, every member of either that is at least the larger of the two least ones.
+pub some-to-least : {a : Numbers} {k : ℕ} → Least a k → (n : ℕ) → some-to a n ≡ leb k n
+some-to-least {a} {k} l n = go (decLe k n)
+  where
+    go : Dec (k ≤ n) → some-to a n ≡ leb k n
+    go (yes h) = is-true (some-to a n) (some-to-in a n h (l .member)) ∙ sym (le-leb k n h)
+    go (no h) =
+        is-false (some-to a n) (λ t. let r = some-to-out a n t in l .none-below (r .0) (omega (arith, r .1)) (r .2)) ∙ sym (lt-leb k n (omega arith))
+
+pub maxima-of-least : {a b : Numbers} {k l : ℕ} → Least a k → Least b l → (n : ℕ) → maxima a b n ≡ ((a n || b n) && leb (max k l) n)
+maxima-of-least {a} {b} {k} {l} p q n =
+    maxima-from a b n ∙ ap (λ (x : Bool). (a n || b n) && x) (ap₂ _&&_ (some-to-least p n) (some-to-least q n) ∙ both (decLe k n) (decLe l n))
+  where
+    both : Dec (k ≤ n) → Dec (l ≤ n) → (leb k n && leb l n) ≡ leb (max k l) n
+    both (yes h) (yes j) = rw (le-leb k n h, le-leb l n j, le-leb (max k l) n (omega arith))
+    both (yes h) (no j) = rw (le-leb k n h, lt-leb l n (omega arith), lt-leb (max k l) n (omega arith))
+    both (no h) j = rw (lt-leb k n (omega arith), lt-leb (max k l) n (omega arith))
 
 -- Lowered codes.
 pub downs-in : (a : Numbers) (k : ℕ) → T (a k) → T (downs a (down k))

@@ -4,19 +4,20 @@ use mathlib.Core.Path.{_≡_, refl, sym, ap, ap₂, _∙_, subst, subst⁻¹}
 use mathlib.Core.Bool.{Bool, true, false, not, cond, _&&_, _||_, xor, and-comm, and-false, or-comm, and-or-distrib-left, and-assoc}
 use mathlib.Core.Option.{Option, none, some}
 use Prim.Native.Nat.{ℕ, zero, suc, _+_, _-_, _*_, _/_, _%_, _^_, _≤_, _<_, suc-le-suc}
-use native.Mathlib.Nat.{le-refl, lt-of-lt-of-le, le-add-right, le-add-left, zero-div, div-one, one-mul, div-eq-of-lt, mod-lt, pow-suc, zero-lt-suc, not-suc-le-zero, zero-add, zero-sub, le-of-suc-le-suc}
+use native.Mathlib.Nat.{le-refl, lt-of-lt-of-le, le-add-right, le-add-left, zero-div, div-one, one-mul, mul-one, div-eq-of-lt, mod-eq-of-lt, mod-lt, pow-suc, zero-lt-suc, not-suc-le-zero, zero-add, zero-sub, le-of-suc-le-suc}
 use native.Mathlib.Numerals.{one-add}
-use native.Mathlib.Decide.{decLt}
+use native.Mathlib.Decide.{decLe, decLt}
 use native.Mathlib.Omega.{arith}
-use lib.Dec.{T, eqb, ltb, lt→ltb, ltb→lt, leb·zero, leb·suc-zero, leb·suc-suc, eqb·zero-suc, eqb·suc-zero, eqb·suc-suc, eqb→eq}
+use lib.Dec.{T, eqb, ltb, leb, lt→ltb, leb·zero, leb·suc-zero, leb·suc-suc, eqb·zero-suc, eqb·suc-zero, eqb·suc-suc, eqb→eq}
 use lib.Arith.{lt-one}
-use lib.Pow.{pow-mono, pow-lt, pow-pos, shr-shr, shl-exact}
-use lib.Bits.{bitAnd, bitOr, bitXor, and-shr, or-shr, xor-shr, and-mod, or-mod, xor-mod, and-mask, or-shifted, shifted-half, shifted-even}
+use lib.Pow.{pow-mono, pow-lt, pow-pos, shr-shr, shl-exact, split}
+use lib.Bits.{bitAnd, bitOr, bitXor, or-lt, and-shr, or-shr, xor-shr, and-mod, or-mod, xor-mod, and-mask, or-shifted, shifted-half, shifted-even}
+use borrow.Author.Tests.{lt-leb}
 use lib.Count.{ones, ones-step, trailingZeros, under}
 use Rattle.sets.specs.Numbers.{Numbers, empty, single, union, without, only-if, some-to, maxima, count, lowest}
 use Rattle.sets.specs.Words.{bits, word}
-use Rattle.sets.proofs.Members.{and-in, and-right, eqb-not, same, is-true, is-false, of-true, of-false, ext}
-use Rattle.sets.proofs.Maxima.{some-to-in, some-to-out}
+use Rattle.sets.proofs.Members.{and-in, and-right, eqb-not, same, is-true, is-false, of-true, ext}
+use Rattle.sets.proofs.Maxima.{some-to-out, some-to-least, maxima-from}
 use Rattle.sets.proofs.Counts.{below-suc, count-first, count-cong, lowest-some, lowest-none}
 
 -- The lowest bit, and the others shifted.
@@ -363,10 +364,7 @@ lowest-there w {x} h f = go (lowest w (bits x)) refl
     go none e = absurd (f (lowest-zero w h e))
     go (some k) e = e ∙ ap some (sym (trailing-some w x e))
 
-pub trailing-lt : (w : ℕ) {x : ℕ} → x < 2 ^ w → (x ≡ 0 → ⊥) → trailingZeros w x < w
-trailing-lt w {x} h f = lowest-some w (bits x) (lowest-there w h f) .0
-
--- All numbers below one, and all from the lowest of a word on.
+-- All numbers below one.
 pub below-power : (k n : ℕ) → bits (2 ^ k - 1) n ≡ ltb n k
 below-power k n = ap (λ (x : ℕ). bits x n) (omega arith) ∙ bits-not k 0 n (pow-pos k) ∙ ap (λ (b : Bool). ltb n k && not b) (bits-zero n) ∙ go (ltb n k)
   where
@@ -374,59 +372,72 @@ below-power k n = ap (λ (x : ℕ). bits x n) (omega arith) ∙ bits-not k 0 n (
     go true = refl
     go false = refl
 
-pub none-from : (w : ℕ) {x : ℕ} → x ≡ 0 → (n : ℕ) → bits 0 n ≡ (ltb n w && some-to (bits x) n)
-none-from w {x} e n = bits-zero n ∙ sym (go (ltb n w) (is-false (some-to (bits x) n) clear))
+-- Shifted down and up again: the places below are cleared.
+bits-scaled : (x k n : ℕ) → bits (x * 2 ^ k) n ≡ (leb k n && bits x (n - k))
+bits-scaled x zero n = ap₂ (λ (y z : ℕ). bits y z) (mul-one x) (omega arith) ∙ sym (ap (λ (b : Bool). b && bits x (n - 0)) (leb·zero n))
+bits-scaled x (suc k) zero =
+    bits-first (x * 2 ^ suc k) ∙ ap (λ (y : ℕ). eqb y 1) (shifted-even x k) ∙ sym (ap (λ (b : Bool). b && bits x (zero - suc k)) (leb·suc-zero k))
+bits-scaled x (suc k) (suc n) =
+    bits-suc (x * 2 ^ suc k) n ∙ ap (λ (y : ℕ). bits y n) (shifted-half x k) ∙ bits-scaled x k n
+    ∙ ap₂ (λ (b : Bool) (y : ℕ). b && bits x y) (sym (leb·suc-suc k n)) (omega arith)
+
+cleared : (x k n : ℕ) → bits (x / 2 ^ k * 2 ^ k) n ≡ (bits x n && leb k n)
+cleared x k n = bits-scaled (x / 2 ^ k) k n ∙ go (decLe k n) ∙ and-comm (leb k n) (bits x n)
   where
-    clear : T (some-to (bits x) n) → ⊥
-    clear t = let r = some-to-out (bits x) n t in of-false (ap (λ (y : ℕ). bits y (r .0)) e ∙ bits-zero (r .0)) (r .2)
+    go : Dec (k ≤ n) → (leb k n && bits (x / 2 ^ k) (n - k)) ≡ (leb k n && bits x n)
+    go (yes h) = ap (λ (b : Bool). leb k n && b) (sym (bits-shift x k (n - k)) ∙ ap (bits x) (omega arith))
+    go (no h) = rw (lt-leb k n (omega arith))
 
-    go : (b : Bool) {y : Bool} → y ≡ false → (b && y) ≡ false
-    go true q = q
-    go false q = refl
+-- So it is done in words of v bits.
+abbrev pub from-place : ℕ → ℕ → ℕ → ℕ
+from-place v x k = (x / 2 ^ k * 2 ^ k) % 2 ^ v
 
-pub all-from : (w : ℕ) {x : ℕ} → x < 2 ^ w → (x ≡ 0 → ⊥)
-    → (n : ℕ) → bits (2 ^ w - 1 - ((1 * 2 ^ trailingZeros w x) % 2 ^ w - 1)) n ≡ (ltb n w && some-to (bits x) n)
-all-from w {x} h f n =
-    ap (λ (y : ℕ). bits (2 ^ w - 1 - (y - 1)) n) (shift-one k w k-lt)
-    ∙ bits-not w (2 ^ k - 1) n (omega (arith, pow-lt k-lt, pow-pos k)) ∙ ap (λ (b : Bool). ltb n w && b) (ap not (below-power k n) ∙ above)
+module _ (v : ℕ) {x : ℕ} (h : x < 2 ^ v) (k : ℕ) where
+  whole : from-place v x k ≡ x / 2 ^ k * 2 ^ k
+  whole = mod-eq-of-lt (omega (arith, split x k))
+
+  pub from-place-le : from-place v x k ≤ x
+  from-place-le = omega (arith, whole, split x k)
+
+  pub from-place-bits : (n : ℕ) → bits (from-place v x k) n ≡ (bits x n && leb k n)
+  from-place-bits n = ap (λ (y : ℕ). bits y n) whole ∙ cleared x k n
+
+-- A word's trailing zeros are where its members begin, or its width where it has none.
+from-trailing : (w x n : ℕ) → n < w → leb (trailingZeros w x) n ≡ some-to (bits x) n
+from-trailing w x n h = go (lowest w (bits x)) refl
   where
-    k : ℕ
-    k = trailingZeros w x
+    go : (o : Option ℕ) → lowest w (bits x) ≡ o → leb (trailingZeros w x) n ≡ some-to (bits x) n
+    go none e =
+        ap (λ (k : ℕ). leb k n) (trailing-none w x e) ∙ lt-leb w n h
+        ∙ sym (is-false (some-to (bits x) n) (λ t. let r = some-to-out (bits x) n t in lowest-none w (bits x) e (r .0) (omega (arith, r .1)) (r .2)))
+    go (some k) e =
+        let r = lowest-some w (bits x) e in
+        ap (λ (j : ℕ). leb j n) (trailing-some w x e) ∙ sym (some-to-least (record { member = r .1; none-below = r .2 }) n)
 
-    k-lt : k < w
-    k-lt = trailing-lt w h f
+-- The maxima of two words in a straight line: what is in either, from the trailing zeros of the one and then of the other on. Words of w bits,
+-- worked out in v bits, so that a shift by w is allowed.
+module _ (w v : ℕ) (wide : w ≤ v) (a b : ℕ) (h : a < 2 ^ w) (l : b < 2 ^ w) where
+  either-lt : bitOr a b < 2 ^ w
+  either-lt = or-lt w a b h l
 
-    low : (k < w) × T (bits x k) × ((j : ℕ) → j < k → T (bits x j) → ⊥)
-    low = lowest-some w (bits x) (lowest-there w h f)
+  above-lt : from-place v (bitOr a b) (trailingZeros w a) < 2 ^ w
+  above-lt = omega (arith, from-place-le v (lt-of-lt-of-le either-lt (pow-mono wide)) (trailingZeros w a), either-lt)
 
-    above : not (ltb n k) ≡ some-to (bits x) n
-    above = go (decLt n k)
-      where
-        go : Dec (n < k) → not (ltb n k) ≡ some-to (bits x) n
-        go (yes l) =
-            ap not (is-true (ltb n k) (lt→ltb n k l))
-            ∙ sym (is-false (some-to (bits x) n) (λ t. let r = some-to-out (bits x) n t in low .2 (r .0) (omega (arith, r .1)) (r .2)))
-        go (no l) =
-            ap not (is-false (ltb n k) (λ t. l (ltb→lt n k t)))
-            ∙ sym (is-true (some-to (bits x) n) (some-to-in (bits x) n (omega arith) (low .1)))
+  pub maxima-lt : from-place v (from-place v (bitOr a b) (trailingZeros w a)) (trailingZeros w b) < 2 ^ w
+  maxima-lt = omega (arith, from-place-le v (lt-of-lt-of-le above-lt (pow-mono wide)) (trailingZeros w b), above-lt)
 
--- The maxima of two words: a member of one with a member of the other at or below it.
-absorbed : (w : ℕ) {x : ℕ} (n : ℕ) (y : Bool) → x < 2 ^ w → (bits x n && (ltb n w && y)) ≡ (bits x n && y)
-absorbed w {x} n y h = go (decLt n w)
-  where
-    go : Dec (n < w) → (bits x n && (ltb n w && y)) ≡ (bits x n && y)
-    go (yes l) = ap (λ (b : Bool). bits x n && (b && y)) (is-true (ltb n w) (lt→ltb n w l))
-    go (no l) =
-        let e = bits-high w {a = x} {n = n} h (omega arith) in
-        ap (λ (b : Bool). b && (ltb n w && y)) e ∙ sym (ap (λ (b : Bool). b && y) e)
+  pub maxima-is : bits (from-place v (from-place v (bitOr a b) (trailingZeros w a)) (trailingZeros w b)) ≡ maxima (bits a) (bits b)
+  maxima-is = ext (λ n. placed n ∙ go n (decLt n w) ∙ sym (maxima-from (bits a) (bits b) n))
+    where
+      placed : (n : ℕ) → bits (from-place v (from-place v (bitOr a b) (trailingZeros w a)) (trailingZeros w b)) n
+          ≡ ((bits a n || bits b n) && (leb (trailingZeros w a) n && leb (trailingZeros w b) n))
+      placed n =
+          from-place-bits v (lt-of-lt-of-le above-lt (pow-mono wide)) (trailingZeros w b) n
+          ∙ ap (λ (x : Bool). x && leb (trailingZeros w b) n)
+          (from-place-bits v (lt-of-lt-of-le either-lt (pow-mono wide)) (trailingZeros w a) n ∙ ap (λ (x : Bool). x && leb (trailingZeros w a) n) (bits-or a b n))
+          ∙ and-assoc (bits a n || bits b n) (leb (trailingZeros w a) n) (leb (trailingZeros w b) n)
 
-pub maxima-is : (w a b u v : ℕ) → a < 2 ^ w → b < 2 ^ w → ((n : ℕ) → bits u n ≡ (ltb n w && some-to (bits b) n)) → ((n : ℕ) → bits v n ≡ (ltb n w && some-to (bits a) n))
-    → bits (bitOr (bitAnd a u) (bitAnd b v)) ≡ maxima (bits a) (bits b)
-unfolding maxima
-maxima-is w a b u v h l f g = ext go
-  where
-    side : (x y z n : ℕ) → x < 2 ^ w → ((m : ℕ) → bits z m ≡ (ltb m w && some-to (bits y) m)) → bits (bitAnd x z) n ≡ (bits x n && some-to (bits y) n)
-    side x y z n k q = bits-and x z n ∙ ap (λ (c : Bool). bits x n && c) (q n) ∙ absorbed w n (some-to (bits y) n) k
-
-    go : (n : ℕ) → bits (bitOr (bitAnd a u) (bitAnd b v)) n ≡ (bits a n && some-to (bits b) n || bits b n && some-to (bits a) n)
-    go n = bits-or (bitAnd a u) (bitAnd b v) n ∙ ap₂ (λ (p q : Bool). p || q) (side a b u n h f) (side b a v n l g)
+      go : (n : ℕ) → Dec (n < w) → ((bits a n || bits b n) && (leb (trailingZeros w a) n && leb (trailingZeros w b) n))
+          ≡ ((bits a n || bits b n) && (some-to (bits a) n && some-to (bits b) n))
+      go n (yes i) = ap (λ (x : Bool). (bits a n || bits b n) && x) (ap₂ _&&_ (from-trailing w a n i) (from-trailing w b n i))
+      go n (no i) = rw (bits-high w {a = a} {n = n} h (omega arith), bits-high w {a = b} {n = n} l (omega arith))

@@ -2,7 +2,7 @@
 use mathlib.Core.Bool.{Bool, true, false, not, cond, _&&_, _||_}
 use mathlib.Core.List.{List, [], _∷_, _++_}
 use mathlib.Core.Option.{Option, none, some}
-use Prim.Native.Nat.{ℕ, zero, suc, _+_}
+use Prim.Native.Nat.{ℕ, zero, suc, _+_, _<_}
 use lib.Dec.{T, eqb}
 
 -- A set of numbers says of each number whether it is a member.
@@ -39,6 +39,11 @@ some-to a (suc k) = some-to a k || a (suc k)
 unfoldable pub maxima : Numbers → Numbers → Numbers
 unfolding some-to
 maxima a b n = a n && some-to b n || b n && some-to a n
+
+-- k is the least member.
+pub record Least (a : Numbers) (k : ℕ) : Type 0 where
+  pub member : T (a k)
+  pub none-below : (m : ℕ) → m < k → T (a m) → ⊥
 
 -- What a trap does to a completion code: 0 and 2 become 0, 1 stays 1, k above 2 becomes k - 1.
 unfoldable pub down : ℕ → ℕ
