@@ -9,6 +9,7 @@ pub mod Runs
 pub mod SameLocals
 pub mod Reach
 pub mod RoundsEnd
+pub mod AnyOrder
 pub mod Reaction
 pub mod Ends
 pub mod LoopCodes

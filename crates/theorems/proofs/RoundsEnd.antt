@@ -23,12 +23,12 @@ use Rattle.theorems.specs.Reach.{Reached, at-first, settling, Final}
 use Rattle.theorems.proofs.Reach.{in-must, round-length, round-keeps, round-settles, decided}
 
 -- Statuses above others leave fewer undecided, or are the same.
-abbrev weight : Status → ℕ
+abbrev pub weight : Status → ℕ
 weight present = 0
 weight absent = 0
 weight unknown = 1
 
-weighed : (v : Status) (vs : List Status) → undecided (v ∷ vs) ≡ weight v + undecided vs
+pub weighed : (v : Status) (vs : List Status) → undecided (v ∷ vs) ≡ weight v + undecided vs
 unfolding undecided
 weighed present vs = omega arith
 weighed absent vs = omega arith
@@ -55,7 +55,7 @@ progress (v ∷ vs) (w ∷ ws) e f =
     go (inr a) (inl c) = let q = ap undecided c in inr (omega (arith, weighed v vs, weighed w ws))
     go (inr a) (inr c) = inr (omega (arith, weighed v vs, weighed w ws))
 
-undecided-begin : (n : ℕ) → undecided (replicate n unknown) ≡ n
+pub undecided-begin : (n : ℕ) → undecided (replicate n unknown) ≡ n
 unfolding undecided
 undecided-begin zero = refl
 undecided-begin (suc n) = let e = undecided-begin n in omega arith
