@@ -160,6 +160,13 @@ faults! {
         ExcerptOneRecord: "an excerpt holds only the statement's own record",
         ExcerptByTail: "an excerpt runs to the end of the block",
     }
+    ORDERS {
+        SettledByBeginning: "outputs are settled by the must and can of the beginning",
+        SettledUnderOpen: "an output is settled absent where it is not in can under open",
+        SettledUnasked: "an output that is not in must is settled absent",
+        SettledNeverAbsent: "no output is settled absent",
+        SettledTogether: "all justified outputs are settled in one step",
+    }
 }
 
 /// The greatest number allowed of each thing.
@@ -191,7 +198,7 @@ impl Limits {
     }
 }
 
-/// Every fault there is.
+/// Every fault of a call; those of settling are no call's.
 pub fn all_faults() -> Vec<Fault> {
     [RULES, CHECKS, LENT].concat()
 }

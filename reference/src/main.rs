@@ -20,6 +20,7 @@ mod known;
 mod loops;
 mod met;
 mod mutate;
+mod orders;
 mod proof;
 mod reaction;
 mod row;
@@ -44,6 +45,7 @@ use cases::Case;
 const USAGE: &str = "subcommands:
   worked            every worked case of the document
   coherence [SIZE]  the coherence law over all blocks up to SIZE statements (5)
+  orders [SIZE N SEED]  any order of settling, over all blocks up to SIZE statements (5) and N random ones (8000, seed 1)
   bite [CASES]      a case for each fault
   run FOLDER        the run program
   cases [CASES]     lines of calls with their complete answers
@@ -77,6 +79,7 @@ fn main() {
             proof::print_module(number(1, 100) as usize, number(2, 1));
             true
         }
+        Some("orders") => orders::print_orders(number(1, 5) as usize, number(2, 8000) as usize, number(3, 1)),
         Some("antt-bite") => antt::print_smallest(number(1, 1)),
         Some("selftest") => selftest::selftest(),
         Some("show") => calls::show(&one(&named(&words, 2), number(1, 0))),

@@ -26,19 +26,10 @@ pub struct Reaction {
 impl Rules {
     /// One instant of a block from a legal state with legal inputs.
     pub fn react(&self, block: &Block, phase: Phase, inputs: u64) -> Reaction {
-        // Finished runs as nothing.
         let nothing = Statement::lone_nothing();
-        let root = match phase {
-            Phase::Fresh => (&block.root, Run::Started),
-            Phase::Running(active) => (&block.root, Run::Resumed(active)),
-            Phase::Finished if self.planted(Fault::FinishedStartsAgain) => (&block.root, Run::Started),
-            Phase::Finished => (&nothing, Run::Started),
-        };
+        let root = self.root_of(block, phase, &nothing);
         let outputs = signal_bits(block.header.inputs, block.header.outputs);
-        // All outputs begin unknown; an input not given is absent.
-        let all_inputs = signal_bits(0, block.header.inputs);
-        let begin = Event { present: inputs, absent: all_inputs & !inputs };
-        let (mut e, rounds) = self.rounds(root, outputs, begin);
+        let (mut e, rounds) = self.rounds(root, outputs, begin_of(block, inputs));
         let mut must = self.must(root, e);
         if must.code.is_none() && self.planted(Fault::BothStatusesTried) {
             e = self.fitting(root, outputs, e);
@@ -46,6 +37,16 @@ impl Rules {
         }
         let kept = self.kept(root, e) | if self.planted(Fault::OldPausesKept) { active_of(phase) } else { 0 };
         self.told(phase, outputs, e, rounds, must, kept)
+    }
+
+    /// What runs in a phase; finished runs as nothing.
+    pub fn root_of<'a>(&self, block: &'a Block, phase: Phase, nothing: &'a Statement) -> Part<'a> {
+        match phase {
+            Phase::Fresh => (&block.root, Run::Started),
+            Phase::Running(active) => (&block.root, Run::Resumed(active)),
+            Phase::Finished if self.planted(Fault::FinishedStartsAgain) => (&block.root, Run::Started),
+            Phase::Finished => (nothing, Run::Started),
+        }
     }
 
     /// The last round is the first that changes nothing, and it is counted.
@@ -160,6 +161,11 @@ impl Rules {
         }
         if fits.len() == 1 { fits[0] } else { e }
     }
+}
+
+/// All outputs begin unknown; an input not given is absent.
+pub fn begin_of(block: &Block, inputs: u64) -> Event {
+    Event { present: inputs, absent: signal_bits(0, block.header.inputs) & !inputs }
 }
 
 pub fn active_of(phase: Phase) -> u128 {

@@ -11,20 +11,22 @@ use crate::edges::edge_blocks;
 use crate::fault::Fault;
 use crate::generate::{some_inputs, some_phase};
 use crate::mutate::some_mixed_block;
+use crate::orders::print_orders;
 use crate::sweep::{sweep, Counts};
 use crate::worked::print_worked;
 
-/// Worked cases, edges, coherence over all small and some random blocks, and the faults.
+/// Worked cases, edges, coherence and orders of settling over all small and some random blocks, and the faults.
 pub fn selftest() -> bool {
     let worked = print_worked();
     let edges = print_edges();
     let coherent = sweep(5).print();
     let random = random_coherence(20_000, 1).print();
+    let orders = print_orders(5, 8000, 1);
     let cases = cases(COUNT, &SEEDS);
     let kept = print_kept(&cases);
     let sorts = print_counts(&cases);
     let bites = print_bites(&cases, false);
-    worked && edges && coherent && random && kept && sorts && bites
+    worked && edges && coherent && random && orders && kept && sorts && bites
 }
 
 /// Whether cases written as bytes are read back as they were.
