@@ -6,11 +6,12 @@ use mathlib.Core.List.{List}
 use Prim.Native.Nat.{ℕ, _+_, _*_, _<_, max}
 use native.Mathlib.Omega.{arith}
 use lib.ListN.{getD}
+use Rattle.sets.specs.Numbers.{Numbers}
 use Rattle.sets.specs.Words.{bits}
 use Rattle.rules.specs.Statements.{depth, code}
 use Rattle.rules.specs.Events.{Status, present, absent, unknown, Event, giving}
 use Rattle.rules.specs.Instant.{Step, leave, test}
-use Rattle.rules.specs.MustCan.{Mark, plus, opened, Question, must, can, Given, nothing-known, either, caught, both, followed, onward, local-status, hidden, gives}
+use Rattle.rules.specs.MustCan.{Mark, plus, opened, Question, must, can, Given, nothing-known, either, caught, both, followed, onward, absence-asked, local-status, hidden, gives}
 use Rattle.block.specs.Table.{Table}
 use Rattle.evaluate.specs.declared.words.Heard.{Heard}
 use Rattle.evaluate.specs.declared.words.Told.{Told}
@@ -21,7 +22,7 @@ use Rattle.evaluate.specs.declared.form.Part.{Part}
 use Rattle.evaluate.specs.declared.form.Form.{Form}
 use Rattle.evaluate.specs.declared.form.Form.the-variants.{Done, Stay, Keep, Say, Leave, Test, Catch, Scope, Chain, Beside, Same}
 use Rattle.evaluate.specs.Words.{event-of, seen-as, given-of, quiet, loud}
-use Rattle.evaluate.specs.Forms.{Placed, Shows, Under, Formed}
+use Rattle.evaluate.specs.Forms.{Placed, Live, Shows, Under, Formed}
 use Rattle.evaluate.specs.Walks.{Followed, Hidden, Gives, Walked}
 
 -- The rules, as the questions meet them.
@@ -56,6 +57,21 @@ via-form h g = record { at = λ A l p d. g .at A l p (h .shows A l p d) }
 
 same-step : (k : Question) (e : Heard) {p q : Step} → p ≡ q → gives k q (event-of e) ≡ gives k p (event-of e)
 same-step k e h = ap (λ (y : Step). gives k y (event-of e)) (sym h)
+
+-- A local's status is settled, for a question, by its body with the signal unknown.
+pub record Settles (k : Question) (tab : Table) (live : List Bool) (s : ℕ) (p : Part) (u : Heard) (v : Status) : Type 0 where
+  pub at : s < 64 → (A : Numbers) → Live tab A live → (q : Step) → Shows tab A (Same p) q
+      → v ≡ local-status k s (gives must q (event-of u)) (gives (absence-asked k) q (event-of u))
+
+module _ {tab : Table} {live : List Bool} {s : ℕ} {p : Part} {u : Heard} {v : Status} {a : MustCan} where
+  -- Under plus both questions have the same status. Under open must is not known and not asked.
+  settles-must : (m : Mark) → m ≡ plus → Walked m tab live (Same p) u a → (s < 64 → v ≡ local-status (can m) s (given-of (a .must)) (given-of (a .can))) → Settles must tab live s p u v
+  settles-must plus q w st = record { at = λ l A h q d. st l ∙ ap₂ (local-status must s) (w .in-must refl .at A h q d) (w .in-can .at A h q d) }
+  settles-must opened q w st = absurd (let z : _≡_ {A = ℕ} 0 1 = cc in omega arith)
+
+  settles-can : (m : Mark) → Walked m tab live (Same p) u a → (s < 64 → v ≡ local-status (can m) s (given-of (a .must)) (given-of (a .can))) → Settles (can m) tab live s p u v
+  settles-can plus w st = record { at = λ l A h q d. st l ∙ ap₂ (local-status (can plus) s) (w .in-must refl .at A h q d) (w .in-can .at A h q d) }
+  settles-can opened w st = record { at = λ l A h q d. st l ∙ ap (local-status (can opened) s (gives must q (event-of u))) (w .in-can .at A h q d) }
 
 module _ {k : Question} {tab : Table} {live : List Bool} {e : Heard} {x : Told} where
   pub via-done : given-of x ≡ quiet 0 → Gives k tab live Done e x
@@ -117,18 +133,18 @@ module _ {k : Question} {tab : Table} {live : List Bool} {e : Heard} {x : Told} 
         r ∙ skipped (given-of a) (given-of b) j v ∙ ap (λ (y : Given). followed y j) (g .at A l (w .first) (w .left)) ∙ same-step k e (w .made);
   }
 
-  -- A local: its body with the signal unknown gives the status.
-  pub via-scope : {s : ℕ} {p : Part} {u h : Heard} {a : MustCan} {b : Told} (v : Status) → (s < 64 → given-of x ≡ hidden s (given-of b))
-      → (s < 64 → event-of u ≡ giving (event-of e) s unknown) → Walked plus tab live (Same p) u a → (s < 64 → v ≡ local-status k s (given-of (a .must)) (given-of (a .can)))
+  -- A local, with the status that its body with the signal unknown settles.
+  pub via-scope : {s : ℕ} {p : Part} {u h : Heard} {b : Told} (v : Status) → (s < 64 → given-of x ≡ hidden s (given-of b))
+      → (s < 64 → event-of u ≡ giving (event-of e) s unknown) → Settles k tab live s p u v
       → (s < 64 → event-of h ≡ giving (event-of e) s v) → Gives k tab live (Same p) h b → Gives k tab live (Scope s p) e x
   unfolding Shows gives
-  via-scope {s} v r uk wa st hv g = record {
+  via-scope {s} v r uk st hv g = record {
     at = λ A l p d.
         let w = d .1 in
-        let m = wa .in-must refl .at A l (w .inner) (w .does) ∙ ap (gives must (w .inner)) (uk (d .0)) in
-        let n = wa .in-can .at A l (w .inner) (w .does) ∙ ap (gives (can plus) (w .inner)) (uk (d .0)) in
+        let settled = st .at (d .0) A l (w .inner) (w .does)
+        ∙ ap (λ (U : Event). local-status k s (gives must (w .inner) U) (gives (absence-asked k) (w .inner) U)) (uk (d .0)) in
         r (d .0)
-        ∙ ap (hidden s) (g .at A l (w .inner) (w .does) ∙ ap (gives k (w .inner)) (hv (d .0) ∙ ap (giving (event-of e) s) (st (d .0) ∙ ap₂ (local-status k s) m n)))
+        ∙ ap (hidden s) (g .at A l (w .inner) (w .does) ∙ ap (gives k (w .inner)) (hv (d .0) ∙ ap (giving (event-of e) s) settled))
         ∙ same-step k e (w .made);
   }
 
@@ -189,22 +205,16 @@ walked-skip {a = a} {x = x} {y} f wa o s z = record {
 }
 
 -- A local, asked again under its mark, or not.
-as-must : (a : MustCan) (s : ℕ) {m : Mark} {v : Status} → (s < 64 → v ≡ local-status (can m) s (given-of (a .must)) (given-of (a .can))) → m ≡ plus → s < 64 → v ≡ local-status must s (given-of (a .must)) (given-of (a .can))
-as-must a s st h l = st l ∙ ap (λ (y : Mark). local-status (can y) s (given-of (a .must)) (given-of (a .can))) h
-
-module _ {m : Mark} {tab : Table} {live : List Bool} {e u : Heard} {s : ℕ} {p : Part} {a : MustCan} (v : Status) (doubt : s < 64 → event-of u ≡ giving (event-of e) s unknown) (wa : Walked plus tab live (Same p) u a)
-    (st : s < 64 → v ≡ local-status (can m) s (given-of (a .must)) (given-of (a .can))) where
+module _ {m : Mark} {tab : Table} {live : List Bool} {e u : Heard} {s : ℕ} {p : Part} {a : MustCan} (v : Status) (doubt : s < 64 → event-of u ≡ giving (event-of e) s unknown)
+    (wa : Walked m tab live (Same p) u a) (st : s < 64 → v ≡ local-status (can m) s (given-of (a .must)) (given-of (a .can))) where
   pub walked-local : {h : Heard} {b r : MustCan} → (s < 64 → Hidden r s b) → (s < 64 → event-of h ≡ giving (event-of e) s v) → Walked m tab live (Same p) h b → Walked m tab live (Scope s p) e r
   walked-local hid hv wb = record {
-    in-must = λ q. via-scope v (λ l. hid l .in-must) doubt wa (as-must a s st q) hv (wb .in-must q);
-    in-can = via-scope v (λ l. hid l .in-can) doubt wa st hv (wb .in-can);
+    in-must = λ q. via-scope v (λ l. hid l .in-must) doubt (settles-must m q wa st) hv (wb .in-must q);
+    in-can = via-scope v (λ l. hid l .in-can) doubt (settles-can m wa st) hv (wb .in-can);
   }
 
-  pub walked-same : {r : MustCan} → (s < 64 → Hidden r s a) → m ≡ plus → v ≡ unknown → Walked m tab live (Scope s p) e r
-  walked-same hid q w = record {
-    in-must = λ z. via-scope v (λ l. hid l .in-must) doubt wa (as-must a s st q) (λ l. doubt l ∙ ap (giving (event-of e) s) (sym w)) (wa .in-must refl);
-    in-can = via-scope v (λ l. hid l .in-can) doubt wa st (λ l. doubt l ∙ ap (giving (event-of e) s) (sym w)) (under (sym q) (wa .in-can));
-  }
+  pub walked-same : {r : MustCan} → (s < 64 → Hidden r s a) → v ≡ unknown → Walked m tab live (Scope s p) e r
+  walked-same hid w = walked-local hid (λ l. doubt l ∙ ap (giving (event-of e) s) (sym w)) wa
 
 -- A call on a part: the part is placed, and smaller. The measure is twice the size; a local's or a sequence's own walk is one above its parts'.
 module _ {tab : Table} {i t : ℕ} where

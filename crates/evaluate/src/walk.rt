@@ -117,7 +117,7 @@ pub(crate) fn must_can(
     }
 }
 
-// A local: its body under plus with the signal unknown, and once more unless that is the answer.
+// A local: its body under its own mark with the signal unknown, and once more unless that is the answer.
 fn must_can_local(
     kinds: &[u16; 512],
     operands: &[u16; 512],
@@ -132,9 +132,9 @@ fn must_can_local(
     ensures { λ r. ⌜ Walked (mark-of mark) (table (now (kinds .entry)) (now (operands .entry)) (now (sizes .entry))) (now (live .entry)) (Form.Scope s p) e r ⌝ }
 {
     let doubt = heard_with(e, s, Seen::Unknown);
-    let a = must_can(kinds, operands, sizes, live, Mark::Plus, p, doubt);
+    let a = must_can(kinds, operands, sizes, live, mark, p, doubt);
     let v = settled_for(mark, s, a);
-    if still_unknown(mark, v) {
+    if still_unknown(v) {
         return hidden(s, a);
     }
     let known = heard_with(e, s, v);

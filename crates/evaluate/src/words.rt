@@ -214,17 +214,14 @@ pub(crate) fn settled_for(mark: Mark, s: u16, a: MustCan) -> Seen
     }
 }
 
-// Whether a local's status is the one that its body was analysed with, under the same mark.
-pub(crate) fn still_unknown(mark: Mark, v: Seen) -> bool
-    ensures { λ r. ⌜ (r ≡ true → (mark ≡ Mark.Plus) × (v ≡ Seen.Unknown)) ⌝ }
+// Whether a local's status is the one that its body was analysed with.
+pub(crate) fn still_unknown(v: Seen) -> bool
+    ensures { λ r. ⌜ (r ≡ true → v ≡ Seen.Unknown) ⌝ }
 {
-    match mark {
-        Mark::Plus => match v {
-            Seen::Unknown => true,
-            Seen::Present => false,
-            Seen::Absent => false,
-        },
-        Mark::Open => false,
+    match v {
+        Seen::Unknown => true,
+        Seen::Present => false,
+        Seen::Absent => false,
     }
 }
 

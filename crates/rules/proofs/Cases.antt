@@ -23,11 +23,11 @@ pub record Told : Type 0 where
   pub phase : ℕ
   pub keeps : List ℕ
 
-abbrev pauses-of : Stmt → State → List ℕ
+abbrev pub pauses-of : Stmt → State → List ℕ
 unfolding members pauses active-of
 pauses-of p st = members (length (pauses p)) (active-of st)
 
-abbrev tell : Stmt → Answer → Told
+abbrev pub tell : Stmt → Answer → Told
 unfolding members pauses phase-of active-of undecided
 tell p (answered vs c st n) =
     record { refusal = 0; statuses = vs; undecided = undecided vs; code = c; rounds = n; phase = phase-of st; keeps = pauses-of p st }
@@ -50,7 +50,7 @@ abbrev pub active-on : List ℕ → State
 active-on ns = running (listed ns)
 
 -- The answer that the rules give to a row's instant, and the state that it leaves.
-abbrev reaction : Row → Answer
+abbrev pub reaction : Row → Answer
 unfolding react listed
 reaction r = react (record { inputs = r .inputs; outputs = r .outputs; body = r .body }) (r .begins) (listed (r .given))
 
@@ -58,11 +58,11 @@ abbrev pub answers : Row → Told
 unfolding react listed members pauses phase-of active-of undecided
 answers r = tell (r .body) (reaction r)
 
-abbrev left-by : Answer → State
+abbrev pub left-by : Answer → State
 left-by (answered vs c st n) = st
 left-by (not-constructive vs n) = fresh
 
-abbrev after : Row → State
+abbrev pub after : Row → State
 unfolding react listed
 after r = left-by (reaction r)
 
@@ -81,163 +81,155 @@ stuck vs u n = record { refusal = 13; statuses = vs; undecided = u; code = 0; ro
 -- The cases that document 01 marks, with their letters.
 
 -- nothing, no signals
-B : Row
+abbrev pub B : Row
 B = row 0 0 nothing fresh [] (ends [] 1)
 
 -- O is 0
-C : Row
+abbrev pub C : Row
 C = row 0 1 (present? 0 then emit 0 else nothing) fresh [] (stuck (unknown ∷ []) 1 1)
 
-E : Row
+abbrev pub E : Row
 E = row 0 1 (present? 0 then emit 0 else emit 0) fresh [] (stuck (unknown ∷ []) 1 1)
 
-F : Row
+abbrev pub F : Row
 F = row 0 1 ((present? 0 then nothing else nothing) ⨾ emit 0) fresh [] (stuck (unknown ∷ []) 1 1)
 
 -- O is 0, S is 1
-G : Row
+abbrev pub G : Row
 G = row 0 1
     (trap (local 1 (emit 1 ⨾ (present? 0 then ((present? 1 then (exit (depth 0)) else nothing) ⨾ emit 0) else nothing))))
     fresh [] (ends (absent ∷ []) 2)
 
 -- O is 0, N is 1, S is 2
-H-body : Stmt
+abbrev pub H-body : Stmt
 H-body = loop (local 2 ((present? 2 then emit 0 else emit 1) ⨾ pause 0 ⨾ emit 2))
 
-H-first : Row
-unfolding H-body
+abbrev pub H-first : Row
 H-first = row 0 2 H-body fresh [] (waits (absent ∷ present ∷ []) 2 (0 ∷ []))
 
 -- from the state that the first instant leaves
-H-second : Row
-unfolding H-first H-body
+abbrev pub H-second : Row
 H-second = row 0 2 H-body (after H-first) [] (waits (absent ∷ present ∷ []) 2 (0 ∷ []))
 
 -- O is 0
-J : Row
+abbrev pub J : Row
 J = row 0 1 (trap (exit (depth 0) parallel pause 0) ⨾ emit 0) fresh [] (ends (present ∷ []) 2)
 
 -- I is 0, A is 1, B is 2
-M : Row
+abbrev pub M : Row
 M = row 1 2
     (present? 0 then (present? 2 then emit 1 else nothing) else (present? 1 then emit 2 else nothing))
     fresh (0 ∷ []) (ends (absent ∷ absent ∷ []) 3)
 
 -- O is 0, S is 1, T is 2
-N : Row
+abbrev pub N : Row
 N = row 0 1
     (present? 0 then (local 1 (local 2 (emit 2 ⨾ (present? 2 then nothing else emit 1)) ⨾ (present? 1 then emit 0 else nothing))) else nothing)
-    fresh [] (ends (absent ∷ []) 2)
+    fresh [] (stuck (unknown ∷ []) 1 1)
 
 -- Cases of our own. Each tells the rules from a wrong one that all cases above would let pass.
 
 -- emits S and then, only if S is absent, O: under plus S is present and O cannot be emitted, under open it can
-says-both : ℕ → ℕ → Stmt
+abbrev pub says-both : ℕ → ℕ → Stmt
 says-both S O = local S (emit S ⨾ (present? S then nothing else emit O))
 
 -- a sequence's second part is not always under plus; O is 0, S is 1
-second-part-open : Row
-unfolding says-both
+abbrev pub second-part-open : Row
 second-part-open = row 0 1 ((present? 0 then nothing else nothing) ⨾ says-both 1 0) fresh [] (stuck (unknown ∷ []) 1 1)
 
 -- an unknown present does not keep its mark, and under open a local is not set present; O is 0, S is 1
-present-opens : Row
-unfolding says-both
+abbrev pub present-opens : Row
 present-opens = row 0 1 (present? 0 then (says-both 1 0) else nothing) fresh [] (stuck (unknown ∷ []) 1 1)
 
 -- an unknown suspend does not keep its mark; O is 0, S is 1
-suspend-opens : Row
-unfolding says-both
+abbrev pub suspend-opens : Row
 suspend-opens = row 0 1 (suspend (pause 0 ⨾ says-both 1 0) on 0) (active-on (0 ∷ [])) [] (stuck (unknown ∷ []) 1 1)
 
 -- a loop's restart does not keep the old mark; O is 0, S is 1
-restart-opens : Row
-unfolding says-both
+abbrev pub restart-opens : Row
 restart-opens =
     row 0 1 (loop (says-both 1 0 ⨾ pause 0 ⨾ (present? 0 then nothing else nothing))) (active-on (0 ∷ [])) [] (stuck (unknown ∷ []) 1 1)
 
 -- must asks for a local in can under plus, not under open; O is 0, S is 1, T is 2
-must-asks-plus : Row
-unfolding says-both
+abbrev pub must-asks-plus : Row
 must-asks-plus = row 0 1 (local 1 (says-both 2 1 ⨾ (present? 1 then nothing else emit 0))) fresh [] (ends (present ∷ []) 2)
 
 -- an unknown suspend has the code 1 besides: the inner trap may then end, and A is settled a round later; O is 0, A is 1
-suspend-may-stay : Row
+abbrev pub suspend-may-stay : Row
 suspend-may-stay = row 0 2
     (trap (trap ((suspend (pause 0 ⨾ exit (depth 1)) on 0) parallel (pause 1 ⨾ exit (depth 0))) ⨾ emit 1))
     (active-on (0 ∷ 1 ∷ [])) [] (ends (absent ∷ absent ∷ []) 3)
 
 -- suspend does not test when its body starts; I is 0, O is 1
-suspend-starts : Row
+abbrev pub suspend-starts : Row
 suspend-starts = row 1 1 (suspend (emit 1) on 0) fresh (0 ∷ []) (ends (present ∷ []) 2)
 
 -- nor does present test again on resuming
-present-resumes : Row
+abbrev pub present-resumes : Row
 present-resumes = row 1 1 (present? 0 then (pause 0 ⨾ emit 1) else nothing) (active-on (0 ∷ [])) [] (ends (present ∷ []) 2)
 
 -- a suspended body keeps its old set
-suspend-holds : Row
+abbrev pub suspend-holds : Row
 suspend-holds = row 1 1 (suspend (pause 0 ⨾ emit 1) on 0) (active-on (0 ∷ [])) (0 ∷ []) (waits (absent ∷ []) 2 (0 ∷ []))
 
 -- and only its own, not the whole active set; I is 0
-suspend-holds-its-own : Row
+abbrev pub suspend-holds-its-own : Row
 suspend-holds-its-own = row 1 0 ((suspend (pause 0) on 0) parallel pause 1) (active-on (0 ∷ 1 ∷ [])) (0 ∷ []) (waits [] 1 (0 ∷ []))
 
 -- a parallel left by an exit, and the trap around it, keep no pause: started, beside a pause that is kept, and resumed, before one
-exit-keeps-none : Row
+abbrev pub exit-keeps-none : Row
 exit-keeps-none = row 0 0 (trap (exit (depth 0) parallel pause 0) parallel pause 1) fresh [] (waits [] 1 (1 ∷ []))
 
-resumed-exit-keeps-none : Row
+abbrev pub resumed-exit-keeps-none : Row
 resumed-exit-keeps-none = row 0 0
     (trap ((pause 0 ⨾ exit (depth 0)) parallel (pause 1 ⨾ pause 2)) ⨾ pause 3)
     (active-on (0 ∷ 1 ∷ [])) [] (waits [] 1 (3 ∷ []))
 
 -- two pauses in parallel arms complete with 0, and an arm that is over gives 0
-both-arms : Row
+abbrev pub both-arms : Row
 both-arms = row 0 0 (pause 0 parallel pause 1) (active-on (0 ∷ 1 ∷ [])) [] (ends [] 1)
 
-one-arm : Row
+abbrev pub one-arm : Row
 one-arm = row 0 1 ((pause 0 ⨾ pause 1) parallel (pause 2 ⨾ emit 0)) (active-on (0 ∷ [])) [] (waits (absent ∷ []) 2 (1 ∷ []))
 
 -- an exit passes over one trap
-outer-trap : Row
+abbrev pub outer-trap : Row
 outer-trap = row 0 2 (trap (trap (exit (depth 1)) ⨾ emit 0) ⨾ emit 1) fresh [] (ends (absent ∷ present ∷ []) 2)
 
 -- no output, and still no code
-no-output : Row
+abbrev pub no-output : Row
 no-output = row 0 0 (local 0 (present? 0 then emit 0 else nothing)) fresh [] (stuck [] 0 1)
 
 -- an input that is not given is absent; I is 0, O is 1
-input-absent : Row
+abbrev pub input-absent : Row
 input-absent = row 1 1 (present? 0 then nothing else emit 1) fresh [] (ends (present ∷ []) 2)
 
 -- the active pause is not the first of its part; O is 0
-later-pause : Row
+abbrev pub later-pause : Row
 later-pause = row 0 1 ((pause 0 ⨾ pause 1) ⨾ emit 0) (active-on (1 ∷ [])) [] (ends (present ∷ []) 2)
 
 -- an active pause in an else branch; I is 0, O is 1
-else-resumes : Row
+abbrev pub else-resumes : Row
 else-resumes = row 1 1 ((present? 0 then nothing else pause 0) ⨾ emit 1) (active-on (0 ∷ [])) [] (ends (present ∷ []) 2)
 
 -- a local is executed with the status that must settles; S is 0
-local-present-keeps : Row
+abbrev pub local-present-keeps : Row
 local-present-keeps = row 0 0 (local 0 (emit 0 ⨾ (present? 0 then pause 0 else pause 1))) fresh [] (waits [] 1 (0 ∷ []))
 
-local-absent-keeps : Row
+abbrev pub local-absent-keeps : Row
 local-absent-keeps = row 0 0 (local 0 (present? 0 then pause 0 else pause 1)) fresh [] (waits [] 1 (1 ∷ []))
 
 -- one output is settled in each round; there are three of them
-outputs-plus-1 : Row
+abbrev pub outputs-plus-1 : Row
 outputs-plus-1 =
     row 0 3 ((present? 0 then emit 1 else nothing) ⨾ (present? 1 then emit 2 else nothing)) fresh []
     (ends (absent ∷ absent ∷ absent ∷ []) 4)
 
 -- finished runs as nothing
-over : Row
+abbrev pub over : Row
 over = row 0 1 (emit 0) finished [] (ends (absent ∷ []) 2)
 
-pub table : List Row
-unfolding B C E F G H-first H-second J M N second-part-open present-opens suspend-opens restart-opens must-asks-plus suspend-may-stay suspend-starts present-resumes suspend-holds suspend-holds-its-own exit-keeps-none resumed-exit-keeps-none both-arms one-arm outer-trap no-output input-absent later-pause else-resumes local-present-keeps local-absent-keeps outputs-plus-1 over
+abbrev pub table : List Row
 table =
     B ∷ C ∷ E ∷ F ∷ G ∷ H-first ∷ H-second ∷ J ∷ M ∷ N
     ∷ second-part-open ∷ present-opens ∷ suspend-opens ∷ restart-opens ∷ must-asks-plus ∷ suspend-may-stay
@@ -246,5 +238,5 @@ table =
     ∷ input-absent ∷ later-pause ∷ else-resumes ∷ local-present-keeps ∷ local-absent-keeps ∷ outputs-plus-1 ∷ over ∷ []
 
 pub worked : map answers table ≡ map (λ r. r .told) table
-unfolding table react listed members pauses phase-of active-of undecided gives kept started resumed any active held code marks round begin all-same settle final-of answer some-to maxima down downs lowest step next event
+unfolding react listed members pauses phase-of active-of undecided gives kept started resumed any active held code marks round begin all-same settle final-of answer some-to maxima down downs lowest step next event
 worked = refl

@@ -14,15 +14,15 @@ use Rattle.rules.specs.MustCan.{must, Given, choose, caught, both, follo
 pub record OneCode (g : Given) : Type 0 where
   pub equal : (c d : ℕ) → T (g .codes c) → T (g .codes d) → c ≡ d
 
-one-single : (a : Numbers) (k : ℕ) → OneCode (record { signals = a; codes = single k })
+pub one-single : (a : Numbers) (k : ℕ) → OneCode (record { signals = a; codes = single k })
 one-single a k = record { equal = λ c d s t. single-out k c s ∙ sym (single-out k d t) }
 
-one-choose : (v : Status) {p q : Given} → OneCode p → OneCode q → OneCode (choose must v p q p q)
+pub one-choose : (v : Status) {p q : Given} → OneCode p → OneCode q → OneCode (choose must v p q p q)
 one-choose present o r = o
 one-choose absent o r = r
 one-choose unknown o r = record { equal = λ c d s t. absurd s }
 
-one-caught : {a : Given} → OneCode a → OneCode (caught a)
+pub one-caught : {a : Given} → OneCode a → OneCode (caught a)
 one-caught {a} o = record { equal = go }
   where
     go : (c d : ℕ) → T (downs (a .codes) c) → T (downs (a .codes) d) → c ≡ d
@@ -31,11 +31,11 @@ one-caught {a} o = record { equal = go }
         let y = downs-out (a .codes) d t in
         sym (x .2) ∙ ap down (o .equal (x .0) (y .0) (x .1) (y .1)) ∙ y .2
 
-one-hidden : (s : ℕ) {a : Given} → OneCode a → OneCode (hidden s a)
+pub one-hidden : (s : ℕ) {a : Given} → OneCode a → OneCode (hidden s a)
 one-hidden s o = record { equal = o .equal }
 
 -- Where 0 is in the first's codes it is the only one, and only the second's are left.
-one-followed : {a b : Given} → OneCode a → OneCode b → OneCode (followed a b)
+pub one-followed : {a b : Given} → OneCode a → OneCode b → OneCode (followed a b)
 one-followed {a} {b} o p = record { equal = λ c d s t. go c d (union-out first second c s) (union-out first second d t) }
   where
     first : Numbers
@@ -54,7 +54,7 @@ one-followed {a} {b} o p = record { equal = λ c d s t. go c d (union-out first 
     go c d (inr s) (inl t) = absurd (clash d c t s)
     go c d (inr s) (inr t) = p .equal c d (only-if-member (a .codes 0) (b .codes) c s) (only-if-member (a .codes 0) (b .codes) d t)
 
-one-both : {a b : Given} → OneCode a → OneCode b → OneCode (both a b)
+pub one-both : {a b : Given} → OneCode a → OneCode b → OneCode (both a b)
 one-both {a} {b} o p = record { equal = go }
   where
     go : (c d : ℕ) → T (maxima (a .codes) (b .codes) c) → T (maxima (a .codes) (b .codes) d) → c ≡ d

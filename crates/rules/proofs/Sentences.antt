@@ -119,8 +119,8 @@ module _ (E : Event) where
     abbrev in-must : Option Numbers → Bool
     in-must w = gives must (doing w p) (giving E s unknown) .signals s
 
-    abbrev in-can : Option Numbers → Bool
-    in-can w = gives (can plus) (doing w p) (giving E s unknown) .signals s
+    abbrev in-can : Mark → Option Numbers → Bool
+    in-can m w = gives (can m) (doing w p) (giving E s unknown) .signals s
 
     -- the local's result is its body's with a status for s, and s removed
     abbrev body-with : Question → Status → Option Numbers → Given
@@ -132,12 +132,12 @@ module _ (E : Event) where
     must-local-present none m = rw m
     must-local-present (some A) m = rw m
 
-    must-local-absent : (w : Option Numbers) → in-must w ≡ false → in-can w ≡ false → gives must (doing w (local s p)) E ≡ body-with must absent w
+    must-local-absent : (w : Option Numbers) → in-must w ≡ false → in-can plus w ≡ false → gives must (doing w (local s p)) E ≡ body-with must absent w
     unfolding gives started resumed
     must-local-absent none m c = rw (m, c)
     must-local-absent (some A) m c = rw (m, c)
 
-    must-local-unknown : (w : Option Numbers) → in-must w ≡ false → in-can w ≡ true → gives must (doing w (local s p)) E ≡ body-with must unknown w
+    must-local-unknown : (w : Option Numbers) → in-must w ≡ false → in-can plus w ≡ true → gives must (doing w (local s p)) E ≡ body-with must unknown w
     unfolding gives started resumed
     must-local-unknown none m c = rw (m, c)
     must-local-unknown (some A) m c = rw (m, c)
@@ -148,26 +148,26 @@ module _ (E : Event) where
     plus-local-present none m = rw m
     plus-local-present (some A) m = rw m
 
-    -- under either mark: if s is not in the body's can under plus, under the same mark with s absent; else with s unknown
-    plus-local-absent : (w : Option Numbers) → in-must w ≡ false → in-can w ≡ false
+    -- under either mark: if s is not in the body's can under the mark at hand, under the same mark with s absent; else with s unknown
+    plus-local-absent : (w : Option Numbers) → in-must w ≡ false → in-can plus w ≡ false
         → gives (can plus) (doing w (local s p)) E ≡ body-with (can plus) absent w
     unfolding gives started resumed
     plus-local-absent none m c = rw (m, c)
     plus-local-absent (some A) m c = rw (m, c)
 
-    plus-local-unknown : (w : Option Numbers) → in-must w ≡ false → in-can w ≡ true
+    plus-local-unknown : (w : Option Numbers) → in-must w ≡ false → in-can plus w ≡ true
         → gives (can plus) (doing w (local s p)) E ≡ body-with (can plus) unknown w
     unfolding gives started resumed
     plus-local-unknown none m c = rw (m, c)
     plus-local-unknown (some A) m c = rw (m, c)
 
     -- under open, must is not asked: the same two cases whether or not s is in it
-    open-local-absent : (w : Option Numbers) → in-can w ≡ false → gives (can opened) (doing w (local s p)) E ≡ body-with (can opened) absent w
+    open-local-absent : (w : Option Numbers) → in-can opened w ≡ false → gives (can opened) (doing w (local s p)) E ≡ body-with (can opened) absent w
     unfolding gives started resumed
     open-local-absent none c = rw c
     open-local-absent (some A) c = rw c
 
-    open-local-unknown : (w : Option Numbers) → in-can w ≡ true → gives (can opened) (doing w (local s p)) E ≡ body-with (can opened) unknown w
+    open-local-unknown : (w : Option Numbers) → in-can opened w ≡ true → gives (can opened) (doing w (local s p)) E ≡ body-with (can opened) unknown w
     unfolding gives started resumed
     open-local-unknown none c = rw c
     open-local-unknown (some A) c = rw c

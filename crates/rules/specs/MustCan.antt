@@ -66,9 +66,10 @@ asks-must must = true
 asks-must (can plus) = true
 asks-must (can opened) = false
 
--- A local's signal is absent if it is not in the body's can under plus, also where the mark is open.
+-- A local's signal is absent if it is not in the body's can: can asks for that under the mark at hand, must under plus.
 abbrev pub absence-asked : Question → Question
-absence-asked k = can plus
+absence-asked must = can plus
+absence-asked (can m) = can m
 
 -- A status marked: present if in must, absent if not in can, else as it was.
 abbrev pub marked : Bool → Bool → Status → Status

@@ -19,6 +19,8 @@ pub mod Numbering
 pub mod Compatible
 pub mod NextLegal
 pub mod Instants
+pub mod Before
+pub mod BeforeCases
 pub mod Traces
 pub mod Example
 pub mod Demand3

@@ -36,7 +36,7 @@ Backed present m c = T m
 Backed absent m c = T c → ⊥
 Backed unknown m c = Unit {0}
 
-backed-below : (v : Status) (m c : Bool) → (T m → T c) → Backed v m c → Below v (marked m c v)
+pub backed-below : (v : Status) (m c : Bool) → (T m → T c) → Backed v m c → Below v (marked m c v)
 backed-below present true c f h = refl
 backed-below present false c f h = absurd h
 backed-below absent true c f h = absurd (h (f tt))
@@ -44,22 +44,22 @@ backed-below absent false true f h = refl
 backed-below absent false false f h = refl
 backed-below unknown m c f h = tt
 
-marked-backed : (v : Status) (m c : Bool) → Backed v m c → Backed (marked m c v) m c
+pub marked-backed : (v : Status) (m c : Bool) → Backed v m c → Backed (marked m c v) m c
 marked-backed v true c h = tt
 marked-backed v false true h = h
 marked-backed v false false h = λ t. t
 
-backed-later : (v : Status) (m c m′ c′ : Bool) → (T m → T m′) → (T c′ → T c) → Backed v m c → Backed v m′ c′
+pub backed-later : (v : Status) (m c m′ c′ : Bool) → (T m → T m′) → (T c′ → T c) → Backed v m c → Backed v m′ c′
 backed-later present m c m′ c′ f g h = f h
 backed-later absent m c m′ c′ f g h = λ t. h (g t)
 backed-later unknown m c m′ c′ f g h = tt
 
-marked-all : (v : Status) (m c : Bool) → (T m → T c) → (T c → T m) → marked m c v ≡ known m
+pub marked-all : (v : Status) (m c : Bool) → (T m → T c) → (T c → T m) → marked m c v ≡ known m
 marked-all v true c f g = refl
 marked-all v false true f g = absurd (g tt)
 marked-all v false false f g = refl
 
-marked-under : (v w : Status) (m c m′ c′ : Bool) → (T m → T m′) → (T c′ → T c) → (T m′ → T c′) → w ≡ marked m′ c′ w → Below v w → Below (marked m c v) w
+pub marked-under : (v w : Status) (m c m′ c′ : Bool) → (T m → T m′) → (T c′ → T c) → (T m′ → T c′) → w ≡ marked m′ c′ w → Below v w → Below (marked m c v) w
 marked-under v w true c true c′ f g h e l = e
 marked-under v w true c false c′ f g h e l = absurd (f tt)
 marked-under v w false true m′ c′ f g h e l = l

@@ -41,7 +41,7 @@ head-progress unknown present e = inr (le-refl 1)
 head-progress unknown absent e = inr (le-refl 1)
 head-progress unknown unknown e = inl refl
 
-progress : (vs ws : List Status) → length ws ≡ length vs → ((i : ℕ) → i < length vs → Below (getD vs i unknown) (getD ws i unknown))
+pub progress : (vs ws : List Status) → length ws ≡ length vs → ((i : ℕ) → i < length vs → Below (getD vs i unknown) (getD ws i unknown))
     → (ws ≡ vs) ⊎ (undecided ws < undecided vs)
 progress [] [] e f = inl refl
 progress [] (w ∷ ws) e f = absurd (suc-ne-zero (length ws) e)

@@ -308,7 +308,7 @@ must-can-local-hidden-requires : (t : ℕ) → must-can-local-lts.Need-hidden-re
 must-can-local-hidden-requires t c κs = tt
 
 must-can-local-returns : (t : ℕ) → must-can-local-lts.Need-returns (must-can-local-claims t) (must-can-local-at t) must-can-local.Post
-must-can-local-returns t c = walked-same (seen-as (c .before .before .before .settled-for .result)) (c .before .before .before .before .before .heard-with .ensures) (c .before .before .before .before .must-can .ensures) (c .before .before .before .settled-for .ensures) (c .hidden .ensures) (ap mark-of (c .before .before .still-unknown .ensures (c .before .if1 .taken) .0)) (ap seen-as (c .before .before .still-unknown .ensures (c .before .if1 .taken) .1))
+must-can-local-returns t c = walked-same (seen-as (c .before .before .before .settled-for .result)) (c .before .before .before .before .before .heard-with .ensures) (c .before .before .before .before .must-can .ensures) (c .before .before .before .settled-for .ensures) (c .hidden .ensures) (ap seen-as (c .before .before .still-unknown .ensures (c .before .if1 .taken)))
 
 must-can-local-heard-with-requires-2 : (t : ℕ) → must-can-local-lts.Need-heard-with-requires-2 (must-can-local-claims t) (must-can-local-at t) must-can-local.Post
 must-can-local-heard-with-requires-2 t c κs = tt

@@ -15,12 +15,6 @@ enum-told-2 c = search needs
 enum-told-3 : tie.Need-enum-told-3
 enum-told-3 c = search needs
 
-enum-told-4 : tie.Need-enum-told-4
-enum-told-4 c = search needs
-
-enum-told-5 : tie.Need-enum-told-5
-enum-told-5 c = search needs
-
 returns : tie.Need-returns
 returns c = search needs
 
@@ -30,9 +24,6 @@ returns-2 c = λ e. absurd (subst⁻¹ T e tt)
 returns-3 : tie.Need-returns-3
 returns-3 c = λ e. absurd (subst⁻¹ T e tt)
 
-returns-4 : tie.Need-returns-4
-returns-4 c = λ e. absurd (subst⁻¹ T e tt)
-
 pub still-unknown-spec : {M : Type 1} → statement M
 still-unknown-spec =
     tie.close
@@ -40,9 +31,6 @@ still-unknown-spec =
     enum-told
     enum-told-2
     enum-told-3
-    enum-told-4
-    enum-told-5
     returns
     returns-2
-    returns-3
-    returns-4)
+    returns-3)
