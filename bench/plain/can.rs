@@ -52,20 +52,14 @@ impl Table {
         one.then(self.can(second, false, still_plus, e))
     }
 
-    /// Present if the mark is plus and it is in the body's must, absent if it is not in the body's can under plus, else unknown.
+    /// Present if the mark is plus and it is in the body's must, absent if it is not in the body's can under the mark at hand, else unknown.
     fn can_local(&self, at: usize, resumed: bool, plus: bool, e: Event) -> Given {
         let s = self.rows[at].operand;
         if plus && self.must(at + 1, resumed, e).has(s) {
             return self.can(at + 1, resumed, true, e.with_present(s)).without(s);
         }
-        let unknown = self.can(at + 1, resumed, true, e);
-        let body = if !unknown.has(s) {
-            self.can(at + 1, resumed, plus, e.with_absent(s))
-        } else if plus {
-            unknown
-        } else {
-            self.can(at + 1, resumed, false, e)
-        };
+        let unknown = self.can(at + 1, resumed, plus, e);
+        let body = if unknown.has(s) { unknown } else { self.can(at + 1, resumed, plus, e.with_absent(s)) };
         body.without(s)
     }
 }

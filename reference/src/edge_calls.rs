@@ -28,7 +28,7 @@ pub fn edge_calls() -> Vec<EdgeCall> {
     calls
 }
 
-/// The worked instants by their letters, H twice, and the state cases: number, place, pair, present, absent, undecided, code, rounds, active.
+/// The worked instants by their letters, H twice, two that the rule of a local's absence changed, and the state cases: number, place, pair, present, absent, undecided, code, rounds, active.
 fn worked_calls() -> Vec<EdgeCall> {
     let undecided = "d 0 0 0 0 0 1 0 1 0";
     let settled = "0 0 0 0 0 0 0 0 2 0";
@@ -45,7 +45,9 @@ fn worked_calls() -> Vec<EdgeCall> {
         (0, 2, restarted, first, 0, held),
         (0, 1, "(seq (trap (par (exit 0) pause)) (emit 0))", fresh, 0, "0 0 0 0 1 0 0 0 2 0"),
         (1, 2, "(present 0 (present 2 (emit 1) nothing) (present 1 (emit 2) nothing))", fresh, 1, "0 0 0 0 0 0 0 0 3 0"),
-        (0, 1, NESTED, fresh, 0, settled),
+        (0, 1, NESTED, fresh, 0, undecided),
+        (0, 2, SLOWER, fresh, 0, "0 0 0 0 0 0 0 0 3 0"),
+        (0, 2, DARKER, fresh, 0, "d 0 0 0 0 0 2 0 1 0"),
         (0, 0, "(seq pause pause)", both, 0, "a 0 0 1"),
         (0, 0, "(par pause pause)", both, 0, "0 0 0 0 0 0 0 0 1 0"),
     ];
@@ -62,6 +64,12 @@ fn worked_calls() -> Vec<EdgeCall> {
 const GUARDED: &str = "(trap (local 1 (seq (emit 1) (present 0 (seq (present 1 (exit 0) nothing) (emit 0)) nothing))))";
 const NESTED: &str = "(present 0 (local 1 (seq (local 2 (seq (emit 2) (present 2 nothing (emit 1)))) \
                       (present 1 (emit 0) nothing))) nothing)";
+
+/// By the older rule of a local's absence the first took two rounds, and the second knew one output absent.
+const SLOWER: &str = "(present 0 nothing (local 2 (local 3 (seq (emit 3) (present 3 nothing \
+                      (present 2 (emit 1) (emit 2)))))))";
+const DARKER: &str = "(present 1 (emit 1) (local 2 (local 3 (seq (emit 3) (present 3 nothing \
+                      (present 2 (emit 0) (emit 2)))))))";
 
 /// State records with inputs: what each gets on a block of three pauses and one input.
 fn states() -> Vec<(Vec<u8>, u64, &'static str)> {

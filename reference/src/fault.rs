@@ -39,7 +39,7 @@ faults! {
         SecondAlwaysOpen: "a sequence's second part is always under open",
         RestartAlwaysPlus: "a loop's restart is always under plus",
         RestartAlwaysOpen: "a loop's restart is always under open",
-        AbsenceUnderOwnMark: "can asks for the absence of a local under its own mark",
+        AbsenceUnderPlus: "can asks for the absence of a local under plus even where the mark is open: the older rule",
         LocalPresentTakenOpen: "can with a local present is taken under open",
         LocalAbsentTakenPlus: "can with a local absent is taken under plus",
         LocalAbsentTakenOpen: "can with a local absent is taken under open",

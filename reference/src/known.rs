@@ -4,7 +4,7 @@ use crate::block::Token;
 use crate::text::read_statement;
 
 /// Inputs, outputs and statement.
-const KNOWN: [(u16, u16, &str); 17] = [
+const KNOWN: [(u16, u16, &str); 19] = [
     (0, 1, "(present 0 (emit 0) nothing)"),
     (0, 1, "(present 0 (emit 0) (emit 0))"),
     (0, 1, "(seq (present 0 nothing nothing) (emit 0))"),
@@ -27,8 +27,11 @@ const KNOWN: [(u16, u16, &str); 17] = [
             (local 2 (seq (emit 2) (present 2 nothing (emit 0)))))) nothing)"),
     // Must finds a local absent only because the one inside it is known present.
     (0, 0, "(local 0 (local 1 (seq (emit 1) (present 1 (present 0 pause pause) (emit 0)))))"),
-    // Under open, a local is absent because the one inside it is known present under plus.
+    // Under open, a local would be absent if the one inside it were taken as present, as under plus.
     (0, 1, "(present 0 nothing (local 1 (local 2 (seq (emit 2) (present 2 nothing (present 1 (emit 0) (emit 1)))))))"),
+    // The same beside another output, which is then absent later, or not at all.
+    (0, 2, "(present 0 nothing (local 2 (local 3 (seq (emit 3) (present 3 nothing (present 2 (emit 1) (emit 2)))))))"),
+    (0, 2, "(present 1 (emit 1) (local 2 (local 3 (seq (emit 3) (present 3 nothing (present 2 (emit 0) (emit 2)))))))"),
     // A held body that keeps the mark open.
     (0, 1, "(suspend 0 (seq pause (local 1 (seq (emit 1) (present 1 pause (emit 0))))))"),
 ];

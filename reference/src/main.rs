@@ -7,9 +7,12 @@ mod block;
 mod calls;
 mod cases;
 mod chance;
+mod circuit;
+mod circuits;
 mod codes;
 mod coherence;
 mod counts;
+mod double;
 mod edge_calls;
 mod edge_limits;
 mod edges;
@@ -20,6 +23,8 @@ mod known;
 mod loops;
 mod met;
 mod mutate;
+mod net;
+mod older;
 mod orders;
 mod proof;
 mod reaction;
@@ -46,6 +51,9 @@ const USAGE: &str = "subcommands:
   worked            every worked case of the document
   coherence [SIZE]  the coherence law over all blocks up to SIZE statements (5)
   orders [SIZE N SEED]  any order of settling, over all blocks up to SIZE statements (5) and N random ones (8000, seed 1)
+  older [N SEED]    N instants (40000, seed 1) beside the older rule of a local's absence
+  older-smallest SEED  the smallest block found for each way in which an instant was changed from that rule
+  circuits [N SEED] N random blocks (4000, seed 1) and all of up to 5 statements as circuits
   bite [CASES]      a case for each fault
   run FOLDER        the run program
   cases [CASES]     lines of calls with their complete answers
@@ -80,6 +88,9 @@ fn main() {
             true
         }
         Some("orders") => orders::print_orders(number(1, 5) as usize, number(2, 8000) as usize, number(3, 1)),
+        Some("older") => older::print_older(number(1, 40_000) as usize, number(2, 1)),
+        Some("older-smallest") => older::print_smallest(number(1, 1)),
+        Some("circuits") => circuits::print_circuits(5, number(1, 4000) as usize, number(2, 1)),
         Some("antt-bite") => antt::print_smallest(number(1, 1)),
         Some("selftest") => selftest::selftest(),
         Some("show") => calls::show(&one(&named(&words, 2), number(1, 0))),

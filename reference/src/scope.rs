@@ -44,7 +44,7 @@ impl Rules {
             let open = self.planted(Fault::LocalPresentTakenOpen);
             (if open { Mark::Open } else { Mark::Plus }, e.with_present(s))
         } else if self.set_absent(p, run, mark, e) {
-            // If s is not in the body's can under plus, can under the same mark with s absent.
+            // If s is not in the body's can under the mark at hand, can under that mark with s absent.
             (self.changed(mark, Fault::LocalAbsentTakenPlus, Fault::LocalAbsentTakenOpen), e.with_absent(s))
         } else {
             // Else under the same mark with s unknown.
@@ -59,9 +59,9 @@ impl Rules {
             && self.must((&p.parts[0], run), e).has(p.operand)
     }
 
-    /// The absence test is under plus even where the mark is open.
+    /// The absence test is under the mark at hand; the older rule asked under plus even where the mark is open.
     fn set_absent(&self, p: &Statement, run: Run, mark: Mark, e: Event) -> bool {
-        let mark = if self.planted(Fault::AbsenceUnderOwnMark) { mark } else { Mark::Plus };
+        let mark = if self.planted(Fault::AbsenceUnderPlus) { Mark::Plus } else { mark };
         !self.planted(Fault::LocalNeverAbsent) && !self.can((&p.parts[0], run), mark, e).has(p.operand)
     }
 

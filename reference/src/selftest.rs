@@ -5,28 +5,33 @@ use crate::block::{decode, encode};
 use crate::calls::{bytes, read, COUNT, SEEDS};
 use crate::cases::{cases, Case};
 use crate::chance::Chance;
+use crate::circuits::print_circuits;
 use crate::counts::print_counts;
 use crate::edge_calls::edge_calls;
 use crate::edges::edge_blocks;
 use crate::fault::Fault;
 use crate::generate::{some_inputs, some_phase};
 use crate::mutate::some_mixed_block;
+use crate::older::print_older;
 use crate::orders::print_orders;
 use crate::sweep::{sweep, Counts};
 use crate::worked::print_worked;
 
-/// Worked cases, edges, coherence and orders of settling over all small and some random blocks, and the faults.
+/// Worked cases, edges, coherence, orders of settling and circuits over all small and some random blocks, the older rule,
+/// and the faults.
 pub fn selftest() -> bool {
     let worked = print_worked();
     let edges = print_edges();
     let coherent = sweep(5).print();
     let random = random_coherence(20_000, 1).print();
     let orders = print_orders(5, 8000, 1);
+    let older = print_older(40_000, 1);
+    let circuits = print_circuits(5, 4000, 1);
     let cases = cases(COUNT, &SEEDS);
     let kept = print_kept(&cases);
     let sorts = print_counts(&cases);
     let bites = print_bites(&cases, false);
-    worked && edges && coherent && random && orders && kept && sorts && bites
+    worked && edges && coherent && random && orders && older && circuits && kept && sorts && bites
 }
 
 /// Whether cases written as bytes are read back as they were.

@@ -1,21 +1,23 @@
-//! Makes a row that tells a fault smaller while it still tells it.
+//! Makes a row that tells something smaller while it still tells it.
 
-use crate::block::{decode, encode_tokens, Form, Token};
+use crate::block::{decode, encode_tokens, Block, Form, Token};
 use crate::fault::Fault;
 use crate::row::{header_of, Row};
-use crate::smallest::telling_row;
+
+/// Gives a row of a block that tells what is looked for, if it has one.
+pub type Tells<'a> = &'a dyn Fn(&Block) -> Option<Row>;
 
 /// The row after every step that keeps it telling.
-pub fn shrunk(row: Row, fault: Fault) -> Row {
+pub fn shrunk(row: Row, tells: Tells) -> Row {
     let mut row = row;
-    while let Some(smaller) = step(&row, fault) {
+    while let Some(smaller) = step(&row, tells) {
         row = smaller;
     }
     row
 }
 
 /// One smaller row that still tells: a statement gives way to one of its parts, or to a leaf.
-fn step(row: &Row, fault: Fault) -> Option<Row> {
+fn step(row: &Row, tells: Tells) -> Option<Row> {
     for at in 0..row.tokens.len() {
         let end = end_of(&row.tokens, at);
         let mut instead: Vec<Vec<Token>> = Vec::new();
@@ -30,7 +32,7 @@ fn step(row: &Row, fault: Fault) -> Option<Row> {
         }
         for middle in instead {
             let tokens = [&row.tokens[..at], &middle[..], &row.tokens[end..]].concat();
-            if let Some(smaller) = tried(row.inputs, row.outputs, &tokens, fault) {
+            if let Some(smaller) = tried(row.inputs, row.outputs, &tokens, tells) {
                 return Some(smaller);
             }
         }
@@ -44,10 +46,10 @@ pub fn end_of(tokens: &[Token], at: usize) -> usize {
 }
 
 /// A row of these statements that tells, if they make a good block.
-fn tried(inputs: u16, outputs: u16, tokens: &[Token], fault: Fault) -> Option<Row> {
+fn tried(inputs: u16, outputs: u16, tokens: &[Token], tells: Tells) -> Option<Row> {
     let (inputs, outputs, tokens) = renumbered(inputs, outputs, tokens)?;
     let block = decode(&encode_tokens(header_of(inputs, outputs, &tokens), &tokens), Fault::None).ok()?;
-    telling_row(&block, fault)
+    tells(&block)
 }
 
 /// Drops signals that are not named and numbers the locals in preorder again.

@@ -118,5 +118,6 @@ fn random_row(fault: Fault, chance: &mut Chance) -> Option<Row> {
             break;
         }
     }
-    rows.into_iter().map(|row| shrunk(row, fault)).min_by_key(|row| row.tokens.len())
+    let tells = |block: &Block| telling_row(block, fault);
+    rows.into_iter().map(|row| shrunk(row, &tells)).min_by_key(|row| row.tokens.len())
 }

@@ -1,4 +1,4 @@
-//! Every worked instant, check, state case and the run example, against what the document says.
+//! Every worked instant, check, state case and the run example, against what the documents say.
 
 use crate::block::{decode, encode_tokens, EXIT, LIMIT, LOOP};
 use crate::coherence::{reactions, Slip};
@@ -25,8 +25,18 @@ const INSTANTS: [(&str, &str); 11] = [
     ("M", "1 | 2 | (present 0 (present 2 (emit 1) nothing) (present 1 (emit 2) nothing)) \
            | fresh | (0) | 0 AA 0 3 ..."),
     ("N", "0 | 1 | (present 0 (local 1 (seq (local 2 (seq (emit 2) (present 2 nothing (emit 1)))) \
-           (present 1 (emit 0) nothing))) nothing) | fresh | () | 0 A 0 2 ..."),
+           (present 1 (emit 0) nothing))) nothing) | fresh | () | 13 U 1 1"),
     ("parallel arms", "0 | 0 | (par (pause 0) (pause 1)) | (running 0 1) | () | 0 - 0 ..."),
+];
+
+/// What the rule of a local's absence under the mark at hand changed: name, row, and what it was by the older rule.
+/// The last two are the smallest blocks found that take more rounds, and that tell less in a 13.
+const CHANGED: [(&str, &str, &str); 3] = [
+    ("N", INSTANTS[9].1, "0 A 0 2 ..."),
+    ("more rounds", "0 | 2 | (present 0 nothing (local 2 (local 3 (seq (emit 3) (present 3 nothing \
+                     (present 2 (emit 1) (emit 2))))))) | fresh | () | 0 AA 0 3 finished ()", "0 AA 0 2 finished ()"),
+    ("less known", "0 | 2 | (present 1 (emit 1) (local 2 (local 3 (seq (emit 3) (present 3 nothing \
+                    (present 2 (emit 0) (emit 2))))))) | fresh | () | 13 UU 2 1", "13 AU 1 2"),
 ];
 
 /// Name, inputs, outputs, statement, the number it gets and its place.
@@ -53,6 +63,11 @@ pub fn worked_cases() -> Vec<(String, bool)> {
     for (name, text) in INSTANTS {
         let (row, column) = Row::read(text);
         cases.push((format!("instant {name}"), agrees(&column, &row.expected(Fault::None))));
+    }
+    for (name, text, before) in CHANGED {
+        let (row, column) = Row::read(text);
+        cases.push((format!("instant {name} now"), agrees(&column, &row.expected(Fault::None))));
+        cases.push((format!("instant {name} before"), agrees(before, &row.expected(Fault::AbsenceUnderPlus))));
     }
     cases.push(("E has one coherent reaction".to_string(), one_reaction(INSTANTS[2].1)));
     for (name, inputs, outputs, text, number, place) in CHECKS {

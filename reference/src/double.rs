@@ -1,0 +1,39 @@
+//! A block with each loop body in sequence with itself, and locals numbered anew.
+
+use crate::block::{decode, encode_tokens, Block, Form, Header, Statement, Token};
+use crate::fault::Fault;
+
+/// The doubled block, if it keeps within the limits.
+pub fn doubled(block: &Block) -> Option<Block> {
+    let first = block.header.inputs + block.header.outputs;
+    let mut doubling = Doubling { names: Vec::new(), next: first, tokens: Vec::new() };
+    doubling.put(&block.root);
+    let header = Header { locals: doubling.next - first, ..block.header };
+    decode(&encode_tokens(header, &doubling.tokens), Fault::None).ok()
+}
+
+struct Doubling {
+    /// The locals around, by their old and new numbers.
+    names: Vec<(u16, u16)>,
+    next: u16,
+    tokens: Vec<Token>,
+}
+
+impl Doubling {
+    fn put(&mut self, p: &Statement) {
+        if p.form == Form::Local {
+            self.names.push((p.operand, self.next));
+            self.next += 1;
+        }
+        let named = self.names.iter().find(|pair| p.form.names_signal() && pair.0 == p.operand);
+        self.tokens.push((p.form, named.map_or(p.operand, |pair| pair.1)));
+        if p.form == Form::Loop {
+            self.tokens.push((Form::Sequence, 0));
+            self.put(&p.parts[0]);
+        }
+        p.parts.iter().for_each(|part| self.put(part));
+        if p.form == Form::Local {
+            self.names.pop();
+        }
+    }
+}
