@@ -2,6 +2,7 @@
 -- old rules is seen to be faithful; and the smallest blocks known where something else than N's refusal changed. Assumes nothing.
 use mathlib.Core.Path.{_≡_, refl}
 use mathlib.Core.List.{List, [], _∷_, map}
+use Prim.Native.Nat.{ℕ}
 use lib.ListN.{getD, set}
 use Rattle.sets.specs.Numbers.{members, listed, some-to, maxima, down, downs, lowest}
 use Rattle.rules.specs.Statements.{code, Stmt, nothing, emit, present?_then_else_, _⨾_, local, pauses}
@@ -26,19 +27,20 @@ pub worked-before : map answered-before table ≡ set (map (λ r. r .told) table
 unfolding react-before react listed members pauses phase-of active-of undecided gives-by gives kept-before kept started resumed any active held code marks round-before round begin all-same settle-before settle final-of answer some-to maxima down downs lowest step next event
 worked-before = refl
 
--- O may be emitted only if the local T, surely emitted before the test, is absent.
-scoped : Stmt
-scoped = local 2 (local 3 (emit 3 ⨾ (present? 3 then nothing else emit 2)) ⨾ (present? 2 then emit 0 else nothing))
+-- The local T is surely emitted before it is tested, so that nothing in the test's other branch can happen. Under an undecided branch that shows only
+-- once the branch is decided; S is 2, T is 3.
+scoped : ℕ → Stmt
+scoped O = local 2 (local 3 (emit 3 ⨾ (present? 3 then nothing else (present? 2 then (emit O) else emit 2))))
 
--- Where an instant stays answered its rounds may grow; O is 0, A is 1, S is 2, T is 3.
+-- Where an instant stays answered its rounds may grow; the outputs are 0 and 1.
 grows : Row
 unfolding scoped
-grows = row 0 2 (present? 1 then scoped else nothing) fresh [] (ends (absent ∷ absent ∷ []) 3)
+grows = row 0 2 (present? 0 then nothing else scoped 1) fresh [] (ends (absent ∷ absent ∷ []) 3)
 
 -- What a 13 reports may change.
 reports : Row
 unfolding scoped
-reports = row 0 2 (present? 1 then scoped else emit 1) fresh [] (stuck (unknown ∷ unknown ∷ []) 2 1)
+reports = row 0 2 (present? 1 then (emit 1) else scoped 0) fresh [] (stuck (unknown ∷ unknown ∷ []) 2 1)
 
 changed : List Row
 unfolding grows reports
