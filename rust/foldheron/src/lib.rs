@@ -98,6 +98,10 @@ pub struct Logged {
     pub end: usize,
 }
 
+/// The version of the library's calls and records, as FOLDHERON_VERSION in `include/foldheron.h`.
+pub const VERSION: &str = "1.0.0";
+/// How many bytes a block has at most.
+pub const BLOCK_MOST: usize = 3086;
 /// How many bytes a state has.
 pub const STATE: usize = 22;
 /// How many bytes a log record has.
