@@ -110,9 +110,10 @@ fn value_of<'a>(option: &Opt, joined: Option<OsString>, rest: &mut impl Iterator
     }
 }
 
-/// The name that differs least from a word, by at most two letters.
+/// The name that differs least from a word: by two letters at most, and by less than half of it.
 pub fn nearest<'a>(word: &str, names: impl Iterator<Item = &'a str>) -> Option<&'a str> {
-    names.map(|name| (distance(word.as_bytes(), name.as_bytes()), name)).filter(|(far, _)| *far <= 2).min().map(|(_, name)| name)
+    let most = 2.min(word.len().saturating_sub(1) / 2);
+    names.map(|name| (distance(word.as_bytes(), name.as_bytes()), name)).filter(|(far, _)| *far <= most).min().map(|(_, name)| name)
 }
 
 /// How many letters have to be put in, left out or changed.

@@ -115,7 +115,7 @@ fn goes_on(block: &[u8], refusal: &Refusal) -> Option<Cause> {
     } else {
         "something was put behind it, perhaps a second file"
     };
-    cause(added, format!("without the last {} the block is good; fetch it again", counted(rest.len() as u64, "byte")))
+    cause(added, format!("fetch it again; without {} at its end the block is good", counted(rest.len() as u64, "byte")))
 }
 
 /// Input sets that stand where the block should: whole sets, and few enough inputs that the upper bytes of each are 0.

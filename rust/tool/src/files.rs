@@ -14,8 +14,13 @@ pub const STDIN: &str = "-";
 pub fn shown(path: &Path) -> String {
     match path.to_str() {
         Some(STDIN) => "standard input".to_string(),
-        _ => path.display().to_string(),
+        _ => printable(&path.to_string_lossy()),
     }
+}
+
+/// A text with ? for what would move the cursor of a terminal.
+pub fn printable(text: &str) -> String {
+    text.chars().map(|c| if c.is_control() { '?' } else { c }).collect()
 }
 
 pub fn open(path: &Path) -> io::Result<Box<dyn Read>> {

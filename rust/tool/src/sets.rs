@@ -8,8 +8,10 @@ pub const NONE: &str = "-";
 /// What stands in the place of the outputs of a refused instant.
 pub const UNKNOWN: &str = "x";
 
-/// A set's members, those marked with + that were not in the set before it, and after them those that went, marked with -.
-pub fn changed(set: u64, before: u64, name: impl Fn(usize) -> String) -> String {
+/// A set's members, those marked with + that were not in the set before it, and after them those that went, marked with -. Nothing is marked
+/// where it is not known what was before.
+pub fn changed(set: u64, before: Option<u64>, name: impl Fn(usize) -> String) -> String {
+    let before = before.unwrap_or(set);
     let came = |n: usize| if before >> n & 1 == 0 { "+" } else { "" };
     let mut words: Vec<String> = members(set).map(|n| format!("{}{}", came(n), name(n))).collect();
     words.extend(members(before & !set).map(|n| format!("-{}", name(n))));
@@ -21,11 +23,21 @@ pub fn changed(set: u64, before: u64, name: impl Fn(usize) -> String) -> String 
 
 /// A set's members as a list in a sentence.
 pub fn sentence(set: u64, name: impl Fn(usize) -> String) -> String {
-    match members(set).map(name).collect::<Vec<_>>().as_slice() {
+    listed(&members(set).map(name).collect::<Vec<_>>())
+}
+
+pub fn listed(words: &[String]) -> String {
+    match words {
         [] => "none".to_string(),
         [one] => one.clone(),
         [first @ .., last] => format!("{} and {}", first.join(", "), last),
     }
+}
+
+/// Pauses by their numbers.
+pub fn pauses(numbers: &[usize]) -> String {
+    let words: Vec<String> = numbers.iter().map(usize::to_string).collect();
+    format!("pause{} {}", if words.len() == 1 { "" } else { "s" }, listed(&words))
 }
 
 /// The input sets of a text: names between semicolons, `-` for a set without an input.
@@ -90,8 +102,8 @@ mod tests {
     #[test]
     fn told() {
         let name = |n: usize| format!("s{}", n);
-        assert_eq!(changed(0b1010, 0b0110, name), "s1 +s3 -s2");
-        assert_eq!(changed(0, 0, name), "-");
+        assert_eq!(changed(0b1010, Some(0b0110), name), "s1 +s3 -s2");
+        assert_eq!([changed(0, Some(0), name), changed(3, None, name)], ["-", "s0 s1"]);
         assert_eq!([sentence(0, name), sentence(1, name), sentence(7, name)], ["none", "s0", "s0, s1 and s2"]);
     }
 }

@@ -42,7 +42,7 @@ fn run(words: &Words, out: &mut Out) -> Outcome<Status> {
     };
     let path = Path::new(word);
     let mut reader = BufReader::new(files::open(path).map_err(|why| files::unread(path, &why))?);
-    let mut printer = Printer { labels: &labels, json: words.has("--json"), table: Table::new(columns(&labels, "record")), before: None };
+    let mut printer = Printer { labels: &labels, json: words.has("--json"), table: Table::new(columns(&labels, "record", false)), before: None };
     let mut number = 0;
     printer.begin(out)?;
     loop {
@@ -86,11 +86,10 @@ impl Printer<'_> {
             let object = Object::new().number("record", number).texts("inputs", &inputs).texts("outputs", &outputs);
             return out.line(&object.number("code", record.code).number("rounds", record.rounds).done());
         }
-        let (inputs, outputs) = self.before.map_or((0, 0), |before| (before.inputs, before.outputs));
         let cells = [
             number.to_string(),
-            changed(record.inputs, inputs, |n| labels.input(n)),
-            changed(record.outputs, outputs, |n| labels.output(n)),
+            changed(record.inputs, self.before.map(|before| before.inputs), |n| labels.input(n)),
+            changed(record.outputs, self.before.map(|before| before.outputs), |n| labels.output(n)),
             code(record.code),
             record.rounds.to_string(),
         ];

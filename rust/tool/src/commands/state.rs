@@ -8,6 +8,7 @@ use crate::layout::{begins_log_record, two, Header, State, HEAD, STATE, STATE_KI
 use crate::names;
 use crate::output::Out;
 use crate::refusal;
+use crate::sets::pauses;
 use crate::status::Status;
 use crate::tree;
 use crate::trouble::{Outcome, Trouble};
@@ -40,11 +41,11 @@ fn run(words: &Words, out: &mut Out) -> Outcome<Status> {
 /// The state of some bytes, where they can be a state of some block.
 fn read(path: &Path, bytes: &[u8]) -> Outcome<State> {
     let none = |why: String| Trouble::new(Status::of(9), format!("{}: refused with {}: {}", files::shown(path), refusal::title(9), why));
-    let state = State::of(bytes).ok_or_else(|| none(no_state(bytes)).advise(refusal::advice(9)))?;
+    let state = State::of(bytes).ok_or_else(|| none(no_state(bytes)).advise("a state is what foldheron run --to saves"))?;
     match (state.phase_name(), state.active) {
         (None, _) => Err(none(format!("its phase is {}, and there are 0, 1 and 2", state.phase))),
         (Some("running"), 0) => Err(none("it is running, and no pause is active".to_string())),
-        (Some(name @ ("fresh" | "finished")), active) if active != 0 => Err(none(format!("it is {}, and has {} active", name, active_words(&state)))),
+        (Some(name @ ("fresh" | "finished")), active) if active != 0 => Err(none(format!("it is {}, and has {} active", name, pauses(&state.pauses())))),
         _ => Ok(state),
     }
 }
@@ -73,16 +74,10 @@ fn no_state(bytes: &[u8]) -> String {
 fn in_words(state: &State) -> String {
     let name = state.phase_name().unwrap_or("");
     match name {
-        "running" => format!("running, {} active", active_words(state)),
+        "running" => format!("running, waits at {}", pauses(&state.pauses())),
         "finished" => "finished: every further instant ends with code 0 and no output".to_string(),
         _ => name.to_string(),
     }
-}
-
-fn active_words(state: &State) -> String {
-    let pauses = state.pauses();
-    let numbers: Vec<String> = pauses.iter().map(|n| n.to_string()).collect();
-    format!("pause{} {}", if pauses.len() == 1 { "" } else { "s" }, numbers.join(", "))
 }
 
 /// Why a block does not take a state as its own, if it does not: tried on a copy, without an input.

@@ -89,6 +89,11 @@ impl Asked {
         }
     }
 
+    /// Whether anything is read or printed in which a name can stand.
+    pub fn wants_names(&self) -> bool {
+        self.form != Some(Form::Plain) || self.expect.is_some() || self.inputs_file().is_none()
+    }
+
     /// Whether a missing file is empty, as it is for the run program.
     fn is_lenient(&self) -> bool {
         self.form == Some(Form::Plain)

@@ -1,9 +1,9 @@
 //! Comma-separated values: a head, then a line an instant. A refused instant has x for its outputs, code and active pauses.
 
-use super::style::{Step, Style, Tally};
+use super::style::{short, Step, Style, Tally};
 use crate::block::Report;
 use crate::labels::Labels;
-use crate::output::Out;
+use crate::output::{say, Out};
 use crate::sets::UNKNOWN;
 use crate::trouble::Outcome;
 use foldheron::Instant;
@@ -53,8 +53,11 @@ impl Style for Csv<'_> {
         out.line(&line)
     }
 
-    /// Inputs that end within a set are told by the status alone: a line that is no instant would be one too many.
-    fn end(&mut self, _tally: &Tally, _out: &mut Out) -> Outcome<()> {
+    /// Inputs that end within a set are told on standard error: here a line that is no instant would be one too many.
+    fn end(&mut self, tally: &Tally, _out: &mut Out) -> Outcome<()> {
+        if tally.short > 0 {
+            say(&[short(tally.short)]);
+        }
         Ok(())
     }
 

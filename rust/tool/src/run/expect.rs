@@ -56,7 +56,7 @@ impl<'a> Expect<'a> {
             self.lines += u64::from(got.is_some());
             return Ok(());
         }
-        let quoted = |line: Option<&str>, none: &str| line.map_or(none.to_string(), |line| format!("'{}'", line));
+        let quoted = |line: Option<&str>, none: &str| line.map_or(none.to_string(), |line| format!("'{}'", files::printable(line)));
         let said = format!("not as expected: line {} of {} is the first that differs", grouped(self.lines + 1), files::shown(&self.path));
         let trouble = Trouble::new(Status::NotExpected, said)
             .advise(format!("expected: {}", quoted(expected.as_deref(), "no line more")))

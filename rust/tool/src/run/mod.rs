@@ -62,7 +62,8 @@ fn run(words: &Words, out: &mut Out) -> Outcome<Status> {
     if let Err(why) = foldheron::check(&bytes) {
         return refused(&asked, &Report::of(&bytes, why), out);
     }
-    let block = block::checked(words, asked.block.clone(), bytes)?;
+    let path = asked.block.clone();
+    let block = if asked.wants_names() { block::checked(words, path, bytes)? } else { block::unnamed(path, bytes)? };
     let mut source = asked.source(&block)?;
     let mut kept = Kept::open(&asked, &block)?;
     let mut style = style::of(&asked, &block)?;

@@ -3,8 +3,10 @@
 use super::asked::{Asked, Form};
 use super::{csv::Csv, expect::Expect, json::Json, plain::Plain, words::Table};
 use crate::block::{Block, Report};
+use crate::layout::SET;
 use crate::output::Out;
 use crate::trouble::Outcome;
+use crate::walk::counted;
 use foldheron::Instant;
 
 /// One instant: its number from 1, its inputs, and the library's answer.
@@ -43,6 +45,11 @@ impl Tally {
     }
 }
 
+/// What is said of bytes that are left over.
+pub fn short(left: usize) -> String {
+    format!("the inputs end within a set: {} left over, and a set has {}", counted(left as u64, "byte"), SET)
+}
+
 pub trait Style {
     fn begin(&mut self, _out: &mut Out) -> Outcome<()> {
         Ok(())
@@ -56,7 +63,7 @@ pub trait Style {
 /// The style of a run: what is asked for, and the comparison with it.
 pub fn of<'a>(asked: &Asked, block: &'a Block) -> Outcome<Box<dyn Style + 'a>> {
     let form: Option<Box<dyn Style + 'a>> = asked.form().map(|form| match form {
-        Form::Table => Box::new(Table::new(&block.labels)) as Box<dyn Style + 'a>,
+        Form::Table => Box::new(Table::new(&block.labels, asked.from.is_none())) as Box<dyn Style + 'a>,
         Form::Plain => Box::new(Plain),
         Form::Csv => Box::new(Csv { labels: &block.labels }),
         Form::Json => Box::new(Json { labels: Some(&block.labels) }),

@@ -1,26 +1,26 @@
 //! The table that a person reads: inputs and outputs by name with what changed marked, and refusals in words.
 
-use super::style::{Step, Style, Tally};
+use super::style::{short, Step, Style, Tally};
 use crate::block::Report;
 use crate::labels::Labels;
 use crate::layout::State;
 use crate::output::Out;
 use crate::refusal;
-use crate::sets::{changed, sentence, UNKNOWN};
+use crate::sets::{changed, pauses, sentence, UNKNOWN};
 use crate::table::{self, Column, Side};
 use crate::trouble::Outcome;
 use crate::walk::{counted, grouped};
 use foldheron::{Doubt, Instant};
 
 /// A column of signals is at most so wide; a longer list pushes what is to its right.
-const WIDEST: usize = 36;
+const WIDEST: usize = 24;
 
 pub struct Table<'a> {
     labels: &'a Labels,
     table: table::Table,
     /// The inputs of the instant before, and the outputs of the last one that was answered.
-    inputs: u64,
-    outputs: u64,
+    inputs: Option<u64>,
+    outputs: Option<u64>,
 }
 
 /// The code with its word.
@@ -32,28 +32,32 @@ pub fn code(code: u16) -> String {
     }
 }
 
-/// The columns that a run and a log share: number, inputs, outputs, code, rounds.
-pub fn columns(labels: &Labels, first: &'static str) -> Vec<Column> {
+/// The columns of a run; a log has the same but for the pauses.
+pub fn columns(labels: &Labels, first: &'static str, has_pauses: bool) -> Vec<Column> {
     let wide = |range: std::ops::Range<usize>, least: usize| {
         let all: usize = range.map(|n| labels.signal(n).len() + 2).sum();
         all.saturating_sub(1).clamp(least, WIDEST)
     };
     let known = labels.signals() > 0;
     let least = if known { 7 } else { 16 };
-    vec![
+    let mut columns = vec![
         Column { title: first, width: 7, side: Side::Right },
         Column { title: "inputs", width: wide(labels.inputs(), least), side: Side::Left },
         Column { title: "outputs", width: wide(labels.outputs(), least), side: Side::Left },
         Column { title: "code", width: 7, side: Side::Left },
-        Column { title: "rounds", width: 6, side: Side::Right },
-    ]
+    ];
+    if has_pauses {
+        columns.push(Column { title: "pauses", width: 6, side: Side::Right });
+    }
+    columns.push(Column { title: "rounds", width: 6, side: Side::Right });
+    columns
 }
 
 impl<'a> Table<'a> {
-    pub fn new(labels: &'a Labels) -> Table<'a> {
-        let mut columns = columns(labels, "instant");
-        columns.push(Column { title: "pauses", width: 6, side: Side::Right });
-        Table { labels, table: table::Table::new(columns), inputs: 0, outputs: 0 }
+    /// The table of a run; from fresh nothing was present before it, and after a saved state nobody knows.
+    pub fn new(labels: &'a Labels, is_fresh: bool) -> Table<'a> {
+        let table = table::Table::new(columns(labels, "instant", true));
+        Table { labels, table, inputs: Some(0).filter(|_| is_fresh), outputs: Some(0).filter(|_| is_fresh) }
     }
 
     /// Why an instant was refused, in a line under its outputs.
@@ -95,7 +99,7 @@ impl Style for Table<'_> {
         let labels = self.labels;
         let number = step.number.to_string();
         let inputs = changed(step.inputs, self.inputs, |n| labels.input(n));
-        self.inputs = step.inputs;
+        self.inputs = Some(step.inputs);
         let reaction = match &step.answer {
             Instant::Answered(reaction) => reaction,
             refused => {
@@ -106,8 +110,8 @@ impl Style for Table<'_> {
         };
         let outputs = changed(reaction.present, self.outputs, |n| labels.output(n));
         let (rounds, active) = (reaction.rounds.to_string(), reaction.active.to_string());
-        self.outputs = reaction.present;
-        out.line(&self.table.row(&[&number, &inputs, &outputs, &code(reaction.code), &rounds, &active]))
+        self.outputs = Some(reaction.present);
+        out.line(&self.table.row(&[&number, &inputs, &outputs, &code(reaction.code), &active, &rounds]))
     }
 
     fn end(&mut self, tally: &Tally, out: &mut Out) -> Outcome<()> {
@@ -122,7 +126,7 @@ impl Style for Table<'_> {
             out.line("+ came, - went, x no outputs")?;
         }
         if tally.short > 0 {
-            out.line(&format!("the inputs end within a set: {} left over, and a set has 8", counted(tally.short as u64, "byte")))?;
+            out.line(&short(tally.short))?;
         }
         Ok(())
     }
@@ -135,10 +139,7 @@ impl Style for Table<'_> {
 /// The state in which a run leaves the block.
 fn after(state: &[u8]) -> String {
     match State::of(state) {
-        Some(state) if state.phase == 1 => {
-            let numbers: Vec<String> = state.pauses().iter().map(usize::to_string).collect();
-            format!("it waits at pause{} {}", if numbers.len() == 1 { "" } else { "s" }, numbers.join(", "))
-        }
+        Some(state) if state.phase == 1 => format!("it waits at {}", pauses(&state.pauses())),
         Some(state) if state.phase == 2 => "it has ended".to_string(),
         _ => "it has not begun".to_string(),
     }
