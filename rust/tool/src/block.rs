@@ -38,7 +38,7 @@ pub fn checked(words: &Words, path: PathBuf, bytes: Vec<u8>) -> Outcome<Block> {
 pub fn unnamed(path: PathBuf, bytes: Vec<u8>) -> Outcome<Block> {
     match check(&bytes) {
         Ok(summary) => Ok(Block { path, bytes, summary, labels: Labels::numbered(&summary) }),
-        Err(why) => Err(Trouble { status: Status::BlockRefused, lines: Report::of(&bytes, why).lines(&files::shown(&path)) }),
+        Err(why) => Err(Trouble { status: Status::BlockRefused, lines: Report::of(&path, &bytes, why).lines() }),
     }
 }
 
@@ -58,6 +58,7 @@ pub fn counts(summary: &Summary, bytes: usize) -> String {
 
 /// All that is said of a refused block.
 pub struct Report {
+    pub file: String,
     pub refusal: Refusal,
     pub statement: Option<usize>,
     pub record: String,
@@ -66,8 +67,9 @@ pub struct Report {
 }
 
 impl Report {
-    pub fn of(block: &[u8], why: Refusal) -> Report {
+    pub fn of(path: &Path, block: &[u8], why: Refusal) -> Report {
         Report {
+            file: files::shown(path),
             refusal: why,
             statement: refusal::statement_number(block, &why),
             record: refusal::record(block, why.place),
@@ -80,10 +82,10 @@ impl Report {
         self.cause.as_ref().map_or_else(|| refusal::advice(self.refusal.number).to_string(), |cause| cause.advice.clone())
     }
 
-    pub fn lines(&self, file: &str) -> Vec<String> {
+    pub fn lines(&self) -> Vec<String> {
         let statement = self.statement.map_or(String::new(), |number| format!(" (statement {})", number));
         let mut lines = vec![
-            format!("{}: refused with {}, at offset {}{}", file, refusal::title(self.refusal.number), self.refusal.place, statement),
+            format!("{}: refused with {}, at offset {}{}", self.file, refusal::title(self.refusal.number), self.refusal.place, statement),
             format!("there:         {}", self.record),
             format!("what is wrong: {}", self.wrong),
         ];

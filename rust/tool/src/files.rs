@@ -72,10 +72,18 @@ pub fn size(path: &Path) -> Option<u64> {
     std::fs::metadata(path).ok().filter(|about| about.is_file()).map(|about| about.len())
 }
 
-/// Whether two paths name one file that is there.
+/// Whether two paths name one file, be it there or not.
 pub fn same(a: &Path, b: &Path) -> bool {
-    match (a.canonicalize(), b.canonicalize()) {
-        (Ok(a), Ok(b)) => a == b,
-        _ => a == b,
-    }
+    real(a) == real(b)
+}
+
+/// A path without links and dots, as far as it is there.
+fn real(path: &Path) -> PathBuf {
+    path.canonicalize().unwrap_or_else(|_| match (path.parent(), path.file_name()) {
+        (Some(folder), Some(name)) => {
+            let folder = if folder == Path::new("") { Path::new(".") } else { folder };
+            folder.canonicalize().unwrap_or_else(|_| folder.to_path_buf()).join(name)
+        }
+        _ => path.to_path_buf(),
+    })
 }

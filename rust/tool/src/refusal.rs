@@ -102,21 +102,21 @@ fn limit(block: &[u8], walk: &Walk, at: usize) -> String {
     }
     if at == 0 {
         let signals = walk.header.map_or(0, |header| header.signals());
-        return format!("{} declared, and {} is the most", are(signals, "signal"), SIGNALS);
+        return format!("{} declared, and {} are the most", are(signals, "signal"), SIGNALS);
     }
     let around = &walk.around;
     let kind = two(block, at + 2).and_then(Kind::of).map_or("", |kind| kind.name);
-    let inside = |count: usize, noun: &str, most: usize| format!("{} inside each other, and {} is the most", counted(count as u64, noun), most);
+    let inside = |count: usize, noun: &str, most: usize| format!("{} inside each other, and {} are the most", counted(count as u64, noun), most);
     if walk.statements.len() >= STATEMENTS {
-        format!("this is statement number {}, and {} statements are the most", walk.statements.len(), STATEMENTS)
+        format!("this is the {}th statement, and {} are the most", walk.statements.len() + 1, STATEMENTS)
     } else if kind == "pause" && around.pauses >= PAUSES {
-        format!("this is pause number {}, and {} pauses are the most", around.pauses, PAUSES)
+        format!("this is the {}th pause, and {} are the most", around.pauses + 1, PAUSES)
     } else if kind == "trap" && around.count("trap") >= TRAPS {
         inside(around.count("trap") + 1, "trap", TRAPS)
     } else if kind == "local" && around.count("local") >= LOCALS {
         inside(around.count("local") + 1, "local", LOCALS)
     } else {
-        format!("{} statements on the way from the first to this one, and {} is the most", around.above.len() + 1, PATH)
+        format!("{} statements on the way from the first to this one, and {} are the most", around.above.len() + 1, PATH)
     }
 }
 
@@ -148,7 +148,7 @@ fn exit(block: &[u8], walk: &Walk, at: usize) -> String {
     let traps = walk.around.count("trap");
     match traps {
         0 => format!("exit of depth {} stands in no trap", depth),
-        _ => format!("exit of depth {} passes over as many traps, and {} around it", depth, are(traps, "trap")),
+        _ => format!("exit of depth {} needs {} traps around it, and {} there", depth, u32::from(depth) + 1, are(traps, "trap")),
     }
 }
 

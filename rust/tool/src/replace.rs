@@ -11,10 +11,7 @@ use std::time::{SystemTime, UNIX_EPOCH};
 
 /// Puts the bytes in the file's place.
 pub fn replace(path: &Path, bytes: &[u8]) -> Outcome<()> {
-    let failed = |why: io::Error| {
-        let said = format!("{} could not be written: {}", shown(path), reason(&why));
-        Trouble::new(Status::File, said).advise("it is as it was before")
-    };
+    let failed = |why: io::Error| unwritten(path, &why);
     let place = real_place(path).map_err(failed)?;
     let beside = beside(&place);
     let done = write_new(&beside, &place, bytes).and_then(|_| fs::rename(&beside, &place));
@@ -24,6 +21,28 @@ pub fn replace(path: &Path, bytes: &[u8]) -> Outcome<()> {
     done.map_err(failed)?;
     flush_folder(&place);
     Ok(())
+}
+
+/// Whether a file can stand there, as far as that can be told before.
+pub fn look(path: &Path) -> Outcome<()> {
+    let place = real_place(path).map_err(|why| unwritten(path, &why))?;
+    fs::metadata(folder_of(&place)).map_err(|why| unwritten(path, &why)).map(|_| ())
+}
+
+fn unwritten(path: &Path, why: &io::Error) -> Trouble {
+    let trouble = Trouble::new(Status::File, format!("{} could not be written: {}", shown(path), reason(why)));
+    if path.exists() {
+        trouble.advise("it is as it was before")
+    } else {
+        trouble
+    }
+}
+
+fn folder_of(place: &Path) -> &Path {
+    match place.parent() {
+        Some(folder) if folder != Path::new("") => folder,
+        _ => Path::new("."),
+    }
 }
 
 /// The file that a path stands for, behind links. Only a file is replaced: a device or a folder is not.
@@ -60,9 +79,5 @@ fn write_new(beside: &Path, place: &Path, bytes: &[u8]) -> io::Result<()> {
 
 /// That the name is on the disk too. Not every file system can say so, and the file is whole in either case.
 fn flush_folder(place: &Path) {
-    let folder = match place.parent() {
-        Some(folder) if folder != Path::new("") => folder,
-        _ => Path::new("."),
-    };
-    let _ = File::open(folder).and_then(|folder| folder.sync_all());
+    let _ = File::open(folder_of(place)).and_then(|folder| folder.sync_all());
 }

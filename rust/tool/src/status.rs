@@ -18,7 +18,7 @@ use Status::*;
 const MEANINGS: [(Status, u8, &str); 8] = [
     (Good, 0, "all good"),
     (BlockRefused, 1, "a block was refused (1 to 8)"),
-    (WrongCall, 2, "wrong call: nothing was read or written"),
+    (WrongCall, 2, "wrong call; nothing was written"),
     (InstantRefused, 3, "some instant, or the state it was to begin from, was refused (9 to 13)"),
     (Short, 4, "the inputs end within a set; every whole set was run"),
     (File, 5, "a file, or standard output, could not be read or written"),

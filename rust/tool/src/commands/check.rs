@@ -51,7 +51,7 @@ fn in_words(path: &Path, out: &mut Out) -> Outcome<Status> {
             Ok(Status::Good)
         }
         Err(why) => {
-            out.line(&Report::of(&bytes, why).lines(&name).join("\n  "))?;
+            out.line(&Report::of(path, &bytes, why).lines().join("\n  "))?;
             Ok(Status::BlockRefused)
         }
     }
@@ -63,7 +63,7 @@ fn as_json(path: &Path, out: &mut Out) -> Outcome<Status> {
         Err(trouble) => (object.flag("good", false).text("error", &trouble.lines[0]), trouble.status),
         Ok(bytes) => match check(&bytes) {
             Ok(summary) => (good(object, &summary, &bytes), Status::Good),
-            Err(why) => (refused(object, &Report::of(&bytes, why)), Status::BlockRefused),
+            Err(why) => (refused(&Report::of(path, &bytes, why)), Status::BlockRefused),
         },
     };
     out.line(&object.done())?;
@@ -84,9 +84,9 @@ fn good(object: Object, summary: &Summary, bytes: &[u8]) -> Object {
 }
 
 /// A refused block, here and in a run.
-pub fn refused(object: Object, report: &Report) -> Object {
+pub fn refused(report: &Report) -> Object {
     let why = report.refusal;
-    let object = object.flag("good", false).number("refusal", why.number).text("name", name_of(why.number).unwrap_or(""));
+    let object = Object::new().text("file", &report.file).flag("good", false).number("refusal", why.number).text("name", name_of(why.number).unwrap_or(""));
     let object = object.number("place", why.place as u64).text("record", &report.record).text("wrong", &report.wrong);
     let object = match &report.cause {
         Some(cause) => object.text("cause", &cause.what),

@@ -4,11 +4,11 @@ use super::Command;
 use crate::args::{with, Words};
 use crate::block::{self, Block};
 use crate::files;
-use crate::layout::{begins_log_record, two, Header, State, HEAD, STATE, STATE_KIND};
+use crate::layout::{begins_log_record, two, Header, State, HEAD, PAUSES, STATE, STATE_KIND};
 use crate::names;
 use crate::output::Out;
 use crate::refusal;
-use crate::sets::pauses;
+use crate::sets;
 use crate::status::Status;
 use crate::tree;
 use crate::trouble::{Outcome, Trouble};
@@ -40,18 +40,34 @@ fn run(words: &Words, out: &mut Out) -> Outcome<Status> {
 
 /// The state of some bytes, where they can be a state of some block.
 fn read(path: &Path, bytes: &[u8]) -> Outcome<State> {
-    let none = |why: String| Trouble::new(Status::of(9), format!("{}: refused with {}: {}", files::shown(path), refusal::title(9), why));
-    let state = State::of(bytes).ok_or_else(|| none(no_state(bytes)).advise("a state is what foldheron run --to saves"))?;
-    match (state.phase_name(), state.active) {
-        (None, _) => Err(none(format!("its phase is {}, and there are 0, 1 and 2", state.phase))),
-        (Some("running"), 0) => Err(none("it is running, and no pause is active".to_string())),
-        (Some(name @ ("fresh" | "finished")), active) if active != 0 => Err(none(format!("it is {}, and has {} active", name, pauses(&state.pauses())))),
-        _ => Ok(state),
+    let none = |why: String| {
+        let said = format!("{}: refused with {}: {}", files::shown(path), refusal::title(9), why);
+        Trouble::new(Status::of(9), said).advise("a state is what foldheron run --to saves")
+    };
+    match (State::of(bytes), no_state(bytes, PAUSES)) {
+        (Some(state), None) => Ok(state),
+        (_, why) => Err(none(why.unwrap_or_default())),
+    }
+}
+
+/// Why some bytes are no state of a block with so many pauses; none where they may be one.
+fn no_state(bytes: &[u8], pauses: usize) -> Option<String> {
+    let state = match State::of(bytes) {
+        Some(state) => state,
+        None => return Some(no_record(bytes)),
+    };
+    let active = state.pauses();
+    match (state.phase_name(), active.last()) {
+        (None, _) => Some(format!("its phase is {}, and there are 0, 1 and 2", state.phase)),
+        (_, Some(last)) if *last >= pauses => Some(format!("pause {} is active in it, and the block has {}", last, counted(pauses as u64, "pause"))),
+        (Some("running"), None) => Some("it is running, and no pause is active".to_string()),
+        (Some(name @ ("fresh" | "finished")), Some(_)) => Some(format!("it is {}, and has {} active", name, sets::pauses(&active))),
+        _ => None,
     }
 }
 
 /// Why some bytes are no state record.
-fn no_state(bytes: &[u8]) -> String {
+fn no_record(bytes: &[u8]) -> String {
     if bytes.is_empty() {
         return "the file is empty".to_string();
     }
@@ -74,24 +90,27 @@ fn no_state(bytes: &[u8]) -> String {
 fn in_words(state: &State) -> String {
     let name = state.phase_name().unwrap_or("");
     match name {
-        "running" => format!("running, waits at {}", pauses(&state.pauses())),
+        "running" => format!("running, waits at {}", sets::pauses(&state.pauses())),
         "finished" => "finished: every further instant ends with code 0 and no output".to_string(),
         _ => name.to_string(),
     }
 }
 
 /// Why a block does not take a state as its own, if it does not: tried on a copy, without an input.
-pub fn turned_down(block: &[u8], bytes: &[u8]) -> Option<(u16, String)> {
+pub fn turned_down(block: &Block, bytes: &[u8]) -> Option<(u16, String)> {
     let mut copy = bytes.to_vec();
-    match instant(block, &mut copy, 0) {
+    match instant(&block.bytes, &mut copy, 0) {
         Instant::Clash(first, second) => Some((10, format!("pauses {} and {} cannot be active together in this block", first, second))),
-        Instant::Refused(why) if why.number != 11 => Some((why.number, refusal::meaning(why.number))),
+        Instant::Refused(why) if why.number == 9 => {
+            Some((9, no_state(bytes, block.summary.pauses.into()).unwrap_or_else(|| refusal::meaning(9))))
+        }
+        Instant::Refused(why) => Some((why.number, refusal::meaning(why.number))),
         _ => None,
     }
 }
 
 fn with_block(bytes: &[u8], state: &State, block: &Block, out: &mut Out) -> Outcome<Status> {
-    if let Some((number, why)) = turned_down(&block.bytes, bytes) {
+    if let Some((number, why)) = turned_down(block, bytes) {
         let said = format!("{}: it is refused with {}: {}", files::shown(&block.path), refusal::title(number), why);
         return Err(Trouble::new(Status::of(number), said).advise(refusal::advice(number)));
     }

@@ -12,8 +12,8 @@ use crate::walk::{counted, grouped};
 use std::io::{BufRead, BufReader, Read};
 use std::path::{Path, PathBuf};
 
-/// A line that is longer is none of a run.
-const LONGEST: usize = 200;
+/// A line of a run is shorter.
+const LONGEST: usize = 126;
 
 pub struct Expect<'a> {
     path: PathBuf,
@@ -30,7 +30,7 @@ impl<'a> Expect<'a> {
         Ok(Expect { path: path.to_path_buf(), expected: BufReader::new(file), form, labels, lines: 0 })
     }
 
-    /// The next line that is expected, without its end; none at the end.
+    /// The next line that is expected, without its end, or as much of it as a line can have; none at the end.
     fn next(&mut self) -> Outcome<Option<String>> {
         let mut line = Vec::new();
         loop {
@@ -43,7 +43,7 @@ impl<'a> Expect<'a> {
             if last && line.is_empty() {
                 return Ok(None);
             }
-            if last || end.is_some() {
+            if last || end.is_some() || line.len() == LONGEST {
                 return Ok(Some(String::from_utf8_lossy(&line).trim_end_matches('\r').to_string()));
             }
         }

@@ -49,6 +49,6 @@ impl Style for Json<'_> {
     }
 
     fn refused(&mut self, report: &Report, out: &mut Out) -> Outcome<()> {
-        out.line(&check::refused(Object::new(), report).done())
+        out.line(&check::refused(report).done())
     }
 }

@@ -7,7 +7,7 @@ use crate::files;
 use crate::layout::{begins_state, HEAD, RECORD, STATE};
 use crate::log::Log;
 use crate::refusal;
-use crate::replace::replace;
+use crate::replace::{look, replace};
 use crate::status::Status;
 use crate::trouble::{Outcome, Trouble};
 use foldheron::{fresh, instant, instant_logged, Instant};
@@ -79,7 +79,7 @@ fn begun(block: &Block) -> Outcome<Vec<u8>> {
 /// The state of a file, which the block has to take.
 fn saved(path: &Path, block: &Block) -> Outcome<Vec<u8>> {
     let state = files::state(path)?;
-    match turned_down(&block.bytes, &state) {
+    match turned_down(block, &state) {
         None => Ok(state),
         Some((number, why)) => {
             let said = format!("the state in {} is refused with {}: {}", files::shown(path), refusal::title(number), why);
@@ -90,6 +90,7 @@ fn saved(path: &Path, block: &Block) -> Outcome<Vec<u8>> {
 
 /// A file that is there is replaced by a state only if it is one.
 fn may_be_replaced(path: &Path) -> Outcome<()> {
+    look(path)?;
     let length = match files::size(path) {
         None | Some(0) => return Ok(()),
         Some(length) => length,

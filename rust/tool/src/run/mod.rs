@@ -60,7 +60,7 @@ fn run(words: &Words, out: &mut Out) -> Outcome<Status> {
     let asked = Asked::of(words)?;
     let bytes = asked.block_bytes()?;
     if let Err(why) = foldheron::check(&bytes) {
-        return refused(&asked, &Report::of(&bytes, why), out);
+        return refused(&asked, &Report::of(&asked.block, &bytes, why), out);
     }
     let path = asked.block.clone();
     let block = if asked.wants_names() { block::checked(words, path, bytes)? } else { block::unnamed(path, bytes)? };
@@ -108,7 +108,7 @@ fn refused(asked: &Asked, report: &Report, out: &mut Out) -> Outcome<Status> {
         style.refused(report, out)?;
         return Ok(asked.refused_status());
     }
-    let mut trouble = Trouble { status: Status::BlockRefused, lines: report.lines(&files::shown(&asked.block)) };
+    let mut trouble = Trouble { status: Status::BlockRefused, lines: report.lines() };
     if let Some(inputs) = asked.inputs_file().filter(|inputs| block::is_good(inputs)) {
         trouble = trouble.advise(format!("but {} is a good block: the block and the inputs are swapped", files::shown(inputs)));
     }

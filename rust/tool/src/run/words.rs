@@ -12,8 +12,8 @@ use crate::trouble::Outcome;
 use crate::walk::{counted, grouped};
 use foldheron::{Doubt, Instant};
 
-/// A column of signals is at most so wide; a longer list pushes what is to its right.
-const WIDEST: usize = 24;
+/// A column of signals is at most so wide, so that the table has 80 columns; a longer list pushes what is to its right.
+const WIDEST: usize = 22;
 
 pub struct Table<'a> {
     labels: &'a Labels,
@@ -118,6 +118,7 @@ impl Style for Table<'_> {
         let refused: Vec<String> = tally.refused.iter().map(|(number, times)| format!("{} with {}", grouped(*times), refusal::title(*number))).collect();
         let answered = tally.instants - tally.refusals();
         let ends = match refused.as_slice() {
+            [] if tally.instants == 0 => "no instant was run".to_string(),
             [] => format!("{}, all answered", counted(tally.instants, "instant")),
             all => format!("{}: {} answered, refused {}", counted(tally.instants, "instant"), grouped(answered), all.join(", ")),
         };
