@@ -106,6 +106,10 @@ impl Style for Expect<'_> {
         self.compare(Some(&plain::line(step)))
     }
 
+    fn is_silent(&self) -> bool {
+        self.form.is_none()
+    }
+
     fn end(&mut self, tally: &Tally, out: &mut Out) -> Outcome<()> {
         if let Some(form) = self.form.as_mut() {
             form.end(tally, out)?;

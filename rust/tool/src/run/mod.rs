@@ -77,7 +77,7 @@ fn run(words: &Words, out: &mut Out) -> Outcome<Status> {
 /// Runs every set, and prints what its style says of it. Before the run waits for inputs, what is printed is written.
 fn all(block: &Block, source: &mut Source, kept: &mut Kept, style: &mut dyn Style, out: &mut Out) -> Outcome<Tally> {
     let mut tally = Tally::default();
-    let mut progress = Progress::new(source.total());
+    let mut progress = Progress::new(source.total(), style.is_silent());
     style.begin(out)?;
     loop {
         if !source.is_ready() {

@@ -1,4 +1,5 @@
-//! A line on standard error for a run that takes longer than a second, where a terminal shows it and the run itself is printed elsewhere.
+//! A line on standard error for a run that takes longer than a second, where a terminal shows it and the run itself is printed elsewhere or
+//! not at all.
 
 use crate::output::put_error;
 use crate::system;
@@ -17,8 +18,8 @@ pub struct Progress {
 }
 
 impl Progress {
-    pub fn new(total: Option<u64>) -> Progress {
-        let is_on = system::error_is_terminal() && !system::output_is_terminal();
+    pub fn new(total: Option<u64>, is_silent: bool) -> Progress {
+        let is_on = system::error_is_terminal() && (is_silent || !system::output_is_terminal());
         Progress { is_on, is_shown: false, total, last: Instant::now() }
     }
 
@@ -37,5 +38,13 @@ impl Progress {
         if self.is_shown {
             put_error("\r\x1b[K");
         }
+        self.is_shown = false;
+    }
+}
+
+/// A run that fails has its message on a line of its own.
+impl Drop for Progress {
+    fn drop(&mut self) {
+        self.done();
     }
 }

@@ -55,6 +55,10 @@ pub trait Style {
         Ok(())
     }
     fn step(&mut self, step: &Step, out: &mut Out) -> Outcome<()>;
+    /// Whether it prints nothing as long as all is well.
+    fn is_silent(&self) -> bool {
+        false
+    }
     fn end(&mut self, tally: &Tally, out: &mut Out) -> Outcome<()>;
     /// In the place of all this, where the block is refused.
     fn refused(&mut self, report: &Report, out: &mut Out) -> Outcome<()>;
