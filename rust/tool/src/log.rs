@@ -18,6 +18,8 @@ pub struct Log {
     file: File,
     /// How long it was before; none of what has no length, as a pipe.
     before: Option<u64>,
+    /// Whether it was not there before.
+    is_new: bool,
     kept: Vec<u8>,
 }
 
@@ -25,13 +27,14 @@ impl Log {
     /// Opens a log, or begins one. What is there has to be a log of whole records.
     pub fn open(path: &Path) -> Outcome<Log> {
         let failed = |why: io::Error| unwritten(path, &why);
+        let is_new = !path.exists();
         let mut file = OpenOptions::new().read(true).append(true).create(true).open(path).map_err(failed)?;
         let about = file.metadata().map_err(failed)?;
         let before = Some(about.len()).filter(|_| about.is_file());
         if let Some(length) = before {
             look_at(path, &mut file, length)?;
         }
-        Ok(Log { path: path.to_path_buf(), file, before, kept: Vec::with_capacity(KEPT * RECORD) })
+        Ok(Log { path: path.to_path_buf(), file, before, is_new, kept: Vec::with_capacity(KEPT * RECORD) })
     }
 
     pub fn append(&mut self, record: &[u8]) -> Outcome<()> {
@@ -59,6 +62,9 @@ impl Log {
 
     /// Takes back what this run wrote; answers how that went.
     pub fn take_back(self) -> String {
+        if self.is_new && std::fs::remove_file(&self.path).is_ok() {
+            return format!("{} was not there before, and is not now", shown(&self.path));
+        }
         match self.before.map(|length| self.file.set_len(length)) {
             Some(Ok(())) => format!("{} is as long as it was before", shown(&self.path)),
             Some(Err(why)) => format!("{} could not be cut back to its {}: {}", shown(&self.path), bytes(self.before), reason(&why)),

@@ -53,7 +53,8 @@ What is saved: the state is written beside STATE, flushed to the disk and put in
 instant; records are flushed before that. Killed at any moment, STATE holds the old state or the new one, whole. Killed between
 the two, the log has this run's records and STATE the old state: the log is ahead and never behind. To go on, run the same
 inputs again; their records then stand in the log twice. A record that was cut off by a kill is told by the next run with
---log, which writes nothing. A run that ends with 5 leaves STATE as it was, and the log as long as it was.
+--log, which writes nothing. A run that ends with 5 leaves STATE as it was, and the log as long as it was. Two runs at once on
+one STATE or one log are not kept apart.
 ";
 
 fn run(words: &Words, out: &mut Out) -> Outcome<Status> {
