@@ -1,7 +1,7 @@
 //! A log: records one after the other. Read one at a time, or appended to.
 
 use crate::files::{self, shown};
-use crate::layout::{begins_log_record, HEAD, RECORD};
+use crate::layout::{begins_log_record, HEAD, LOG_KIND, RECORD};
 use crate::status::Status;
 use crate::trouble::{reason, Outcome, Trouble};
 use crate::walk::{counted, grouped};
@@ -138,6 +138,6 @@ pub fn no_record(path: &Path, number: u64, record: &[u8]) -> Trouble {
     let at = (number - 1) * RECORD as u64;
     let said = format!("{}: record {}, at offset {}, is no log record", shown(path), grouped(number), grouped(at));
     Trouble::new(Status::Refused, said)
-        .advise(format!("it begins with {}, and a record with {:02X} 00 03 00: length {}, kind 3", bytes.join(" "), RECORD, RECORD))
+        .advise(format!("it begins with {}, and a record with {:02X} 00 {:02X} 00: length {}, kind {}", bytes.join(" "), RECORD, LOG_KIND, RECORD, LOG_KIND))
         .advise("look whether this is the log you mean; records after it cannot be told")
 }

@@ -29,7 +29,14 @@ use status::Status;
 use std::ffi::OsString;
 use trouble::{Outcome, Trouble};
 
+/// A fault of the program, or a library that is not the one it is for, ends with a status too.
+fn on_fault(said: &str) {
+    say(&["the program has a fault, or was built with another library than its own".to_string(), said.replace('\n', " ")]);
+    std::process::exit(Status::File.number().into());
+}
+
 fn main() {
+    std::panic::set_hook(Box::new(|info| on_fault(&info.to_string())));
     let words: Vec<OsString> = std::env::args_os().skip(1).collect();
     let mut out = Out::new();
     let ended = called(&words, &mut out).and_then(|status| out.flush().map(|_| status));

@@ -115,12 +115,12 @@ impl Style for Table<'_> {
     }
 
     fn end(&mut self, tally: &Tally, out: &mut Out) -> Outcome<()> {
-        let refused: Vec<String> = tally.refused.iter().map(|(number, times)| format!("{} with {}", grouped(*times), refusal::title(*number))).collect();
+        let refused: Vec<String> = tally.refused.iter().map(|(number, times)| format!("{} refused with {}", grouped(*times), refusal::title(*number))).collect();
         let answered = tally.instants - tally.refusals();
         let ends = match refused.as_slice() {
             [] if tally.instants == 0 => "no instant was run".to_string(),
             [] => format!("{}, all answered", counted(tally.instants, "instant")),
-            all => format!("{}: {} answered, refused {}", counted(tally.instants, "instant"), grouped(answered), all.join(", ")),
+            all => format!("{}: {} answered, {}", counted(tally.instants, "instant"), grouped(answered), all.join(", ")),
         };
         out.line(&format!("{}; {}", ends, after(&tally.state)))?;
         if tally.instants > 0 {
