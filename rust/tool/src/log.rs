@@ -2,6 +2,7 @@
 
 use crate::files::{self, shown};
 use crate::layout::{begins_log_record, HEAD, LOG_KIND, RECORD};
+use crate::replace::flush_folder;
 use crate::status::Status;
 use crate::trouble::{reason, Outcome, Trouble};
 use crate::walk::{counted, grouped};
@@ -54,6 +55,9 @@ impl Log {
     /// Writes what is kept, and sees that it is on the disk.
     pub fn flush(&mut self) -> Outcome<()> {
         self.write()?;
+        if self.is_new {
+            flush_folder(&self.path);
+        }
         match self.file.sync_data() {
             Err(why) if why.kind() != ErrorKind::InvalidInput => Err(unwritten(&self.path, &why)),
             _ => Ok(()),

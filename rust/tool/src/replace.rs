@@ -78,6 +78,6 @@ fn write_new(beside: &Path, place: &Path, bytes: &[u8]) -> io::Result<()> {
 }
 
 /// That the name is on the disk too. Not every file system can say so, and the file is whole in either case.
-fn flush_folder(place: &Path) {
+pub fn flush_folder(place: &Path) {
     let _ = File::open(folder_of(place)).and_then(|folder| folder.sync_all());
 }
