@@ -1,9 +1,10 @@
 /* Foldheron: kernel Esterel logic blocks, checked and run one instant at a time.
  *
- * The calls are those of a proved library for x86-64 Linux. `rt staticlib exports` proves it and writes
- * target/staticlib/libexports.a:
+ * The calls are those of a proved library for x86-64 Linux. `tools/archive` proves it and writes
+ * target/staticlib/libfoldheron.a; `tools/install PREFIX` puts it, this header and a pkg-config file in place:
  *
- *     gcc -I include program.c target/staticlib/libexports.a
+ *     gcc -I include program.c target/staticlib/libfoldheron.a
+ *     gcc program.c $(pkg-config --cflags --libs foldheron)
  *
  * What is proved of a call: for every block, state, log, number and answer length it ends, gives back the number and writes the
  * bytes that the definitions say, and reads and writes nothing beyond the lengths it is given. What the caller must see to, since
@@ -19,7 +20,8 @@
  *
  * Each call gives back the number of its refusal, 0 where it was not turned down, and writes its whole answer into lent bytes whose
  * count is fixed for the call: with any other count it gives back FOLDHERON_ANSWER and changes no byte of anything. An answer is a row of
- * numbers, 8 bytes each, little-endian; FOLDHERON_AT_ says at which byte each begins, and foldheron_number reads it. Every answer begins
+ * numbers, 8 bytes each, little-endian; FOLDHERON_AT_ says at which byte each begins, and foldheron_number reads it, or one of the
+ * foldheron_read_ functions at the end reads all of them into a struct. Every answer begins
  * with the refusal's number and its place: of 1 to 8 an offset in the block, else 0. Numbers that an answer does not name are 0.
  *
  * Statements and pauses are numbered each from 0, in the order in which they stand in the block.
@@ -33,6 +35,12 @@
 #ifdef __cplusplus
 extern "C" {
 #endif
+
+/* The version of the calls, the records and this header: the first number rises where a program has to change. */
+#define FOLDHERON_VERSION_MAJOR 1
+#define FOLDHERON_VERSION_MINOR 0
+#define FOLDHERON_VERSION_PATCH 0
+#define FOLDHERON_VERSION "1.0.0"
 
 /* The numbers of refusals, the first that applies in this order. 1 to 8, the block: every call; 9, the state: fresh and the instants; 10, 11
  * and 13: the instants; 12: the one with a log, before 13; 14: an excerpt. 64, the answer's bytes, comes before all of them. */
@@ -126,6 +134,87 @@ static inline uint64_t foldheron_number(const uint8_t *answer, size_t at)
     for (size_t byte = 8; byte > 0; byte--)
         number = number << 8 | answer[at + byte - 1];
     return number;
+}
+
+/* The name of a refusal's number, as the guide has it; NULL of a number that no call gives back, and of 0. */
+static inline const char *foldheron_name(unsigned number)
+{
+    static const char *const names[] = {"BROKEN", "KIND", "EDITION", "LIMIT", "SIGNAL", "EXIT", "SHAPE", "LOOP", "STATE", "CLASH",
+                                        "INPUT", "ROOM", "NOT CONSTRUCTIVE", "INDEX"};
+    if (number >= 1 && number <= sizeof names / sizeof names[0])
+        return names[number - 1];
+    return number == FOLDHERON_ANSWER ? "ANSWER" : NULL;
+}
+
+/* The answers as structs, with the names that stand at the calls above. Each is read from the bytes that a call wrote; after FOLDHERON_ANSWER
+ * it wrote none. */
+struct foldheron_check_answer {
+    uint16_t number;
+    size_t place;
+    uint16_t version, inputs, outputs, locals, statements, pauses;
+};
+
+struct foldheron_instant_answer {
+    uint16_t number;
+    size_t place;
+    uint16_t first, second;
+    uint64_t present, absent;
+    uint16_t undecided, rounds, code, active;
+    size_t end; /* of an instant with a log; else 0 */
+};
+
+struct foldheron_excerpt_answer {
+    uint16_t number;
+    size_t place, offset, count;
+};
+
+static inline struct foldheron_check_answer foldheron_read_check(const uint8_t *answer)
+{
+    struct foldheron_check_answer a;
+    a.number = (uint16_t)foldheron_number(answer, FOLDHERON_AT_NUMBER);
+    a.place = (size_t)foldheron_number(answer, FOLDHERON_AT_PLACE);
+    a.version = (uint16_t)foldheron_number(answer, FOLDHERON_AT_VERSION);
+    a.inputs = (uint16_t)foldheron_number(answer, FOLDHERON_AT_INPUTS);
+    a.outputs = (uint16_t)foldheron_number(answer, FOLDHERON_AT_OUTPUTS);
+    a.locals = (uint16_t)foldheron_number(answer, FOLDHERON_AT_LOCALS);
+    a.statements = (uint16_t)foldheron_number(answer, FOLDHERON_AT_STATEMENTS);
+    a.pauses = (uint16_t)foldheron_number(answer, FOLDHERON_AT_PAUSES);
+    return a;
+}
+
+static inline struct foldheron_instant_answer foldheron_read_instant(const uint8_t *answer)
+{
+    struct foldheron_instant_answer a;
+    a.number = (uint16_t)foldheron_number(answer, FOLDHERON_AT_NUMBER);
+    a.place = (size_t)foldheron_number(answer, FOLDHERON_AT_PLACE);
+    a.first = (uint16_t)foldheron_number(answer, FOLDHERON_AT_FIRST);
+    a.second = (uint16_t)foldheron_number(answer, FOLDHERON_AT_SECOND);
+    a.present = foldheron_number(answer, FOLDHERON_AT_PRESENT);
+    a.absent = foldheron_number(answer, FOLDHERON_AT_ABSENT);
+    a.undecided = (uint16_t)foldheron_number(answer, FOLDHERON_AT_UNDECIDED);
+    a.rounds = (uint16_t)foldheron_number(answer, FOLDHERON_AT_ROUNDS);
+    a.code = (uint16_t)foldheron_number(answer, FOLDHERON_AT_CODE);
+    a.active = (uint16_t)foldheron_number(answer, FOLDHERON_AT_ACTIVE);
+    a.end = 0;
+    return a;
+}
+
+/* The 88 bytes of an instant with a log. */
+static inline struct foldheron_instant_answer foldheron_read_logged(const uint8_t *answer)
+{
+    struct foldheron_instant_answer a = foldheron_read_instant(answer);
+    a.end = (size_t)foldheron_number(answer, FOLDHERON_AT_END);
+    return a;
+}
+
+static inline struct foldheron_excerpt_answer foldheron_read_excerpt(const uint8_t *answer)
+{
+    struct foldheron_excerpt_answer a;
+    a.number = (uint16_t)foldheron_number(answer, FOLDHERON_AT_NUMBER);
+    a.place = (size_t)foldheron_number(answer, FOLDHERON_AT_PLACE);
+    a.offset = (size_t)foldheron_number(answer, FOLDHERON_AT_OFFSET);
+    a.count = (size_t)foldheron_number(answer, FOLDHERON_AT_COUNT);
+    return a;
 }
 
 #ifdef __cplusplus

@@ -72,6 +72,34 @@ static void try_layout(void)
     EXPECT(FOLDHERON_BLOCK_MOST == 3086 && FOLDHERON_STATE_SIZE == 22 && FOLDHERON_RECORD_SIZE == 24);
 }
 
+/* The structs, against an answer whose n-th number is n; and the names, against document 01's table. */
+static void try_structs(void)
+{
+    uint8_t bytes[FOLDHERON_LOGGED_SIZE] = {0};
+    for (size_t n = 0; n < sizeof bytes / 8; n++)
+        bytes[8 * n] = (uint8_t)n;
+    struct foldheron_check_answer c = foldheron_read_check(bytes);
+    EXPECT(c.number == 0 && c.place == 1 && c.version == 2 && c.inputs == 3 && c.outputs == 4 && c.locals == 5);
+    EXPECT(c.statements == 6 && c.pauses == 7);
+    struct foldheron_instant_answer i = foldheron_read_instant(bytes), l = foldheron_read_logged(bytes);
+    EXPECT(i.number == 0 && i.place == 1 && i.first == 2 && i.second == 3 && i.present == 4 && i.absent == 5 && i.undecided == 6);
+    EXPECT(i.rounds == 7 && i.code == 8 && i.active == 9 && i.end == 0 && l.end == 10 && l.active == 9);
+    struct foldheron_excerpt_answer e = foldheron_read_excerpt(bytes);
+    EXPECT(e.number == 0 && e.place == 1 && e.offset == 2 && e.count == 3);
+}
+
+static void try_names(void)
+{
+    static const char *const names[] = {"BROKEN", "KIND", "EDITION", "LIMIT", "SIGNAL", "EXIT", "SHAPE", "LOOP", "STATE", "CLASH",
+                                        "INPUT", "ROOM", "NOT CONSTRUCTIVE", "INDEX"};
+    for (unsigned number = 0; number < 70000; number++) {
+        const char *wanted = number >= 1 && number <= 14 ? names[number - 1] : number == 64 ? "ANSWER" : NULL, *name = foldheron_name(number);
+        EXPECT(wanted == NULL ? name == NULL : name != NULL && strcmp(name, wanted) == 0);
+    }
+    EXPECT(strcmp(FOLDHERON_VERSION, "1.0.0") == 0);
+    EXPECT(FOLDHERON_VERSION_MAJOR == 1 && FOLDHERON_VERSION_MINOR == 0 && FOLDHERON_VERSION_PATCH == 0);
+}
+
 static void try_check(void)
 {
     static const uint64_t good[] = {0, 0, 7, 1, 1, 0, 4, 1}, cut[] = {1, 28, 0, 0, 0, 0, 0, 0};
@@ -158,6 +186,8 @@ static void try_excerpt(void)
 int main(void)
 {
     try_layout();
+    try_structs();
+    try_names();
     try_check();
     try_fresh();
     try_instant();

@@ -29,12 +29,11 @@ static FILE *open_file(const char *folder, const char *name, char *path, size_t 
 /* One instant, and its line. Refused, the state is as it was, and the next instant goes on from there. */
 static void run_instant(const uint8_t *block, size_t block_size, uint8_t *state, uint64_t inputs, uint64_t number)
 {
-    uint8_t answer[FOLDHERON_INSTANT_SIZE];
-    unsigned refusal = foldheron_instant(block, block_size, state, FOLDHERON_STATE_SIZE, inputs, answer, sizeof answer);
-    size_t at_count = refusal == FOLDHERON_NOT_CONSTRUCTIVE ? FOLDHERON_AT_UNDECIDED : FOLDHERON_AT_ACTIVE;
-    printf("%" PRIu64 " %u %" PRIu64 " %" PRIu64 " %" PRIu64 " %" PRIu64 "\n", number, refusal,
-           foldheron_number(answer, FOLDHERON_AT_CODE), foldheron_number(answer, FOLDHERON_AT_PRESENT),
-           foldheron_number(answer, at_count), foldheron_number(answer, FOLDHERON_AT_ROUNDS));
+    uint8_t bytes[FOLDHERON_INSTANT_SIZE];
+    foldheron_instant(block, block_size, state, FOLDHERON_STATE_SIZE, inputs, bytes, sizeof bytes);
+    struct foldheron_instant_answer answer = foldheron_read_instant(bytes);
+    unsigned count = answer.number == FOLDHERON_NOT_CONSTRUCTIVE ? answer.undecided : answer.active;
+    printf("%" PRIu64 " %u %u %" PRIu64 " %u %u\n", number, answer.number, answer.code, answer.present, count, answer.rounds);
 }
 
 /* Every set of inputs in the file, 8 bytes each, from fresh. */

@@ -1,10 +1,10 @@
-//! Links the archive for who builds with Cargo: FOLDHERON_ARCHIVE names the folder that holds libexports.a. With rustc alone this is not
+//! Links the archive for who builds with Cargo: FOLDHERON_ARCHIVE names the folder that holds libfoldheron.a. With rustc alone this is not
 //! run, and the archive is named on the command line.
 
 use std::path::Path;
 
-const WANTED: &str = "FOLDHERON_ARCHIVE must be the full path of the folder that holds libexports.a; \
-                      `rt staticlib exports` writes it to target/staticlib";
+const WANTED: &str = "FOLDHERON_ARCHIVE must be the full path of the folder that holds libfoldheron.a; \
+                      `tools/archive` proves it and writes it to target/staticlib";
 
 /// The folder that the variable names, or what is wrong with it.
 fn folder() -> Result<String, String> {
@@ -20,9 +20,9 @@ fn folder() -> Result<String, String> {
     if path.is_file() {
         return Err(format!("it is '{}', which is a file", folder));
     }
-    match std::fs::File::open(path.join("libexports.a")) {
+    match std::fs::File::open(path.join("libfoldheron.a")) {
         Ok(_) => Ok(folder),
-        Err(why) => Err(format!("it is '{}', and libexports.a cannot be read there: {}", folder, why)),
+        Err(why) => Err(format!("it is '{}', and libfoldheron.a cannot be read there: {}", folder, why)),
     }
 }
 
@@ -30,9 +30,9 @@ fn main() {
     println!("cargo:rerun-if-env-changed=FOLDHERON_ARCHIVE");
     match folder() {
         Ok(folder) => {
-            println!("cargo:rerun-if-changed={}/libexports.a", folder);
+            println!("cargo:rerun-if-changed={}/libfoldheron.a", folder);
             println!("cargo:rustc-link-search=native={}", folder);
-            println!("cargo:rustc-link-lib=static=exports");
+            println!("cargo:rustc-link-lib=static=foldheron");
         }
         Err(why) => {
             eprintln!("{} ({})", WANTED, why);

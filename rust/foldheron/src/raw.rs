@@ -20,7 +20,7 @@ extern "C" {
 
 /// The answer, which begins with the number that was given back. It does not where the archive asks for answers of another length.
 fn told<const N: usize>(number: u16, answer: [u8; N]) -> [u8; N] {
-    assert_eq!([answer[0], answer[1]], number.to_le_bytes(), "libexports.a is not the archive that this wrapper is for");
+    assert_eq!([answer[0], answer[1]], number.to_le_bytes(), "libfoldheron.a is not the archive that this wrapper is for");
     answer
 }
 

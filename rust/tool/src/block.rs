@@ -1,0 +1,103 @@
+//! A block that a command is given: its bytes, and either its counts and what its signals are called, or why it is refused, in words.
+
+use crate::args::Words;
+use crate::cause::{likely, Cause};
+use crate::files;
+use crate::labels::Labels;
+use crate::names;
+use crate::refusal;
+use crate::status::Status;
+use crate::trouble::{Outcome, Trouble};
+use crate::walk::counted;
+use foldheron::{check, Refusal, Summary};
+use std::ffi::OsStr;
+use std::path::{Path, PathBuf};
+
+pub struct Block {
+    pub path: PathBuf,
+    pub bytes: Vec<u8>,
+    pub summary: Summary,
+    pub labels: Labels,
+}
+
+/// Reads the block that a word names, and its names. A refused one ends the command.
+pub fn load(words: &Words, word: &OsStr) -> Outcome<Block> {
+    let path = files::block_path(word);
+    let bytes = files::block(&path)?;
+    checked(words, path, bytes)
+}
+
+/// The same of a block that is read already.
+pub fn checked(words: &Words, path: PathBuf, bytes: Vec<u8>) -> Outcome<Block> {
+    let mut block = unnamed(path, bytes)?;
+    block.labels = names::labels(words, &block.path, &block.bytes, &block.summary)?;
+    Ok(block)
+}
+
+/// The same without a look at its names.
+pub fn unnamed(path: PathBuf, bytes: Vec<u8>) -> Outcome<Block> {
+    match check(&bytes) {
+        Ok(summary) => Ok(Block { path, bytes, summary, labels: Labels::numbered(&summary) }),
+        Err(why) => Err(Trouble { status: Status::BlockRefused, lines: Report::of(&path, &bytes, why).lines() }),
+    }
+}
+
+/// The counts of a good block in words.
+pub fn counts(summary: &Summary, bytes: usize) -> String {
+    let numbers = [
+        (u64::from(summary.inputs), "input"),
+        (summary.outputs.into(), "output"),
+        (summary.locals.into(), "local"),
+        (summary.statements.into(), "statement"),
+        (summary.pauses.into(), "pause"),
+        (bytes as u64, "byte"),
+    ];
+    let counted: Vec<String> = numbers.iter().map(|(n, noun)| counted(*n, noun)).collect();
+    format!("version {}, {}", summary.version, counted.join(", "))
+}
+
+/// All that is said of a refused block.
+pub struct Report {
+    pub file: String,
+    pub refusal: Refusal,
+    pub statement: Option<usize>,
+    pub record: String,
+    pub wrong: String,
+    pub cause: Option<Cause>,
+}
+
+impl Report {
+    pub fn of(path: &Path, block: &[u8], why: Refusal) -> Report {
+        Report {
+            file: files::shown(path),
+            refusal: why,
+            statement: refusal::statement_number(block, &why),
+            record: refusal::record(block, why.place),
+            wrong: refusal::wrong(block, &why),
+            cause: likely(block, &why),
+        }
+    }
+
+    pub fn advice(&self) -> String {
+        self.cause.as_ref().map_or_else(|| refusal::advice(self.refusal.number).to_string(), |cause| cause.advice.clone())
+    }
+
+    pub fn lines(&self) -> Vec<String> {
+        let statement = self.statement.map_or(String::new(), |number| format!(" (statement {})", number));
+        let mut lines = vec![
+            format!("{}: refused with {}, at offset {}{}", self.file, refusal::title(self.refusal.number), self.refusal.place, statement),
+            format!("there:         {}", self.record),
+            format!("what is wrong: {}", self.wrong),
+        ];
+        if let Some(cause) = &self.cause {
+            lines.push(format!("likely cause:  {}", cause.what));
+        }
+        lines.push(format!("what to do:    {}", self.advice()));
+        lines
+    }
+}
+
+/// Whether a file holds a good block.
+pub fn is_good(path: &Path) -> bool {
+    files::block(path).map_or(false, |bytes| check(&bytes).is_ok())
+}

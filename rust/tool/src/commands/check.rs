@@ -1,0 +1,96 @@
+//! foldheron check: good with version and counts, or the refusal in words.
+
+use super::Command;
+use crate::args::{flag, Words};
+use crate::block::{counts, Report};
+use crate::files;
+use crate::hash::sha256;
+use crate::json::Object;
+use crate::output::{say, Out};
+use crate::status::Status;
+use crate::trouble::{Outcome, Trouble};
+use foldheron::{check, name_of, Summary};
+use std::path::Path;
+
+pub static COMMAND: Command = Command {
+    name: "check",
+    does: "says whether blocks are good, and of a refused one where and why",
+    call: "[--json] FILE..",
+    options: &[flag("--json", "an object for each file, on a line of its own")],
+    more: "Of a good block it prints the version and the counts. Of a refused one: the number and its name, the offset, the\n\
+           record that stands there, what is wrong with it, the likely cause, and what to do.\n",
+    run,
+};
+
+fn run(words: &Words, out: &mut Out) -> Outcome<Status> {
+    if words.free.is_empty() {
+        return Err(Trouble::call("a block's file is missing"));
+    }
+    let mut status = Status::Good;
+    for word in &words.free {
+        let path = files::block_path(word);
+        let told = if words.has("--json") { as_json(&path, out) } else { in_words(&path, out) };
+        status = status.and(told?);
+    }
+    Ok(status)
+}
+
+fn in_words(path: &Path, out: &mut Out) -> Outcome<Status> {
+    let name = files::shown(path);
+    let bytes = match files::block(path) {
+        Ok(bytes) => bytes,
+        Err(trouble) => {
+            out.flush()?;
+            say(&trouble.lines);
+            return Ok(trouble.status);
+        }
+    };
+    match check(&bytes) {
+        Ok(summary) => {
+            out.line(&format!("{}: good: {}", name, counts(&summary, bytes.len())))?;
+            Ok(Status::Good)
+        }
+        Err(why) => {
+            out.line(&Report::of(path, &bytes, why).lines().join("\n  "))?;
+            Ok(Status::BlockRefused)
+        }
+    }
+}
+
+fn as_json(path: &Path, out: &mut Out) -> Outcome<Status> {
+    let object = Object::new().text("file", &files::shown(path));
+    let (object, status) = match files::block(path) {
+        Err(trouble) => (object.flag("good", false).text("error", &trouble.lines[0]), trouble.status),
+        Ok(bytes) => match check(&bytes) {
+            Ok(summary) => (good(object, &summary, &bytes), Status::Good),
+            Err(why) => (refused(&Report::of(path, &bytes, why)), Status::BlockRefused),
+        },
+    };
+    out.line(&object.done())?;
+    Ok(status)
+}
+
+fn good(object: Object, summary: &Summary, bytes: &[u8]) -> Object {
+    object
+        .flag("good", true)
+        .number("version", summary.version)
+        .number("inputs", summary.inputs)
+        .number("outputs", summary.outputs)
+        .number("locals", summary.locals)
+        .number("statements", summary.statements)
+        .number("pauses", summary.pauses)
+        .number("bytes", bytes.len() as u64)
+        .text("sha256", &sha256(bytes))
+}
+
+/// A refused block, here and in a run.
+pub fn refused(report: &Report) -> Object {
+    let why = report.refusal;
+    let object = Object::new().text("file", &report.file).flag("good", false).number("refusal", why.number).text("name", name_of(why.number).unwrap_or(""));
+    let object = object.number("place", why.place as u64).text("record", &report.record).text("wrong", &report.wrong);
+    let object = match &report.cause {
+        Some(cause) => object.text("cause", &cause.what),
+        None => object,
+    };
+    object.text("advice", &report.advice())
+}

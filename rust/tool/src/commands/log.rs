@@ -1,0 +1,106 @@
+//! foldheron log: the records of a log in words.
+
+use super::Command;
+use crate::args::{flag, with, Words};
+use crate::block;
+use crate::files;
+use crate::json::Object;
+use crate::labels::{members, Labels};
+use crate::layout::{LogRecord, RECORD};
+use crate::log::{next, no_record, Next};
+use crate::names;
+use crate::output::Out;
+use crate::run::words::{code, columns};
+use crate::sets::changed;
+use crate::status::Status;
+use crate::table::Table;
+use crate::trouble::{Outcome, Trouble};
+use crate::walk::counted;
+use std::io::BufReader;
+use std::path::Path;
+
+pub static COMMAND: Command = Command {
+    name: "log",
+    does: "prints the records of a log",
+    call: "[--block FILE] [--json] FILE",
+    options: &[
+        with("--block", "FILE", "the block whose log it is, for the names of its signals"),
+        flag("--json", "an object for each record, on a line of its own"),
+        names::OPTION,
+        names::NO_OPTION,
+    ],
+    more: "A log has a record for each answered instant and none for a refused one, so its records are numbered by themselves. What\n\
+           changed since the record before is marked: + came, - went. A log does not name its block: whose it is, is yours to say.\n",
+    run,
+};
+
+fn run(words: &Words, out: &mut Out) -> Outcome<Status> {
+    let [word] = words.exactly(["a log's file"])?;
+    let labels = match words.value("--block") {
+        Some(file) => block::load(words, file)?.labels,
+        None => Labels::default(),
+    };
+    let path = Path::new(word);
+    let mut reader = BufReader::new(files::open(path).map_err(|why| files::unread(path, &why))?);
+    let mut printer = Printer { labels: &labels, json: words.has("--json"), table: Table::new(columns(&labels, "record", false)), before: None };
+    let mut number = 0;
+    printer.begin(out)?;
+    loop {
+        match next(&mut reader, path)? {
+            Next::End => return printer.end(number, out),
+            Next::Short(left) => return Err(short(path, number, left)),
+            Next::Record(bytes) => {
+                number += 1;
+                let record = LogRecord::of(&bytes).ok_or_else(|| no_record(path, number, &bytes))?;
+                printer.record(number, record, out)?;
+            }
+        }
+    }
+}
+
+fn short(path: &Path, number: u64, left: usize) -> Trouble {
+    let said = format!("{}: after {} there are {}, and a record has {}", files::shown(path), counted(number, "record"), counted(left as u64, "byte"), RECORD);
+    Trouble::new(Status::Refused, said).advise("it is cut off there, or it is no log")
+}
+
+struct Printer<'a> {
+    labels: &'a Labels,
+    json: bool,
+    table: Table,
+    before: Option<LogRecord>,
+}
+
+impl Printer<'_> {
+    fn begin(&self, out: &mut Out) -> Outcome<()> {
+        if self.json {
+            return Ok(());
+        }
+        out.line(&self.table.head())
+    }
+
+    fn record(&mut self, number: u64, record: LogRecord, out: &mut Out) -> Outcome<()> {
+        let labels = self.labels;
+        if self.json {
+            let inputs: Vec<String> = members(record.inputs).map(|n| labels.input(n)).collect();
+            let outputs: Vec<String> = members(record.outputs).map(|n| labels.output(n)).collect();
+            let object = Object::new().number("record", number).texts("inputs", &inputs).texts("outputs", &outputs);
+            return out.line(&object.number("code", record.code).number("rounds", record.rounds).done());
+        }
+        let cells = [
+            number.to_string(),
+            changed(record.inputs, self.before.map(|before| before.inputs), |n| labels.input(n)),
+            changed(record.outputs, self.before.map(|before| before.outputs), |n| labels.output(n)),
+            code(record.code),
+            record.rounds.to_string(),
+        ];
+        self.before = Some(record);
+        out.line(&self.table.row(&cells.iter().map(String::as_str).collect::<Vec<_>>()))
+    }
+
+    fn end(&self, number: u64, out: &mut Out) -> Outcome<Status> {
+        if !self.json {
+            out.line(&counted(number, "record"))?;
+        }
+        Ok(Status::Good)
+    }
+}

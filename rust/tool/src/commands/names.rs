@@ -1,0 +1,67 @@
+//! foldheron names: writes the names file of a block, or shows what its signals are called.
+
+use super::Command;
+use crate::args::{with, Words};
+use crate::block;
+use crate::files;
+use crate::names;
+use crate::output::Out;
+use crate::replace::replace;
+use crate::status::Status;
+use crate::trouble::{Outcome, Trouble};
+use crate::walk::counted;
+use std::ffi::OsStr;
+use std::path::{Path, PathBuf};
+
+pub static COMMAND: Command = Command {
+    name: "names",
+    does: "writes the names file of a block, or shows its signals' names",
+    call: "[--to FILE] FILE [NAME..]",
+    options: &[with("--to", "FILE", "write the names into FILE, not beside the block")],
+    more: "The names stand in the order of the signals: the inputs, the outputs, the locals; - leaves one without a name, and so do\n\
+           names that are not given. A name is letters, digits and _, a letter first, 32 at most. The names of block.bin are\n\
+           kept beside it in block.names, with the block's version, its statement count and the SHA-256 of its bytes: with\n\
+           another block they are not used. Without a NAME the command prints what each signal is called.\n",
+    run,
+};
+
+fn run(words: &Words, out: &mut Out) -> Outcome<Status> {
+    let (file, given) = words.free.split_first().ok_or_else(|| Trouble::call("a block's file is missing"))?;
+    if given.is_empty() {
+        return print(words, file, out);
+    }
+    let path = files::block_path(file);
+    let mut block = block::unnamed(path.clone(), files::block(&path)?)?;
+    for (signal, name) in given.iter().enumerate().filter(|(_, name)| *name != "-") {
+        block.labels.give(signal, &name.to_string_lossy()).map_err(|why| Trouble::call(format!("name {}: {}", signal + 1, why)))?;
+    }
+    let to = place(words, &path)?;
+    replace(&to, names::written(&block.bytes, &block.summary, &block.labels).as_bytes())?;
+    out.line(&format!("{}: {} written", files::shown(&to), counted(given.iter().filter(|name| *name != "-").count() as u64, "name")))?;
+    Ok(Status::Good)
+}
+
+fn print(words: &Words, file: &OsStr, out: &mut Out) -> Outcome<Status> {
+    if words.has("--to") {
+        return Err(Trouble::call("--to wants names to write"));
+    }
+    let block = block::load(words, file)?;
+    for signal in 0..block.labels.signals() {
+        let sort = block.labels.sort(signal).map_or("", |sort| sort.word());
+        out.line(&format!("{:6} {:3}  {}", sort, signal, block.labels.signal(signal)))?;
+    }
+    Ok(Status::Good)
+}
+
+/// Where the names are written: never over the block itself, nor over another file than names.
+fn place(words: &Words, block: &Path) -> Outcome<PathBuf> {
+    let to = words.value("--to").map_or_else(|| names::beside(block), PathBuf::from);
+    if block == Path::new(files::STDIN) && !words.has("--to") {
+        return Err(Trouble::call("a block from standard input has no place beside it: say --to FILE"));
+    }
+    let there = files::first(&to, names::FIRST.len()).unwrap_or_default();
+    if to.exists() && !there.is_empty() && there != names::FIRST.as_bytes() {
+        return Err(Trouble::call(format!("{} is there and holds no names: it is left as it is", files::shown(&to))));
+    }
+    Ok(to)
+}

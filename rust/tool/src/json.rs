@@ -1,0 +1,75 @@
+//! JSON, as much of it as is written here: an object on one line.
+
+pub struct Object {
+    text: String,
+}
+
+impl Object {
+    pub fn new() -> Object {
+        Object { text: "{".to_string() }
+    }
+
+    fn put(mut self, key: &str, value: &str) -> Object {
+        if self.text.len() > 1 {
+            self.text.push(',');
+        }
+        self.text.push_str(&quoted(key));
+        self.text.push(':');
+        self.text.push_str(value);
+        self
+    }
+
+    pub fn number(self, key: &str, value: impl Into<u64>) -> Object {
+        let text = value.into().to_string();
+        self.put(key, &text)
+    }
+
+    pub fn flag(self, key: &str, value: bool) -> Object {
+        self.put(key, if value { "true" } else { "false" })
+    }
+
+    pub fn text(self, key: &str, value: &str) -> Object {
+        let text = quoted(value);
+        self.put(key, &text)
+    }
+
+    /// A list of texts.
+    pub fn texts(self, key: &str, values: &[String]) -> Object {
+        let all: Vec<String> = values.iter().map(|value| quoted(value)).collect();
+        self.put(key, &format!("[{}]", all.join(",")))
+    }
+
+    pub fn done(mut self) -> String {
+        self.text.push('}');
+        self.text
+    }
+}
+
+/// A text between quotes.
+fn quoted(text: &str) -> String {
+    let mut quoted = String::with_capacity(text.len() + 2);
+    quoted.push('"');
+    for c in text.chars() {
+        match c {
+            '"' => quoted.push_str("\\\""),
+            '\\' => quoted.push_str("\\\\"),
+            '\n' => quoted.push_str("\\n"),
+            c if (c as u32) < 0x20 => quoted.push_str(&format!("\\u{:04x}", c as u32)),
+            c => quoted.push(c),
+        }
+    }
+    quoted.push('"');
+    quoted
+}
+
+#[cfg(test)]
+mod tests {
+    use super::*;
+
+    #[test]
+    fn an_object() {
+        let object = Object::new().number("n", 7u64).text("t", "a\"b\\c\n\u{1}ä").flag("f", true).texts("l", &["x".into(), "y".into()]);
+        assert_eq!(object.done(), r#"{"n":7,"t":"a\"b\\c\n\u0001ä","f":true,"l":["x","y"]}"#);
+        assert_eq!(Object::new().texts("l", &[]).done(), r#"{"l":[]}"#);
+    }
+}

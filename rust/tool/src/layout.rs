@@ -1,0 +1,193 @@
+//! The bytes of a block, a state and a log record: every length, offset and kind stands here and nowhere else in the program.
+
+pub use foldheron::{BLOCK_MOST, RECORD, STATE};
+
+/// A record's head: its length and its kind.
+pub const HEAD: usize = 4;
+/// The header of a block.
+pub const HEADER: usize = 14;
+pub const HEADER_KIND: u16 = 1;
+pub const STATE_KIND: u16 = 2;
+pub const LOG_KIND: u16 = 3;
+/// An input set.
+pub const SET: usize = 8;
+
+pub const SIGNALS: usize = 64;
+pub const STATEMENTS: usize = 512;
+pub const PAUSES: usize = 128;
+pub const TRAPS: usize = 16;
+pub const LOCALS: usize = 6;
+pub const PATH: usize = 64;
+
+/// Two bytes at an offset, the lowest first.
+pub fn two(bytes: &[u8], at: usize) -> Option<u16> {
+    let low = *bytes.get(at)?;
+    let high = *bytes.get(at + 1)?;
+    Some(u16::from_le_bytes([low, high]))
+}
+
+/// Eight bytes at an offset, the lowest first.
+pub fn eight(bytes: &[u8], at: usize) -> Option<u64> {
+    let mut word = [0; 8];
+    word.copy_from_slice(bytes.get(at..at + 8)?);
+    Some(u64::from_le_bytes(word))
+}
+
+#[derive(Clone, Copy, PartialEq, Eq, Debug)]
+pub enum Operand {
+    None,
+    Signal,
+    Depth,
+}
+
+/// A kind of statement, and what its children are to it.
+#[derive(PartialEq, Eq, Debug)]
+pub struct Kind {
+    pub number: u16,
+    pub name: &'static str,
+    pub operand: Operand,
+    pub parts: &'static [&'static str],
+}
+
+const fn kind(number: u16, name: &'static str, operand: Operand, parts: &'static [&'static str]) -> Kind {
+    Kind { number, name, operand, parts }
+}
+
+pub static KINDS: [Kind; 11] = [
+    kind(16, "nothing", Operand::None, &[]),
+    kind(17, "pause", Operand::None, &[]),
+    kind(18, "emit", Operand::Signal, &[]),
+    kind(19, "present", Operand::Signal, &["then", "else"]),
+    kind(20, "suspend", Operand::Signal, &[""]),
+    kind(21, "sequence", Operand::None, &["", ""]),
+    kind(22, "loop", Operand::None, &[""]),
+    kind(23, "parallel", Operand::None, &["", ""]),
+    kind(24, "trap", Operand::None, &[""]),
+    kind(25, "exit", Operand::Depth, &[]),
+    kind(26, "local", Operand::Signal, &[""]),
+];
+
+impl Kind {
+    pub fn of(number: u16) -> Option<&'static Kind> {
+        KINDS.iter().find(|kind| kind.number == number)
+    }
+
+    /// How many bytes its record has.
+    pub fn length(&self) -> usize {
+        match self.operand {
+            Operand::None => HEAD,
+            _ => HEAD + 2,
+        }
+    }
+}
+
+#[derive(Clone, Copy, PartialEq, Eq, Debug)]
+pub struct Header {
+    pub edition: u16,
+    pub version: u16,
+    pub inputs: u16,
+    pub outputs: u16,
+    pub locals: u16,
+}
+
+impl Header {
+    /// The header of a block that has one of the right length and kind.
+    pub fn of(block: &[u8]) -> Option<Header> {
+        if two(block, 0)? != HEADER as u16 || two(block, 2)? != HEADER_KIND {
+            return None;
+        }
+        let field = |n: usize| two(block, HEAD + 2 * n);
+        Some(Header { edition: field(0)?, version: field(1)?, inputs: field(2)?, outputs: field(3)?, locals: field(4)? })
+    }
+
+    pub fn signals(&self) -> usize {
+        usize::from(self.inputs) + usize::from(self.outputs) + usize::from(self.locals)
+    }
+}
+
+/// A state record's phase and its active pauses, bit n for pause n.
+#[derive(Clone, Copy, PartialEq, Eq, Debug)]
+pub struct State {
+    pub phase: u16,
+    pub active: u128,
+}
+
+/// Where a state has its phase and its two words of pauses.
+const PHASE_AT: usize = HEAD;
+const WORDS_AT: usize = PHASE_AT + 2;
+
+impl State {
+    /// The fields, where the bytes are a record of a state's length and kind.
+    pub fn of(bytes: &[u8]) -> Option<State> {
+        if bytes.len() != STATE || two(bytes, 0)? != STATE as u16 || two(bytes, 2)? != STATE_KIND {
+            return None;
+        }
+        let (low, high) = (eight(bytes, WORDS_AT)?, eight(bytes, WORDS_AT + 8)?);
+        Some(State { phase: two(bytes, PHASE_AT)?, active: u128::from(low) | u128::from(high) << 64 })
+    }
+
+    pub fn phase_name(&self) -> Option<&'static str> {
+        ["fresh", "running", "finished"].get(usize::from(self.phase)).copied()
+    }
+
+    /// The numbers of the active pauses.
+    pub fn pauses(&self) -> Vec<usize> {
+        (0..PAUSES).filter(|n| self.active >> n & 1 == 1).collect()
+    }
+}
+
+#[derive(Clone, Copy, PartialEq, Eq, Debug)]
+pub struct LogRecord {
+    pub inputs: u64,
+    pub outputs: u64,
+    pub code: u16,
+    pub rounds: u16,
+}
+
+impl LogRecord {
+    /// The fields, where the bytes begin with a record of a log record's length and kind.
+    pub fn of(bytes: &[u8]) -> Option<LogRecord> {
+        if !begins_log_record(bytes) {
+            return None;
+        }
+        let (inputs, outputs) = (eight(bytes, HEAD)?, eight(bytes, HEAD + 8)?);
+        Some(LogRecord { inputs, outputs, code: two(bytes, HEAD + 16)?, rounds: two(bytes, HEAD + 18)? })
+    }
+}
+
+/// Whether the bytes begin with the head of a log record.
+pub fn begins_log_record(bytes: &[u8]) -> bool {
+    two(bytes, 0) == Some(RECORD as u16) && two(bytes, 2) == Some(LOG_KIND)
+}
+
+/// Whether the bytes begin with the head of a state record of their own length, today's or another.
+pub fn begins_state(bytes: &[u8], length: u64) -> bool {
+    two(bytes, 0).map(u64::from) == Some(length) && two(bytes, 2) == Some(STATE_KIND)
+}
+
+#[cfg(test)]
+mod tests {
+    use super::*;
+
+    #[test]
+    fn a_log_record() {
+        let bytes = [24, 0, 3, 0, 1, 0, 0, 0, 0, 0, 0, 0, 2, 0, 0, 0, 0, 0, 0, 128, 1, 0, 3, 0];
+        assert_eq!(LogRecord::of(&bytes), Some(LogRecord { inputs: 1, outputs: 2 + (128 << 56), code: 1, rounds: 3 }));
+        assert_eq!(LogRecord::of(&bytes[..23]), None);
+    }
+
+    #[test]
+    fn a_state() {
+        let mut bytes = [22, 0, 2, 0, 1, 0, 5, 0, 0, 0, 0, 0, 0, 0, 0, 0, 0, 0, 0, 0, 0, 128];
+        assert_eq!(State::of(&bytes).map(|state| state.pauses()), Some(vec![0, 2, 127]));
+        bytes[0] = 23;
+        assert_eq!(State::of(&bytes), None);
+    }
+
+    #[test]
+    fn kinds_and_lengths() {
+        let lengths: Vec<usize> = (16..27).filter_map(Kind::of).map(Kind::length).collect();
+        assert_eq!(lengths, [4, 4, 6, 6, 6, 4, 4, 4, 4, 6, 6]);
+        assert!(Kind::of(15).is_none() && Kind::of(27).is_none());
+    }
+}

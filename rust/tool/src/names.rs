@@ -1,0 +1,147 @@
+//! The names file beside a block: text, a line each for the version, the statement count and the hash of the block that it is for, and for each
+//! signal that has a name. After a silent update of the block it would label the wrong pump, so it is refused where one of the three differs.
+
+use crate::args::{flag, with, Opt, Words};
+use crate::files;
+use crate::hash::sha256;
+use crate::labels::{Labels, Sort, SORTS};
+use crate::output::warn;
+use crate::trouble::{reason, Outcome};
+use foldheron::Summary;
+use std::io::ErrorKind;
+use std::path::{Path, PathBuf};
+
+/// The first line, with the edition of the file's form.
+pub const FIRST: &str = "foldheron names 1";
+/// A names file is read up to here; 64 names take less.
+const MOST: usize = 1 << 14;
+
+/// The names file of a block: of `pump.bin` it is `pump.names`.
+pub fn beside(block: &Path) -> PathBuf {
+    block.with_extension("names")
+}
+
+/// The lines that say which block the names are for.
+fn keys(block: &[u8], summary: &Summary) -> [(&'static str, String); 3] {
+    [("version", summary.version.to_string()), ("statements", summary.statements.to_string()), ("sha256", sha256(block))]
+}
+
+/// A names file's text.
+pub fn written(block: &[u8], summary: &Summary, labels: &Labels) -> String {
+    let mut text = format!("{}\n", FIRST);
+    for (key, value) in keys(block, summary) {
+        text.push_str(&format!("{} {}\n", key, value));
+    }
+    for signal in 0..labels.signals() {
+        if let (Some(sort), Some(name)) = (labels.sort(signal), labels.name(signal)) {
+            text.push_str(&format!("{} {} {}\n", sort.word(), signal, name));
+        }
+    }
+    text
+}
+
+/// Reads a names file's text for a block; answers why it cannot be used.
+pub fn read(text: &str, block: &[u8], summary: &Summary) -> Result<Labels, String> {
+    let mut lines = text.lines().enumerate().map(|(n, line)| (n + 1, line.trim())).filter(|(_, line)| !line.is_empty() && !line.starts_with('#'));
+    if lines.next().map(|(_, line)| line) != Some(FIRST) {
+        return Err(format!("its first line is not '{}'", FIRST));
+    }
+    let mut labels = Labels::numbered(summary);
+    let mut wanted = keys(block, summary).to_vec();
+    for (n, line) in lines {
+        let words: Vec<&str> = line.split_whitespace().collect();
+        match words.as_slice() {
+            [key, value] => settle(&mut wanted, key, value).map_err(|why| format!("line {}: {}", n, why))?,
+            [sort, number, name] => name_signal(&mut labels, sort, number, name).map_err(|why| format!("line {}: {}", n, why))?,
+            _ => return Err(format!("line {} has not two or three words", n)),
+        }
+    }
+    match wanted.first() {
+        Some((key, _)) => Err(format!("it has no line '{} ..', so nothing says that it is for this block", key)),
+        None => Ok(labels),
+    }
+}
+
+/// Takes a key off the list of those that are wanted, where its value is the block's.
+fn settle(wanted: &mut Vec<(&'static str, String)>, key: &str, value: &str) -> Result<(), String> {
+    let at = wanted.iter().position(|(name, _)| *name == key).ok_or_else(|| format!("'{}' is not known here, or stands twice", key))?;
+    let (_, ours) = wanted.remove(at);
+    if ours == value {
+        return Ok(());
+    }
+    Err(format!("it is for another block: its {} is {}, and this block's is {}", key, value, ours))
+}
+
+fn name_signal(labels: &mut Labels, sort: &str, number: &str, name: &str) -> Result<(), String> {
+    let sort: Sort = SORTS.iter().find(|row| row.1 == sort).map(|row| row.0).ok_or_else(|| format!("'{}' is no input, output or local", sort))?;
+    let signal: usize = number.parse().map_err(|_| format!("'{}' is no signal's number", number))?;
+    if labels.sort(signal) != Some(sort) {
+        return Err(format!("signal {} is no {} of this block", signal, sort.word()));
+    }
+    if labels.name(signal).is_some() {
+        return Err(format!("signal {} is named twice", signal));
+    }
+    labels.give(signal, name)
+}
+
+const NAMES: &str = "--names";
+const NO_NAMES: &str = "--no-names";
+/// The options by which a command is told of names.
+pub const OPTION: Opt = with(NAMES, "FILE", "take the signals' names from FILE, not from the file beside the block");
+pub const NO_OPTION: Opt = flag(NO_NAMES, "call the signals by their numbers: i0, o1, s2");
+
+/// What the signals of a good block are called in this call: by the file of --names or the one beside the block. One that cannot be used is
+/// told as a warning, and the signals go by their numbers.
+pub fn labels(words: &Words, path: &Path, block: &[u8], summary: &Summary) -> Outcome<Labels> {
+    let numbered = Labels::numbered(summary);
+    let asked = words.at_most_one(&[NAMES, NO_NAMES])?;
+    let named = words.value(NAMES).map(PathBuf::from);
+    if asked == Some(NO_NAMES) || (named.is_none() && path == Path::new(files::STDIN)) {
+        return Ok(numbered);
+    }
+    let file = named.clone().unwrap_or_else(|| beside(path));
+    let unused = |why: String| {
+        warn(format!("{} is not used: {}", files::shown(&file), why), "signals go by their numbers: i0, o1, ..");
+        Ok(numbered.clone())
+    };
+    match files::first(&file, MOST + 1) {
+        Err(why) if named.is_some() => Err(files::unread(&file, &why)),
+        Err(why) if why.kind() == ErrorKind::NotFound => Ok(numbered),
+        Err(why) => unused(reason(&why)),
+        Ok(bytes) if bytes.len() > MOST => unused(format!("it has over {} bytes", MOST)),
+        Ok(bytes) => match String::from_utf8(bytes) {
+            Err(_) => unused("it is no text".to_string()),
+            Ok(text) => read(&text, block, summary).or_else(unused),
+        },
+    }
+}
+
+#[cfg(test)]
+mod tests {
+    use super::*;
+
+    const SUMMARY: Summary = Summary { version: 7, inputs: 1, outputs: 1, locals: 0, statements: 4, pauses: 1 };
+
+    fn text(hash: &str, rest: &str) -> String {
+        format!("foldheron names 1\n# made by hand\nversion 7\nstatements 4\nsha256 {}\n\n{}", hash, rest)
+    }
+
+    #[test]
+    fn read_and_written() {
+        let labels = read(&text(&sha256(b"x"), "input 0 I\noutput 1 O\n"), b"x", &SUMMARY).unwrap();
+        assert_eq!((labels.name(0), labels.name(1)), (Some("I"), Some("O")));
+        assert_eq!(read(&written(b"x", &SUMMARY, &labels), b"x", &SUMMARY), Ok(labels));
+    }
+
+    #[test]
+    fn refused() {
+        let why = |hash: &str, rest: &str| read(&text(hash, rest), b"x", &SUMMARY).unwrap_err();
+        assert!(why(&sha256(b"y"), "").contains("another block: its sha256"));
+        let good = sha256(b"x");
+        for rest in ["input 1 I", "output 1 O O", "local 2 S", "input 0 I\ninput 0 J", "input 0 A\noutput 1 A", "version 7", "input x I"] {
+            assert!(why(&good, rest).starts_with("line "), "{}", rest);
+        }
+        assert!(read("foldheron names 2\n", b"x", &SUMMARY).is_err());
+        assert!(read("foldheron names 1\nversion 7\nstatements 4\n", b"x", &SUMMARY).unwrap_err().contains("no line 'sha256"));
+    }
+}

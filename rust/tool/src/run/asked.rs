@@ -1,0 +1,151 @@
+//! What a call of run asks for: the files, the form of what is printed, and which of them do not go together.
+
+use super::inputs::Source;
+use super::style::Tally;
+use crate::args::Words;
+use crate::block::Block;
+use crate::files;
+use crate::sets;
+use crate::status::Status;
+use crate::trouble::{Outcome, Trouble};
+use std::io::ErrorKind;
+use std::path::{Path, PathBuf};
+
+#[derive(Clone, Copy, PartialEq, Eq)]
+pub enum Form {
+    Table,
+    Plain,
+    Csv,
+    Json,
+}
+
+enum Inputs {
+    File(PathBuf),
+    Sets(String),
+}
+
+pub struct Asked {
+    pub block: PathBuf,
+    inputs: Inputs,
+    /// The form that is asked for; none where none is named.
+    form: Option<Form>,
+    pub expect: Option<PathBuf>,
+    pub from: Option<PathBuf>,
+    pub to: Option<PathBuf>,
+    pub log: Option<PathBuf>,
+}
+
+impl Asked {
+    pub fn of(words: &Words) -> Outcome<Asked> {
+        let [word] = words.exactly(["the block's file"])?;
+        let block = files::block_path(word);
+        let form = words.at_most_one(&["--plain", "--csv", "--json"])?.map(|name| match name {
+            "--plain" => Form::Plain,
+            "--csv" => Form::Csv,
+            _ => Form::Json,
+        });
+        let inputs = inputs_of(words, &block)?;
+        let path = |name: &str| words.value(name).map(PathBuf::from);
+        let asked = Asked { block, inputs, form, expect: path("--expect"), from: path("--from"), to: path("--to"), log: path("--log") };
+        asked.look()?;
+        Ok(asked)
+    }
+
+    /// Whether what is asked for goes together, and nothing that is read would be written over.
+    fn look(&self) -> Outcome<()> {
+        if self.expect.is_some() && (self.to.is_some() || self.log.is_some()) {
+            return Err(Trouble::call("--expect only compares: it does not go together with --to or --log"));
+        }
+        let named = [Some(self.block.as_path()), self.inputs_file(), self.expect.as_deref(), self.from.as_deref()];
+        let read: Vec<&Path> = named.iter().flatten().copied().collect();
+        if read.iter().filter(|path| **path == Path::new(files::STDIN)).count() > 1 {
+            return Err(Trouble::call("only one file can be - , standard input"));
+        }
+        for (option, written) in [("--to", &self.to), ("--log", &self.log)] {
+            let clash = written.as_deref().and_then(|file| read.iter().find(|path| files::same(file, path)).map(|path| (file, path)));
+            match clash {
+                Some((_, path)) if option == "--to" && self.from.as_deref() == Some(path) => {}
+                Some((file, _)) => return Err(Trouble::call(format!("{} {} would write over a file that is read", option, files::shown(file)))),
+                None => {}
+            }
+        }
+        match (&self.to, &self.log) {
+            (Some(to), Some(log)) if files::same(to, log) => Err(Trouble::call("--to and --log name one file")),
+            _ => Ok(()),
+        }
+    }
+
+    pub fn form(&self) -> Option<Form> {
+        match (self.form, &self.expect) {
+            (None, None) => Some(Form::Table),
+            (form, _) => form,
+        }
+    }
+
+    pub fn inputs_file(&self) -> Option<&Path> {
+        match &self.inputs {
+            Inputs::File(path) => Some(path),
+            Inputs::Sets(_) => None,
+        }
+    }
+
+    /// Whether anything is read or printed in which a name can stand.
+    pub fn wants_names(&self) -> bool {
+        self.form != Some(Form::Plain) || self.expect.is_some() || self.inputs_file().is_none()
+    }
+
+    /// Whether a missing file is empty, as it is for the run program.
+    fn is_lenient(&self) -> bool {
+        self.form == Some(Form::Plain)
+    }
+
+    pub fn block_bytes(&self) -> Outcome<Vec<u8>> {
+        match files::first(&self.block, crate::layout::BLOCK_MOST + 1) {
+            Err(why) if self.is_lenient() && why.kind() == ErrorKind::NotFound => Ok(Vec::new()),
+            read => read.map_err(|why| files::unread(&self.block, &why)),
+        }
+    }
+
+    pub fn source(&self, block: &Block) -> Outcome<Source> {
+        let path = match &self.inputs {
+            Inputs::Sets(text) => return sets::parse(text, &block.labels).map(Source::of_sets),
+            Inputs::File(path) => path,
+        };
+        match Source::open(path) {
+            Err(why) if self.is_lenient() && why.kind() == ErrorKind::NotFound => Ok(Source::of_sets(Vec::new())),
+            Err(why) => Err(files::unread(path, &why).advise("the sets of inputs: --inputs FILE, or in words --in \"A; B C; -\"")),
+            Ok(source) => Ok(source),
+        }
+    }
+
+    /// What a run that came to its end ends with. As expected is good, whatever was expected.
+    pub fn status(&self, tally: &Tally) -> Status {
+        if self.expect.is_some() {
+            return Status::Good;
+        }
+        let short = if tally.short > 0 { Status::Short } else { Status::Good };
+        tally.refused.iter().fold(short, |status, (number, _)| status.and(Status::of(*number)))
+    }
+
+    pub fn refused_status(&self) -> Status {
+        if self.expect.is_some() {
+            Status::Good
+        } else {
+            Status::BlockRefused
+        }
+    }
+}
+
+/// The inputs: a file, or sets in words; without either the file inputs.bin beside the block.
+fn inputs_of(words: &Words, block: &Path) -> Outcome<Inputs> {
+    words.at_most_one(&["--inputs", "--in"])?;
+    if let Some(text) = words.value("--in") {
+        let text = text.to_str().ok_or_else(|| Trouble::call("the sets of --in are no text in UTF-8"))?;
+        return Ok(Inputs::Sets(text.to_string()));
+    }
+    match words.value("--inputs") {
+        Some(file) => Ok(Inputs::File(PathBuf::from(file))),
+        None if block == Path::new(files::STDIN) => Err(Trouble::call("the block comes from standard input: say --inputs or --in")),
+        None => Ok(Inputs::File(block.with_file_name("inputs.bin"))),
+    }
+}

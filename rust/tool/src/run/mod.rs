@@ -1,0 +1,117 @@
+//! foldheron run: a block on sets of inputs, as a table for people or as lines for programs.
+
+mod asked;
+mod csv;
+mod expect;
+mod inputs;
+mod json;
+mod keep;
+mod plain;
+mod progress;
+mod style;
+pub mod words;
+
+use crate::args::{flag, with, Words};
+use crate::block::{self, Block, Report};
+use crate::commands::Command;
+use crate::files;
+use crate::names;
+use crate::output::Out;
+use crate::status::Status;
+use crate::trouble::{Outcome, Trouble};
+use asked::Asked;
+use inputs::{Next, Source};
+use keep::Kept;
+use progress::Progress;
+use style::{Step, Style, Tally};
+
+pub static COMMAND: Command = Command {
+    name: "run",
+    does: "runs a block on sets of inputs",
+    call: "FILE [--inputs FILE | --in SETS] [--plain | --csv | --json] [--expect FILE]\n              [--from STATE] [--to STATE] [--log FILE] [--names FILE | --no-names]",
+    options: &[
+        with("--inputs", "FILE", "sets of 8 bytes each, read as they come; without it, and without --in, inputs.bin beside the block"),
+        with("--in", "SETS", "the sets in words, as \"DEMAND; DEMAND FAULT; -\": semicolons between sets, - for a set without an\ninput; an input is called by its name, or by its number as i0"),
+        flag("--plain", "exactly the lines of the run program; a missing file is empty"),
+        flag("--csv", "a line an instant with a column for each signal: 1, 0, or x for the outputs of a refused instant"),
+        flag("--json", "an object an instant, on a line of its own; the outputs of a refused instant are \"x\""),
+        with("--expect", "FILE", "compare with FILE, which has the lines of --plain, and say which is the first that differs;\nrefused instants that are expected count as good"),
+        with("--from", "STATE", "go on from the state in STATE; without it the run begins afresh"),
+        with("--to", "STATE", "save the next state in STATE, which may be the file of --from"),
+        with("--log", "FILE", "put a record behind FILE for each answered instant"),
+        names::OPTION,
+        names::NO_OPTION,
+    ],
+    more: MORE,
+    run,
+};
+
+const MORE: &str = "In the table + marks what came and - what went: of inputs since the instant before, of outputs since the last answered one.
+A refused instant has no outputs: x stands in their place, and the state is as it was, so the next instant goes on from there.
+
+What is saved: the state is written beside STATE, flushed to the disk and put in its place in one step, after the last
+instant; records are flushed before that. Killed at any moment, STATE holds the old state or the new one, whole. Killed between
+the two, the log has this run's records and STATE the old state: the log is ahead and never behind. To go on, run the same
+inputs again; their records then stand in the log twice. A record that was cut off by a kill is told by the next run with
+--log, which writes nothing. A run that ends with 5 leaves STATE as it was, and the log as long as it was. Two runs at once on
+one STATE or one log are not kept apart.
+";
+
+fn run(words: &Words, out: &mut Out) -> Outcome<Status> {
+    let asked = Asked::of(words)?;
+    let bytes = asked.block_bytes()?;
+    if let Err(why) = foldheron::check(&bytes) {
+        return refused(&asked, &Report::of(&asked.block, &bytes, why), out);
+    }
+    let path = asked.block.clone();
+    let block = if asked.wants_names() { block::checked(words, path, bytes)? } else { block::unnamed(path, bytes)? };
+    let mut source = asked.source(&block)?;
+    let mut kept = Kept::open(&asked, &block)?;
+    let mut style = style::of(&asked, &block)?;
+    let ended = all(&block, &mut source, &mut kept, style.as_mut(), out);
+    match ended.and_then(|tally| kept.save().map(|_| tally)) {
+        Ok(tally) => Ok(asked.status(&tally)),
+        Err(trouble) => Err(kept.give_up(trouble)),
+    }
+}
+
+/// Runs every set, and prints what its style says of it. Before the run waits for inputs, what is printed is written.
+fn all(block: &Block, source: &mut Source, kept: &mut Kept, style: &mut dyn Style, out: &mut Out) -> Outcome<Tally> {
+    let mut tally = Tally::default();
+    let mut progress = Progress::new(source.total(), style.is_silent());
+    style.begin(out)?;
+    loop {
+        if !source.is_ready() {
+            out.flush()?;
+        }
+        match source.next()? {
+            Next::Set(inputs) => {
+                let answer = kept.instant(&block.bytes, inputs)?;
+                let step = Step { number: tally.instants + 1, inputs, answer };
+                tally.count(&step);
+                style.step(&step, out)?;
+                progress.at(tally.instants);
+            }
+            Next::Short(left) => tally.short = left,
+            Next::End => break,
+        }
+    }
+    progress.done();
+    tally.state = kept.state().to_vec();
+    style.end(&tally, out)?;
+    out.flush()?;
+    Ok(tally)
+}
+
+/// A refused block: a line of its own where lines are asked for, else words on standard error.
+fn refused(asked: &Asked, report: &Report, out: &mut Out) -> Outcome<Status> {
+    if let Some(mut style) = style::of_refused(asked)? {
+        style.refused(report, out)?;
+        return Ok(asked.refused_status());
+    }
+    let mut trouble = Trouble { status: Status::BlockRefused, lines: report.lines() };
+    if let Some(inputs) = asked.inputs_file().filter(|inputs| block::is_good(inputs)) {
+        trouble = trouble.advise(format!("but {} is a good block: the block and the inputs are swapped", files::shown(inputs)));
+    }
+    Err(trouble)
+}

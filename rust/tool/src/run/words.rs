@@ -1,0 +1,147 @@
+//! The table that a person reads: inputs and outputs by name with what changed marked, and refusals in words.
+
+use super::style::{short, Step, Style, Tally};
+use crate::block::Report;
+use crate::labels::Labels;
+use crate::layout::State;
+use crate::output::Out;
+use crate::refusal;
+use crate::sets::{changed, pauses, sentence, UNKNOWN};
+use crate::table::{self, Column, Side};
+use crate::trouble::Outcome;
+use crate::walk::{counted, grouped};
+use foldheron::{Doubt, Instant};
+
+/// A column of signals is at most so wide, so that the table has 80 columns; a longer list pushes what is to its right.
+const WIDEST: usize = 22;
+
+pub struct Table<'a> {
+    labels: &'a Labels,
+    table: table::Table,
+    /// The inputs of the instant before, and the outputs of the last one that was answered.
+    inputs: Option<u64>,
+    outputs: Option<u64>,
+}
+
+/// The code with its word.
+pub fn code(code: u16) -> String {
+    match code {
+        0 => "0 ended".to_string(),
+        1 => "1 waits".to_string(),
+        other => other.to_string(),
+    }
+}
+
+/// The columns of a run; a log has the same but for the pauses.
+pub fn columns(labels: &Labels, first: &'static str, has_pauses: bool) -> Vec<Column> {
+    let wide = |range: std::ops::Range<usize>, least: usize| {
+        let all: usize = range.map(|n| labels.signal(n).len() + 2).sum();
+        all.saturating_sub(1).clamp(least, WIDEST)
+    };
+    let known = labels.signals() > 0;
+    let least = if known { 7 } else { 16 };
+    let mut columns = vec![
+        Column { title: first, width: 7, side: Side::Right },
+        Column { title: "inputs", width: wide(labels.inputs(), least), side: Side::Left },
+        Column { title: "outputs", width: wide(labels.outputs(), least), side: Side::Left },
+        Column { title: "code", width: 7, side: Side::Left },
+    ];
+    if has_pauses {
+        columns.push(Column { title: "pauses", width: 6, side: Side::Right });
+    }
+    columns.push(Column { title: "rounds", width: 6, side: Side::Right });
+    columns
+}
+
+impl<'a> Table<'a> {
+    /// The table of a run; from fresh nothing was present before it, and after a saved state nobody knows.
+    pub fn new(labels: &'a Labels, is_fresh: bool) -> Table<'a> {
+        let table = table::Table::new(columns(labels, "instant", true));
+        Table { labels, table, inputs: Some(0).filter(|_| is_fresh), outputs: Some(0).filter(|_| is_fresh) }
+    }
+
+    /// Why an instant was refused, in a line under its outputs.
+    fn why(&self, step: &Step) -> String {
+        let labels = self.labels;
+        match &step.answer {
+            Instant::NotConstructive(doubt) => self.in_doubt(doubt),
+            Instant::Clash(first, second) => format!("pauses {} and {} cannot be active together", first, second),
+            Instant::Refused(why) if why.number == 11 => {
+                let all = labels.inputs().fold(0, |set, n| set | 1 << n);
+                let more = sentence(step.inputs & !all, |n| labels.input(n));
+                format!("the block has no input {}: it has {}", more, counted(labels.inputs().len() as u64, "input"))
+            }
+            other => refusal::meaning(other.number()),
+        }
+    }
+
+    fn in_doubt(&self, doubt: &Doubt) -> String {
+        let name = |n: usize| self.labels.output(n);
+        let undecided = self.labels.all_outputs() & !(doubt.present | doubt.absent);
+        let waits = match undecided {
+            0 => "a local signal waits for itself, perhaps by way of others".to_string(),
+            one if one.is_power_of_two() => format!("{} is undecided: a signal waits for itself, perhaps by way of others", sentence(one, name)),
+            more => format!("{} are undecided: a signal waits for itself, perhaps by way of others", sentence(more, name)),
+        };
+        match doubt.present {
+            0 => waits,
+            known => format!("{}; known present, and not to be switched: {}", waits, sentence(known, name)),
+        }
+    }
+}
+
+impl Style for Table<'_> {
+    fn begin(&mut self, out: &mut Out) -> Outcome<()> {
+        out.line(&self.table.head())
+    }
+
+    fn step(&mut self, step: &Step, out: &mut Out) -> Outcome<()> {
+        let labels = self.labels;
+        let number = step.number.to_string();
+        let inputs = changed(step.inputs, self.inputs, |n| labels.input(n));
+        self.inputs = Some(step.inputs);
+        let reaction = match &step.answer {
+            Instant::Answered(reaction) => reaction,
+            refused => {
+                let title = format!("{}  refused with {}", UNKNOWN, refusal::title(refused.number()));
+                out.line(&self.table.row(&[&number, &inputs, &title]))?;
+                return out.line(&format!("{}   {}", self.table.indent(2), self.why(step)));
+            }
+        };
+        let outputs = changed(reaction.present, self.outputs, |n| labels.output(n));
+        let (rounds, active) = (reaction.rounds.to_string(), reaction.active.to_string());
+        self.outputs = Some(reaction.present);
+        out.line(&self.table.row(&[&number, &inputs, &outputs, &code(reaction.code), &active, &rounds]))
+    }
+
+    fn end(&mut self, tally: &Tally, out: &mut Out) -> Outcome<()> {
+        let refused: Vec<String> = tally.refused.iter().map(|(number, times)| format!("{} refused with {}", grouped(*times), refusal::title(*number))).collect();
+        let answered = tally.instants - tally.refusals();
+        let ends = match refused.as_slice() {
+            [] if tally.instants == 0 => "no instant was run".to_string(),
+            [] => format!("{}, all answered", counted(tally.instants, "instant")),
+            all => format!("{}: {} answered, {}", counted(tally.instants, "instant"), grouped(answered), all.join(", ")),
+        };
+        out.line(&format!("{}; {}", ends, after(&tally.state)))?;
+        if tally.instants > 0 {
+            out.line("+ came, - went, x no outputs")?;
+        }
+        if tally.short > 0 {
+            out.line(&short(tally.short))?;
+        }
+        Ok(())
+    }
+
+    fn refused(&mut self, _report: &Report, _out: &mut Out) -> Outcome<()> {
+        Ok(())
+    }
+}
+
+/// The state in which a run leaves the block.
+fn after(state: &[u8]) -> String {
+    match State::of(state) {
+        Some(state) if state.phase == 1 => format!("it waits at {}", pauses(&state.pauses())),
+        Some(state) if state.phase == 2 => "it has ended".to_string(),
+        _ => "it has not begun".to_string(),
+    }
+}
