@@ -1,4 +1,4 @@
--- The worked instants of document 01, and our own, as one table: each row is a block, a state, the present inputs and the whole answer.
+-- The worked instants of document 01 (N as a later request has it), and our own, as one table: each row is a block, a state, the present inputs and the whole answer.
 -- That the rules give every answer is one statement, `worked`, proved by computing. Assumes nothing.
 use mathlib.Core.Path.{_≡_, refl}
 use mathlib.Core.List.{List, [], _∷_, map}
@@ -127,7 +127,7 @@ N = row 0 1
     (present? 0 then (local 1 (local 2 (emit 2 ⨾ (present? 2 then nothing else emit 1)) ⨾ (present? 1 then emit 0 else nothing))) else nothing)
     fresh [] (stuck (unknown ∷ []) 1 1)
 
--- Cases of our own. Each tells the rules from a wrong one that all cases above would let pass.
+-- Cases of our own. Each tells the rules from a wrong one that all cases above would let pass (but for present-opens, whose two N tells too).
 
 -- emits S and then, only if S is absent, O: under plus S is present and O cannot be emitted, under open it can
 abbrev pub says-both : ℕ → ℕ → Stmt

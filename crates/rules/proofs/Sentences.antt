@@ -1,6 +1,6 @@
 -- "Must and can in one instant", sentence by sentence: lay this file beside document 01. Each is an equation about the definitions,
 -- of statements started or resumed, that holds by computation; where a sentence has a condition, it is put in first.
--- Assumes nothing.
+-- One sentence, can of a local under open, is as a later request has it (docs/DECISIONS.md, "Can of a local"). Assumes nothing.
 use mathlib.Core.Path.{_≡_, refl, _∙_, ap, subst}
 use mathlib.Core.Bool.{Bool, true, false, not, cond, _&&_, _||_, true≢false, and-true, or-false}
 use mathlib.Core.Logic.{_↔_}

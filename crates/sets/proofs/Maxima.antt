@@ -3,13 +3,15 @@
 use mathlib.Core.Path.{_≡_, refl, sym, subst, subst⁻¹, _∙_, ap, ap₂}
 use mathlib.Core.Logic.{_⊎_, inl, inr}
 use mathlib.Core.Bool.{Bool, true, false, _&&_, _||_, or-comm}
+use mathlib.Core.Option.{Option, none, some}
 use Prim.Native.Nat.{ℕ, zero, suc, _≤_, max}
 use native.Mathlib.Nat.{le-refl, le-step, le-suc-iff, max-eq-left, max-eq-right, le-of-lt, lt-of-not-le}
 use native.Mathlib.Decide.{decLe}
 use native.Mathlib.Omega.{arith}
 use lib.Dec.{T, leb, eqb-refl}
 use borrow.Author.Tests.{le-leb, lt-leb}
-use Rattle.sets.specs.Numbers.{Numbers, empty, single, some-to, maxima, Least, down, downs, Within}
+use Rattle.sets.specs.Numbers.{Numbers, empty, single, some-to, maxima, Least, down, downs, lowest, Within}
+use Rattle.sets.proofs.Counts.{lowest-some, lowest-none}
 use Rattle.sets.proofs.Members.{is-true, is-false, and-in, and-left, and-right, or-left, or-right, or-out, eqb-in, single-out, ext, ext-T}
 
 -- A member at or below a number.
@@ -97,7 +99,6 @@ maxima-from a b n = go (a n) (b n) (some-to a n) (some-to b n) (some-to-in a n (
     go false true p false f g = absurd (g tt)
     go false false p q f g = refl
 
--- that is, where both sets have members, every member of either that is at least the larger of the two least ones.
 pub some-to-least : {a : Numbers} {k : ℕ} → Least a k → (n : ℕ) → some-to a n ≡ leb k n
 some-to-least {a} {k} l n = go (decLe k n)
   where
@@ -106,6 +107,7 @@ some-to-least {a} {k} l n = go (decLe k n)
     go (no h) =
         is-false (some-to a n) (λ t. let r = some-to-out a n t in l .none-below (r .0) (omega (arith, r .1)) (r .2)) ∙ sym (lt-leb k n (omega arith))
 
+-- that is, where both sets have members, every member of either that is at least the larger of the two least ones.
 pub maxima-of-least : {a b : Numbers} {k l : ℕ} → Least a k → Least b l → (n : ℕ) → maxima a b n ≡ ((a n || b n) && leb (max k l) n)
 maxima-of-least {a} {b} {k} {l} p q n =
     maxima-from a b n ∙ ap (λ (x : Bool). (a n || b n) && x) (ap₂ _&&_ (some-to-least p n) (some-to-least q n) ∙ both (decLe k n) (decLe l n))
@@ -114,6 +116,14 @@ maxima-of-least {a} {b} {k} {l} p q n =
     both (yes h) (yes j) = rw (le-leb k n h, le-leb l n j, le-leb (max k l) n (omega arith))
     both (yes h) (no j) = rw (le-leb k n h, lt-leb l n (omega arith), lt-leb (max k l) n (omega arith))
     both (no h) j = rw (lt-leb k n (omega arith), lt-leb (max k l) n (omega arith))
+
+-- A set with a member has a least one, so that the sentence holds of any two sets.
+pub least-of : (a : Numbers) (m : ℕ) → T (a m) → (k : ℕ) × Least a k
+least-of a m t = go (lowest (suc m) a) refl
+  where
+    go : (o : Option ℕ) → lowest (suc m) a ≡ o → (k : ℕ) × Least a k
+    go none e = absurd (lowest-none (suc m) a e m (omega arith) t)
+    go (some k) e = let r = lowest-some (suc m) a e in (k, record { member = r .1; none-below = r .2 })
 
 -- Lowered codes.
 pub downs-in : (a : Numbers) (k : ℕ) → T (a k) → T (downs a (down k))

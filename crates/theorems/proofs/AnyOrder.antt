@@ -169,3 +169,31 @@ any-order b st given {n} {vs} o none =
       );
       a-step-each = steps-from-begin b p given o;
     }
+
+module _ (b : Block) (p : Step) (given : Numbers) where
+  -- What a round would settle at this moment may be settled alone, in its place.
+  pub settled-alone : (vs : List Status) (i : ℕ) → i < length vs → getD vs i unknown ≡ unknown → (v : Status) → (v ≡ unknown → ⊥)
+      → getD (round b p given vs) i unknown ≡ v → Justifies b p given vs i v
+  settled-alone vs i h e v k q =
+      go (must-has b p given vs i) (can-has b p given vs i) refl refl
+      (sym (round-at b p given vs i h ∙ ap (marked (must-has b p given vs i) (can-has b p given vs i)) e) ∙ q)
+    where
+      go : (x y : Bool) → must-has b p given vs i ≡ x → can-has b p given vs i ≡ y → marked (must-has b p given vs i) (can-has b p given vs i) unknown ≡ v
+          → Justifies b p given vs i v
+      go true y d f r = subst (λ (u : Status). Justifies b p given vs i u) (sym (rw d) ∙ r) (in-must h e (of-true d))
+      go false true d f r = absurd (k (sym r ∙ rw (d, f)))
+      go false false d f r = subst (λ (u : Status). Justifies b p given vs i u) (sym (rw (d, f)) ∙ r) (not-in-can h e (of-false f))
+
+  -- Two orders, the one after the other.
+  pub joined : {us vs ws : List Status} {m n : ℕ} → Order b p given us m vs → Order b p given vs n ws → Order b p given us (n + m) ws
+  joined {us = us} {vs = vs} {m = m} o none-yet = subst (λ (k : ℕ). Order b p given us k vs) (omega arith) o
+  joined {us = us} {ws = ws} {m = m} o (one-more {n = n} q j) = subst (λ (k : ℕ). Order b p given us k ws) (omega arith) (one-more (joined o q) j)
+
+-- So every order, wherever it stands, can be gone on with to where the rounds end.
+pub goes-on-to-the-end : (b : Block) (st : State) (given : Numbers) {n : ℕ} {vs : List Status} → Order b (step (b .body) st) given (begin b) n vs
+    → (m : ℕ) × (ws : List Status) × Order b (step (b .body) st) given vs m ws × Order b (step (b .body) st) given (begin b) (m + n) ws × EndsAsRounds b st given (m + n) ws
+goes-on-to-the-end b st given {n} {vs} o =
+    let p = step (b .body) st in
+    let g = goes-on b p given (undecided vs) vs (omega arith) in
+    let whole = joined b p given o (g .further) in
+    (g .steps, g .end, g .further, whole, any-order b st given whole (g .none-left))

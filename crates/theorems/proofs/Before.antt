@@ -3,22 +3,22 @@
 use mathlib.Core.Path.{_≡_, refl, sym, _∙_, ap, ap₂, subst, subst⁻¹}
 use mathlib.Core.Logic.{_⊎_, inl, inr}
 use mathlib.Core.Bool.{Bool, true, false}
-use mathlib.Core.List.{List, []}
+use mathlib.Core.List.{List}
 use mathlib.Core.Option.{Option, none, some}
-use Prim.Native.Nat.{ℕ, zero, suc, _+_, _≤_, _<_}
+use Prim.Native.Nat.{ℕ, zero, suc, _+_, _<_}
 use native.Mathlib.Nat.{not-suc-le-zero}
 use native.Mathlib.Omega.{arith}
 use lib.Dec.{T}
 use lib.Seq.{ext-getD}
 use lib.ListN.{length, getD, length-replicate}
 use Rattle.sets.specs.Numbers.{Numbers, empty, single, union, only-if, lowest}
-use Rattle.sets.proofs.Members.{of-true, of-false, is-false}
+use Rattle.sets.proofs.Members.{of-true, of-false}
 use Rattle.sets.proofs.Maxima.{maxima-out, downs-out}
 use Rattle.sets.proofs.Counts.{lowest-some, lowest-none}
 use Rattle.rules.specs.Statements.{Block, code}
 use Rattle.rules.specs.Events.{Status, present, absent, unknown, Event, giving, known, event}
 use Rattle.rules.specs.Instant.{Step, done, stay, say, leave, test, catch, scope, chain, beside}
-use Rattle.rules.specs.MustCan.{Mark, plus, Question, must, can, Given, choose, marked, gives}
+use Rattle.rules.specs.MustCan.{plus, must, can, Given, choose, marked, gives}
 use Rattle.rules.specs.States.{State, step, executed-as, kept-by, kept, next}
 use Rattle.rules.specs.Rounds.{round, begin, Rounds, all-same, Settled, one-more, answered, not-constructive, Answer, code-width, answer, undecided}
 use Rattle.rules.proofs.RoundLaws.{all-same-is, all-same-refl, marks-length, marks-at}
@@ -31,18 +31,18 @@ use Rattle.theorems.specs.Traces.{Instant}
 use Rattle.theorems.specs.Traces as now
 use Rattle.theorems.proofs.Forms.{inside-trans, inside-antisym}
 use Rattle.theorems.proofs.MustInCan.{in-force, must-in-can-by}
-use Rattle.theorems.proofs.Compare.{⊑-refl, Closer, NoMore, for-must, for-can, compare, marked-below}
+use Rattle.theorems.proofs.Compare.{⊑-refl, Closer, for-must, for-can, compare, marked-below}
 use Rattle.theorems.proofs.Exact.{FirstOrBoth, only-first, then-second, first-or-both, can-in-must}
-use Rattle.theorems.proofs.Reach.{begin-at, Backed, backed-below, marked-backed, backed-later, marked-all, marked-under, outputs-below, round-at, reached-length, decided}
+use Rattle.theorems.proofs.Reach.{begin-at, Backed, backed-below, marked-backed, backed-later, marked-under, outputs-below, round-at, reached-length, decided}
 use Rattle.theorems.proofs.RoundsEnd.{progress, undecided-begin, last-unchanged, last-reached}
 use Rattle.theorems.proofs.Traps.{root-codes}
 
 -- The readings compared: the formula with itself, and with the remark.
 formula-formula : Closer formula formula
-formula-formula = record { strict-plus = refl; wide-plus = refl; asks = λ m n r. tt }
+formula-formula = record { strict-plus = refl; asks = λ m n r. tt }
 
 formula-remark : Closer formula remark
-formula-remark = record { strict-plus = refl; wide-plus = refl; asks = λ m n r. tt }
+formula-remark = record { strict-plus = refl; asks = λ m n r. tt }
 
 -- What must gives now it gave before, at any event above; what can under plus gave before it gives now, at any event below.
 less-must : (p : Step) {E F : Event} → E ⊑ F → Inside (gives must p E) (gave must p F)
@@ -240,7 +240,7 @@ module _ (b : Block) (st : State) (given : Numbers) where
   abbrev S : Step
   S = step (b .body) st
 
-  -- By the formula too each instant had exactly one answer, which `react-before` computes.
+  -- By the formula too each instant had at most one answer, and of a checked block `react-before` computes it.
   pub one-answer-before : {a d : Answer} → InstantBefore b st given a → InstantBefore b st given d → a ≡ d
   one-answer-before (answers {vs = vs} {c = c} r t) (answers {vs = ws} {c = d} q u) =
       let e = rounds-were-one b S given r q in
@@ -310,7 +310,7 @@ module _ (b : Block) (st : State) (given : Numbers) where
   pub none-newly-answered : {vs ws : List Status} {c m n : ℕ} {st′ : State} → InstantBefore b st given (not-constructive ws n) → Instant b st given (answered vs c st′ m) → ⊥
   none-newly-answered (refuses q f) (now.answers {c = c} r t) = f c (less-must S (under r q) .of-codes .at c t)
 
-  -- An instant answered now was answered before, with the same outputs, code and next state.
+  -- Where both answer, they have the same outputs, code and next state.
   pub same-as-before : {vs ws : List Status} {c d m n : ℕ} {st′ st″ : State} → InstantBefore b st given (answered ws d st″ n) → Instant b st given (answered vs c st′ m)
       → (ws ≡ vs) × (d ≡ c) × (st″ ≡ st′)
   same-as-before (answers {vs = ws} {c = d} q u) (now.answers {vs = vs} {c = c} r t) =
@@ -320,4 +320,19 @@ module _ (b : Block) (st : State) (given : Numbers) where
         e,
         k,
         ap₂ (λ (x : ℕ) (us : List Status). next x (kept-before S (event b given us))) k e ∙ ap (next c) (same-kept S (event b given vs) c t),
+      )
+
+  -- An instant answered now was answered before, with the same outputs, code and next state, whether or not the block is checked.
+  pub was-answered : {vs : List Status} {c m : ℕ} {st′ : State} → Instant b st given (answered vs c st′ m) → (n : ℕ) × InstantBefore b st given (answered vs c st′ n)
+  unfolding begin
+  was-answered (now.answers {vs = vs} {c = c} r t) =
+      let f = settle-before b S given (suc (b .outputs)) (begin b) in
+      let u : undecided (begin b) ≡ b .outputs = undecided-begin (b .outputs) in
+      let q = settle-before-ends b S given (suc (b .outputs)) (begin b) (begin-backed b S given) (omega arith) .ends in
+      let e : f .statuses ≡ vs = same-statuses r q c t in
+      let had : InstantBefore b st given (answered (f .statuses) c (next c (kept-before S (event b given (f .statuses)))) (f .rounds)) =
+      answers q (less-must S (under r q) .of-codes .at c t) in (
+        f .rounds,
+        subst (λ (x : State). InstantBefore b st given (answered vs c x (f .rounds))) (ap (next c) (same-kept S (event b given vs) c t))
+            (subst (λ (us : List Status). InstantBefore b st given (answered us c (next c (kept-before S (event b given us))) (f .rounds))) e had),
       )

@@ -6,7 +6,7 @@ use Prim.Native.Nat.{ℕ}
 use lib.ListN.{getD, set}
 use Rattle.sets.specs.Numbers.{members, listed, some-to, maxima, down, downs, lowest}
 use Rattle.rules.specs.Statements.{code, Stmt, nothing, emit, present?_then_else_, _⨾_, local, pauses}
-use Rattle.rules.specs.Events.{present, absent, unknown, event}
+use Rattle.rules.specs.Events.{absent, unknown, event}
 use Rattle.rules.specs.Instant.{any, active, held, started, resumed}
 use Rattle.rules.specs.MustCan.{gives}
 use Rattle.rules.specs.States.{fresh, phase-of, active-of, step, kept, next}

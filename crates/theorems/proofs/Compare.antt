@@ -35,10 +35,9 @@ Stricter plus n = Unit {0}
 Stricter opened plus = ⊥
 Stricter opened opened = Unit {0}
 
--- Two readings of a local's absence: the strict one asks under a mark as strict as the wide one's, or stricter. Where the mark is plus both ask under plus.
+-- Two readings of a local's absence: the strict one asks under a mark as strict as the wide one's, or stricter. Where the mark is plus the strict one asks under plus.
 pub record Closer (strict wide : Reading) : Type 0 where
   pub strict-plus : strict plus ≡ plus
-  pub wide-plus : wide plus ≡ plus
   pub asks : (m n : Mark) → Stricter m n → Stricter (strict m) (wide n)
 
 -- The first question at the first event gives no more than the second at the second: must by the wide reading, can by the strict one.
@@ -80,15 +79,6 @@ asks-stricter opened plus b c r f t = absurd r
 asks-stricter opened opened b c r f t = t
 
 module _ (strict wide : Reading) (near : Closer strict wide) where
-  -- The second, or both, in doubt.
-  doubt : {x y : Reading} {k l : Question} {E F : Event} → NoMore strict wide x k E y l F → NoMore strict wide x k E y (in-doubt l) F
-  doubt (for-must h) = for-must h
-  doubt (for-can m n h r) = for-can m opened h (stricter-opened m)
-
-  doubts : {x y : Reading} {k l : Question} {E F : Event} → NoMore strict wide x k E y l F → NoMore strict wide x (in-doubt k) E y (in-doubt l) F
-  doubts (for-must h) = for-must h
-  doubts (for-can m n h r) = for-can opened opened h tt
-
   -- The second part's questions compare, from what the first part must give.
   onward-stricter : (m n : Mark) (b c : Bool) → Stricter m n → (T c → T b) → (E F : Event) → F ⊑ E
       → NoMore strict wide strict (onward (can m) b) E wide (onward (can n) c) F
@@ -177,7 +167,7 @@ module _ (strict wide : Reading) (near : Closer strict wide) where
 
 -- The sentences, one by one, of the reading in force.
 same-reading : Closer remark remark
-same-reading = record { strict-plus = refl; wide-plus = refl; asks = λ m n r. r }
+same-reading = record { strict-plus = refl; asks = λ m n r. r }
 
 now : {k l : Question} {E F : Event} (p : Step) → NoMore remark remark remark k E remark l F → Inside (gives k p E) (gives l p F)
 now {k} {l} {E} {F} p h =

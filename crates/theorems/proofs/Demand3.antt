@@ -5,7 +5,6 @@ use mathlib.Core.Logic.{_↔_, _⊎_}
 use mathlib.Core.Bool.{Bool}
 use mathlib.Core.List.{List}
 use Prim.Native.Nat.{ℕ, _+_, _<_}
-use native.Mathlib.Nat.{le-refl}
 use lib.Dec.{T}
 use lib.ListN.{length, getD}
 use Rattle.sets.specs.Numbers.{Numbers, Within}
@@ -24,14 +23,14 @@ use Rattle.theorems.specs.Reactions.{Some, OnlyReaction}
 use Rattle.theorems.specs.Checked.{Checked, Part, NeverZero, ZeroOrOne}
 use Rattle.theorems.specs.Traces.{InputSet, Instant, Trace}
 use Rattle.theorems.specs.Demand.{NeverStuck}
-use Rattle.theorems.specs.AnyOrder.{Order, NoneLeft, OneLeft, EndsAsRounds, GoesOn}
+use Rattle.theorems.specs.AnyOrder.{Justifies, Order, NoneLeft, OneLeft, EndsAsRounds}
 use Rattle.theorems.proofs.MustInCan.{must-in-can}
 use Rattle.theorems.proofs.Compare.{must-grows, can-shrinks, plus-in-opened}
 use Rattle.theorems.proofs.Exact.{exact}
 use Rattle.theorems.proofs.Sound.{sound}
 use Rattle.theorems.proofs.Reach.{round-keeps, same-end}
 use Rattle.theorems.proofs.RoundsEnd.{rounds-unique, last-unchanged, last-reached, final, none-undecided, nothing-left}
-use Rattle.theorems.proofs.AnyOrder.{any-order, steps-from-begin, one-left-or-none, goes-on}
+use Rattle.theorems.proofs.AnyOrder.{any-order, steps-from-begin, one-left-or-none, settled-alone, goes-on-to-the-end}
 use Rattle.theorems.proofs.Reaction.{coherent-between}
 use Rattle.theorems.proofs.LoopCodes.{given-codes, run-codes, loop-body-never-zero}
 use Rattle.theorems.proofs.Traps.{root-codes}
@@ -129,7 +128,7 @@ any-order-of-settling-ends-alike b p given = same-end b p given
 
 -- One output at a time, present if in must and absent if not in can under plus: whatever the order, where none is left the statuses are those of
 -- the rounds, with the same code or none. Every step decides one output, so no order takes more steps than there are outputs; at every moment
--- one is left or none is, and every order can be gone on with until none is.
+-- one is left or none is, any output that a round would settle may be settled alone, and every order can be gone on with until none is left.
 pub settling-one-at-a-time-ends-as-the-rounds : (b : Block) (st : State) (given : Numbers) {n : ℕ} {vs : List Status}
     → Order b (step (b .body) st) given (begin b) n vs → NoneLeft b (step (b .body) st) given vs → EndsAsRounds b st given n vs
 settling-one-at-a-time-ends-as-the-rounds = any-order
@@ -141,8 +140,13 @@ a-step-for-each-output-decided = steps-from-begin
 pub at-every-moment-one-is-left-or-none : (b : Block) (p : Step) (given : Numbers) (vs : List Status) → OneLeft b p given vs ⊎ NoneLeft b p given vs
 at-every-moment-one-is-left-or-none = one-left-or-none
 
-pub every-order-can-be-gone-on-with : (b : Block) (p : Step) (given : Numbers) (vs : List Status) → GoesOn b p given vs
-every-order-can-be-gone-on-with b p given vs = goes-on b p given (undecided vs) vs (le-refl (undecided vs))
+pub what-a-round-settles-may-be-settled-alone : (b : Block) (p : Step) (given : Numbers) (vs : List Status) (i : ℕ) → i < length vs → getD vs i unknown ≡ unknown
+    → (v : Status) → (v ≡ unknown → ⊥) → getD (round b p given vs) i unknown ≡ v → Justifies b p given vs i v
+what-a-round-settles-may-be-settled-alone = settled-alone
+
+pub every-order-goes-on-to-where-the-rounds-end : (b : Block) (st : State) (given : Numbers) {n : ℕ} {vs : List Status} → Order b (step (b .body) st) given (begin b) n vs
+    → (m : ℕ) × (ws : List Status) × Order b (step (b .body) st) given vs m ws × Order b (step (b .body) st) given (begin b) (m + n) ws × EndsAsRounds b st given (m + n) ws
+every-order-goes-on-to-where-the-rounds-end = goes-on-to-the-end
 
 -- Coherence: an execution whose locals agree lies between must and can at every event below its own, so a coherent reaction does at every
 -- event of the rounds; with the code known it is the computed one, and the computed one is coherent.

@@ -5,7 +5,7 @@ use mathlib.Core.Bool.{Bool, true, false}
 use lib.Dec.{T}
 use Rattle.rules.specs.Events.{Status, present, absent, unknown, Event, giving}
 use Rattle.rules.specs.Instant.{Step, done, stay, say, leave, test, catch, scope, chain, beside}
-use Rattle.rules.specs.MustCan.{Mark, plus, opened, Question, must, can, Given, in-doubt, choose, caught, both, followed, onward, absence-asked, local-status, hidden, gives}
+use Rattle.rules.specs.MustCan.{Mark, plus, Question, must, can, Given, in-doubt, choose, caught, both, followed, onward, absence-asked, local-status, hidden, gives}
 use Rattle.theorems.specs.Order.{Inside}
 use Rattle.theorems.specs.Before.{Reading, remark, absence-read, gives-by}
 use Rattle.theorems.proofs.Forms.{inside-refl, inside-nothing, caught-inside, hidden-inside, both-inside, followed-inside}

@@ -54,7 +54,7 @@ backed-later present m c m′ c′ f g h = f h
 backed-later absent m c m′ c′ f g h = λ t. h (g t)
 backed-later unknown m c m′ c′ f g h = tt
 
-pub marked-all : (v : Status) (m c : Bool) → (T m → T c) → (T c → T m) → marked m c v ≡ known m
+marked-all : (v : Status) (m c : Bool) → (T m → T c) → (T c → T m) → marked m c v ≡ known m
 marked-all v true c f g = refl
 marked-all v false true f g = absurd (g tt)
 marked-all v false false f g = refl

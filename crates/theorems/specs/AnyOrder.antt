@@ -11,7 +11,7 @@ use Rattle.rules.specs.Events.{Status, present, absent, unknown, event}
 use Rattle.rules.specs.Instant.{Step}
 use Rattle.rules.specs.MustCan.{plus, must, can, gives}
 use Rattle.rules.specs.States.{State, step}
-use Rattle.rules.specs.Rounds.{begin, final-of, undecided}
+use Rattle.rules.specs.Rounds.{final-of, undecided}
 
 -- Settling the undecided output i is justified: present if in must, absent if not in can under plus, at the statuses of that moment.
 pub data Justifies (b : Block) (p : Step) (given : Numbers) (vs : List Status) : ℕ → Status → Type 0 where

@@ -1,6 +1,6 @@
 -- The rules as they were before a local's absence was asked for under the mark at hand. Document 001's formula asks for it under plus even where
 -- the mark is open; its remark analyses the body with the same mark, and the remark decides. Must and can are written here once for both
--- readings, so that what is shown of the one is shown of the other; `gives` is the reading in force. Assumes nothing.
+-- readings, so that they can be compared; `gives` is the reading in force. Assumes nothing.
 use mathlib.Core.Path.{_≡_}
 use mathlib.Core.Logic.{_≢_}
 use mathlib.Core.Bool.{true, false}

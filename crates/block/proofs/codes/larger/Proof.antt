@@ -2,8 +2,7 @@
 -- Assumes nothing.
 use native.Mathlib.Omega.{arith}
 use lib.Bits.{or-lt}
-use lib.Count.{trailingZeros, trailing-le}
-use lib.Pow.{pow-mono}
+use lib.Count.{trailing-le}
 use Rattle.sets.proofs.Words.{maxima-is, maxima-lt}
 use Rattle.block.proofs.codes.larger.Statement.{statement}
 use Rattle.block.proofs.codes.larger.Tie as tie
