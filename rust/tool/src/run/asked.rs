@@ -89,6 +89,11 @@ impl Asked {
         }
     }
 
+    /// Whether the run is printed for a person.
+    pub fn speaks_in_words(&self) -> bool {
+        self.form() == Some(Form::Table)
+    }
+
     /// Whether anything is read or printed in which a name can stand.
     pub fn wants_names(&self) -> bool {
         self.form != Some(Form::Plain) || self.expect.is_some() || self.inputs_file().is_none()
