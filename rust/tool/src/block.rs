@@ -97,7 +97,7 @@ impl Report {
     }
 }
 
-/// Whether a file holds a good block.
+/// Whether a file holds a good block. What has no end, or has to be waited for, is not looked at.
 pub fn is_good(path: &Path) -> bool {
-    files::block(path).map_or(false, |bytes| check(&bytes).is_ok())
+    files::size(path).is_some() && files::block(path).map_or(false, |bytes| check(&bytes).is_ok())
 }
