@@ -58,7 +58,7 @@ pub fn counts(summary: &Summary, bytes: usize) -> String {
 
 /// All that is said of a refused block.
 pub struct Report {
-    pub file: String,
+    pub path: PathBuf,
     pub refusal: Refusal,
     pub statement: Option<usize>,
     pub record: String,
@@ -69,7 +69,7 @@ pub struct Report {
 impl Report {
     pub fn of(path: &Path, block: &[u8], why: Refusal) -> Report {
         Report {
-            file: files::shown(path),
+            path: path.to_path_buf(),
             refusal: why,
             statement: refusal::statement_number(block, &why),
             record: refusal::record(block, why.place),
@@ -85,7 +85,7 @@ impl Report {
     pub fn lines(&self) -> Vec<String> {
         let statement = self.statement.map_or(String::new(), |number| format!(" (statement {})", number));
         let mut lines = vec![
-            format!("{}: refused with {}, at offset {}{}", self.file, refusal::title(self.refusal.number), self.refusal.place, statement),
+            format!("{}: refused with {}, at offset {}{}", files::shown(&self.path), refusal::title(self.refusal.number), self.refusal.place, statement),
             format!("there:         {}", self.record),
             format!("what is wrong: {}", self.wrong),
         ];
@@ -97,7 +97,7 @@ impl Report {
     }
 }
 
-/// Whether a file holds a good block.
+/// Whether a file holds a good block. What has no end, or has to be waited for, is not looked at.
 pub fn is_good(path: &Path) -> bool {
-    files::block(path).map_or(false, |bytes| check(&bytes).is_ok())
+    files::size(path).is_some() && files::block(path).map_or(false, |bytes| check(&bytes).is_ok())
 }

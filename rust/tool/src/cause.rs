@@ -1,7 +1,7 @@
 //! The likely cause of a refused block, and what to do about it. Where something can be tried it is tried: a file whose pairs of bytes are turned
 //! round and that is then good was written high byte first.
 
-use crate::layout::{begins_log_record, begins_state, two, BLOCK_MOST, HEADER, RECORD, SET};
+use crate::layout::{begins_log_record, begins_state, eight, two, Header, BLOCK_MOST, HEADER, RECORD, SET};
 use crate::walk::counted;
 use foldheron::{check, Refusal};
 
@@ -21,6 +21,23 @@ pub fn likely(block: &[u8], refusal: &Refusal) -> Option<Cause> {
     }
     let tries: [fn(&[u8], &Refusal) -> Option<Cause>; 9] = [empty, text, packed, other_record, turned, line_ends, goes_on, input_sets, cut_off];
     tries.iter().find_map(|attempt| attempt(block, refusal))
+}
+
+/// The likely cause of refused or short input sets, by the first bytes of their file.
+pub fn likely_inputs(bytes: &[u8], inputs: usize) -> Option<Cause> {
+    if Header::of(bytes).is_some() {
+        return cause("this is a block, not input sets", "name the file of the input sets");
+    }
+    if !bytes.is_empty() && is_text(bytes) {
+        return cause("this is text, and an input set is 8 bytes", "write the sets as bytes, or say them in words with --in");
+    }
+    let sets: Vec<u64> = bytes.chunks_exact(SET).filter_map(|set| eight(set, 0)).collect();
+    let is_declared = |set: &u64| inputs >= 64 || set >> inputs == 0;
+    let is_turned = sets.iter().all(|set| is_declared(&set.swap_bytes())) && !sets.iter().all(is_declared);
+    if is_turned {
+        return cause("the sets are written high byte first", "write them low byte first (little-endian)");
+    }
+    None
 }
 
 fn empty(block: &[u8], _: &Refusal) -> Option<Cause> {
@@ -150,6 +167,17 @@ mod tests {
         assert_eq!(from_hex(b"0E 00 01 00 / ff"), Some(vec![14, 0, 1, 0, 255]));
         assert_eq!(from_hex(b"0E 00 01 0"), None);
         assert_eq!(from_hex(b"present O"), None);
+    }
+
+    #[test]
+    fn inputs() {
+        let what = |bytes: &[u8], inputs| likely_inputs(bytes, inputs).map(|cause| cause.what);
+        assert_eq!(what(&[0, 0, 0, 0, 0, 0, 0, 1], 1).unwrap(), "the sets are written high byte first");
+        assert_eq!(what(&[2, 0, 0, 0, 0, 0, 0, 0], 1), None);
+        assert_eq!(what(&[1, 0, 0, 0, 0, 0, 0, 0], 1), None);
+        assert_eq!(what(&[0xFF; 16], 64), None);
+        assert_eq!(what(b"1\n1\n0\n", 1).unwrap(), "this is text, and an input set is 8 bytes");
+        assert!(what(&[14, 0, 1, 0, 1, 0, 7, 0, 1, 0, 1, 0, 0, 0], 1).unwrap().starts_with("this is a block"));
     }
 
     #[test]

@@ -28,7 +28,7 @@ impl Log {
     /// Opens a log, or begins one. What is there has to be a log of whole records.
     pub fn open(path: &Path) -> Outcome<Log> {
         let failed = |why: io::Error| unwritten(path, &why);
-        let is_new = !path.exists();
+        let is_new = std::fs::symlink_metadata(path).is_err();
         let mut file = OpenOptions::new().read(true).append(true).create(true).open(path).map_err(failed)?;
         let about = file.metadata().map_err(failed)?;
         let before = Some(about.len()).filter(|_| about.is_file());

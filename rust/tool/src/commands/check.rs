@@ -58,7 +58,7 @@ fn in_words(path: &Path, out: &mut Out) -> Outcome<Status> {
 }
 
 fn as_json(path: &Path, out: &mut Out) -> Outcome<Status> {
-    let object = Object::new().text("file", &files::shown(path));
+    let object = Object::new().text("file", &path.to_string_lossy());
     let (object, status) = match files::block(path) {
         Err(trouble) => (object.flag("good", false).text("error", &trouble.lines[0]), trouble.status),
         Ok(bytes) => match check(&bytes) {
@@ -86,7 +86,7 @@ fn good(object: Object, summary: &Summary, bytes: &[u8]) -> Object {
 /// A refused block, here and in a run.
 pub fn refused(report: &Report) -> Object {
     let why = report.refusal;
-    let object = Object::new().text("file", &report.file).flag("good", false).number("refusal", why.number).text("name", name_of(why.number).unwrap_or(""));
+    let object = Object::new().text("file", &report.path.to_string_lossy()).flag("good", false).number("refusal", why.number).text("name", name_of(why.number).unwrap_or(""));
     let object = object.number("place", why.place as u64).text("record", &report.record).text("wrong", &report.wrong);
     let object = match &report.cause {
         Some(cause) => object.text("cause", &cause.what),

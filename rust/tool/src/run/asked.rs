@@ -62,6 +62,9 @@ impl Asked {
             return Err(Trouble::call("only one file can be - , standard input"));
         }
         for (option, written) in [("--to", &self.to), ("--log", &self.log)] {
+            if written.as_deref() == Some(Path::new(files::STDIN)) {
+                return Err(Trouble::call(format!("{} wants a file: - is standard input", option)));
+            }
             let clash = written.as_deref().and_then(|file| read.iter().find(|path| files::same(file, path)).map(|path| (file, path)));
             match clash {
                 Some((_, path)) if option == "--to" && self.from.as_deref() == Some(path) => {}
@@ -87,6 +90,11 @@ impl Asked {
             Inputs::File(path) => Some(path),
             Inputs::Sets(_) => None,
         }
+    }
+
+    /// Whether the run is printed for a person.
+    pub fn speaks_in_words(&self) -> bool {
+        self.form() == Some(Form::Table)
     }
 
     /// Whether anything is read or printed in which a name can stand.

@@ -13,10 +13,11 @@ pub mod words;
 
 use crate::args::{flag, with, Words};
 use crate::block::{self, Block, Report};
+use crate::cause::likely_inputs;
 use crate::commands::Command;
 use crate::files;
 use crate::names;
-use crate::output::Out;
+use crate::output::{warn, Out};
 use crate::status::Status;
 use crate::trouble::{Outcome, Trouble};
 use asked::Asked;
@@ -70,7 +71,10 @@ fn run(words: &Words, out: &mut Out) -> Outcome<Status> {
     let mut style = style::of(&asked, &block)?;
     let ended = all(&block, &mut source, &mut kept, style.as_mut(), out);
     match ended.and_then(|tally| kept.save().map(|_| tally)) {
-        Ok(tally) => Ok(asked.status(&tally)),
+        Ok(tally) => {
+            hint(&asked, &block, &tally);
+            Ok(asked.status(&tally))
+        }
         Err(trouble) => Err(kept.give_up(trouble)),
     }
 }
@@ -102,6 +106,22 @@ fn all(block: &Block, source: &mut Source, kept: &mut Kept, style: &mut dyn Styl
     out.flush()?;
     Ok(tally)
 }
+
+/// Where sets were refused or cut off, what is likely to be wrong with their file.
+fn hint(asked: &Asked, block: &Block, tally: &Tally) {
+    let is_odd = tally.short > 0 || tally.refused.iter().any(|(number, _)| *number == 11);
+    let file = match asked.inputs_file() {
+        Some(file) if is_odd && asked.speaks_in_words() && files::size(file).is_some() => file,
+        _ => return,
+    };
+    let bytes = files::first(file, FIRST).unwrap_or_default();
+    if let Some(cause) = likely_inputs(&bytes, block.labels.inputs().len()) {
+        warn(format!("{}: {}", files::shown(file), cause.what), &cause.advice);
+    }
+}
+
+/// How many bytes of the inputs are looked at for that.
+const FIRST: usize = 512;
 
 /// A refused block: a line of its own where lines are asked for, else words on standard error.
 fn refused(asked: &Asked, report: &Report, out: &mut Out) -> Outcome<Status> {
