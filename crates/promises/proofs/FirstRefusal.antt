@@ -10,13 +10,13 @@ use native.Mathlib.Omega.{arith}
 use lib.Dec.{T, eqb, ltb}
 use lib.ListN.{length}
 use borrow.Author.Tests.{eqb-true, eqb-false, ltb-true, ltb-false}
-use Rattle.sets.specs.Numbers.{listed}
+use Rattle.sets.specs.Numbers.{Numbers, listed}
 use Rattle.sets.specs.Words.{bits}
 use Rattle.rules.specs.States.{State, fresh, active-of}
 use Rattle.rules.specs.Rounds.{Answer, answered, not-constructive, react}
 use Rattle.block.specs.Format.{Good, Reading, good, turned-down, reading, preorder, numbered, bytes, offset}
 use Rattle.block.proofs.GoodReadings.{numbers}
-use Rattle.records.specs.StateRecord.{Found, not-a-state, state, read-state, state-record, Pair, first-clash, undeclared-input}
+use Rattle.records.specs.StateRecord.{Found, not-a-state, state, active-in, read-state, state-record, Pair, first-clash, undeclared-input}
 use Rattle.records.specs.LogRecord.{no-room}
 use Rattle.reaction.specs.Instants.{STATE, CLASH, INPUT, ROOM, Verdict, refused, clash, reacted, block-of, try-inputs, try-clash, try-state, try-block, verdict, told, instant-verdict, logged-verdict}
 use Rattle.foldheron.specs.declared.Part.{Part}
@@ -28,7 +28,8 @@ use Rattle.promises.specs.Demand1.{instant-tests, logged-tests, INDEX, N
 use Rattle.promises.specs.Demand1.{at-0}
 use Rattle.promises.proofs.Records.{checked}
 use Rattle.promises.proofs.FirstRecord.{turned-down-decides, decides-alone}
-use Rattle.promises.proofs.Tests.{wrong-read, read-wrong, none-clash, first-pair, declared-none, undeclared-some, room-missing, room-there, NoCode, code-unknown, code-known}
+use Rattle.promises.proofs.Tests.{wrong-read, read-wrong, found-set, set-found}
+use Rattle.promises.proofs.Tests.{none-clash, first-pair, declared-none, undeclared-some, room-missing, room-there, NoCode, code-unknown, code-known}
 
 -- 1 to 8.
 good-or-not : {A : Type 0} (g : Good) (n at : ℕ) → good g ≡ turned-down n at → A
@@ -82,11 +83,21 @@ module _ (b s : List ℕ) (w : ℕ) (g : Good) (e : reading b ≡ good g) where
     held : HeldBy b s g st
     held = record { is-good = e; is-found = h }
 
+    -- a pair in the record's words is one of the state
+    moved : (x : Good) (B C : Numbers) (m n : ℕ) → ((k : ℕ) → T (B k) → T (C k)) → Incompatible x B m n → Incompatible x C m n
+    moved x B C m n f c = record {
+      first-active = f m (c .first-active);
+      second-active = f n (c .second-active);
+      lower = c .lower;
+      of-the-128 = c .of-the-128;
+      not-compatible = c .not-compatible;
+    }
+
     clash-none : first-clash (g .body) (active-of st) ≡ none → Clashing b s → ⊥
     clash-none q t =
         none-clash g (active-of st) q (t .first) (t .second)
-        (subst (λ (y : State). Incompatible g (active-of y) (t .first) (t .second)) (sym (same-state (t .block) (t .from) (t .held)))
-        (subst (λ (x : Good). Incompatible x (active-of (t .from)) (t .first) (t .second)) (sym (same-block (t .block) (t .held .is-good))) (t .clash)))
+        (moved g (active-in s) (active-of st) (t .first) (t .second) (found-set (g .pauses) s st h)
+        (subst (λ (x : Good). Incompatible x (active-in s) (t .first) (t .second)) (sym (same-block (t .block) (t .is-good))) (t .clash)))
 
     pub its-pair : (pair : Pair) → first-clash (g .body) (active-of st) ≡ some pair → PairOf b s (pair .first) (pair .second)
     its-pair pair q = record { block = g; from = st; held = held; is-first = first-pair g (active-of st) pair q }
@@ -94,11 +105,10 @@ module _ (b s : List ℕ) (w : ℕ) (g : Good) (e : reading b ≡ good g) where
     clash-some : (pair : Pair) → first-clash (g .body) (active-of st) ≡ some pair → Clashing b s
     clash-some pair q = record {
       block = g;
-      from = st;
-      held = held;
+      is-good = e;
       first = pair .first;
       second = pair .second;
-      clash = first-pair g (active-of st) pair q .is-pair;
+      clash = moved g (active-of st) (active-in s) (pair .first) (pair .second) (set-found (g .pauses) s st h) (first-pair g (active-of st) pair q .is-pair);
     }
 
     input-none : undeclared-input (g .header .inputs) w ≡ false → Undeclared b w → ⊥

@@ -64,6 +64,13 @@ module _ (b : List ℕ) (said : Summary) (good-answer : CheckCalled b (GoodOne s
     pub from-fresh-the-calls-make-the-rules-run : (map instant-told rs ≡ map (told-reaction (block-of g)) (run (block-of g) fresh (sets ws))) × Holds g s′ (arrives (block-of g) fresh (sets ws))
     from-fresh-the-calls-make-the-rules-run = calls b g e s₀ fresh (fresh-is-held b g e s s₀ written) ws rs s′ made
 
+  -- and so over calls of `instant_logged`, where the log has room for a record each.
+  pub from-fresh-each-logged-answer-is-the-only-reaction-or-13 : (s s₀ : List ℕ) → FreshCalled b s Fresh s₀
+      → (ws : List (Inputs g)) (rs : List Logged) (log log′ : List ℕ) (end end′ : ℕ) (s′ : List ℕ) → end + 24 * length (numbers ws) ≤ length log
+      → LoggedCalls b s₀ log end (numbers ws) rs s′ log′ end′ → PromisedCalls g s₀ fresh ws (map (λ r. r .answer) rs) s′
+  from-fresh-each-logged-answer-is-the-only-reaction-or-13 s s₀ written ws rs log log′ end end′ s′ room made =
+      calls-keep b g e s₀ fresh (fresh-is-held b g e s s₀ written) ws (map (λ r. r .answer) rs) s′ (without-log b made room)
+
   -- The same from any record that is found legal:
   module _ (s : List ℕ) (st : State) (h : Holds g s st) where
     -- in one call and in calls one after the other,

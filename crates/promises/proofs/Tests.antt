@@ -20,7 +20,7 @@ use Rattle.sets.proofs.Words.{bits-shift, lt-pow, lowest-there}
 use Rattle.rules.specs.Statements.{Block}
 use Rattle.rules.specs.Events.{Status, event}
 use Rattle.rules.specs.MustCan.{must, gives}
-use Rattle.rules.specs.States.{State, fresh, running, finished, compatible, step}
+use Rattle.rules.specs.States.{State, fresh, running, finished, active-of, compatible, step}
 use Rattle.rules.specs.Rounds.{begin, Rounds, answered, not-constructive, react}
 use Rattle.theorems.specs.Checked.{Checked}
 use Rattle.theorems.specs.Traces.{Instant, answers, refuses}
@@ -33,7 +33,7 @@ use Rattle.records.specs.LogRecord.{no-room}
 use Rattle.records.proofs.TwoWords.{set-of-none, none-from, beyond-in, beyond-out}
 use Rattle.records.proofs.Reading.{read-sized, read-headed, read-kind}
 use Rattle.records.proofs.Pairs.{clash-first, clash-second, clash-lower, clash-apart}
-use Rattle.records.proofs.LegalStates.{no-clash}
+use Rattle.records.proofs.LegalStates.{no-clash, found-ran}
 use Rattle.records.proofs.Logs.{has-room, room-has}
 use Rattle.promises.specs.Demand1.{WrongState, not-22-bytes, wrong-length, wrong-kind, wrong-phase, bit-beyond, bits-while-fresh}
 use Rattle.promises.specs.Demand1.{none-while-running, bits-while-finished, Incompatible, FirstPair, NoRoom}
@@ -87,6 +87,41 @@ module _ (n : ℕ) (s : List ℕ) where
   wrong-read (bits-while-fresh e h) = by-phase (rw (e, h))
   wrong-read (none-while-running e h) = by-phase (rw (e, h))
   wrong-read (bits-while-finished e h) = by-phase (rw (e, h))
+
+  -- a bit of the record is one of the state that it holds, and the other way
+  pub found-set : (st : State) → read-state n s ≡ state st → (m : ℕ) → T (A m) → T (active-of st m)
+  unfolding read-state in-phase active-of
+  found-set st e m h = go (eqb (length s) 22) (eqb (field s 0 2) 22) (eqb (field s 2 2) 2) (eqb p 0) (eqb p 1) (eqb p 2) (none-active s) (beyond n A) (not-clear m h) e
+    where
+      absent : {X : Type 0} → not-a-state ≡ state st → X
+      absent q = let z : _≡_ {A = ℕ} 0 1 = cc in absurd (omega arith)
+
+      ran : state (running A) ≡ state st → T (active-of st m)
+      ran q = let r : running A ≡ st = cc in subst (λ (x : State). T (active-of x m)) r h
+
+      go : (x y z a b c clear far : Bool) → clear ≡ false
+          → cond (x && y && z) (cond (a && clear) (state fresh) (cond (b && not clear && not far) (state (running A)) (cond (c && clear) (state finished) not-a-state))) not-a-state ≡ state st
+          → T (active-of st m)
+      go x y z a b c true far f q = absurd (true≢false f)
+      go false y z a b c false far f q = absent q
+      go true false z a b c false far f q = absent q
+      go true true false a b c false far f q = absent q
+      go true true true true true c false false f q = ran q
+      go true true true false true c false false f q = ran q
+      go true true true true true true false true f q = absent q
+      go true true true true true false false true f q = absent q
+      go true true true false true true false true f q = absent q
+      go true true true false true false false true f q = absent q
+      go true true true true false true false far f q = absent q
+      go true true true true false false false far f q = absent q
+      go true true true false false true false far f q = absent q
+      go true true true false false false false far f q = absent q
+
+  pub set-found : (st : State) → read-state n s ≡ state st → (m : ℕ) → T (active-of st m) → T (A m)
+  unfolding active-of
+  set-found fresh e m h = absurd h
+  set-found (running B) e m h = subst (λ (X : Numbers). T (X m)) (sym (found-ran n s B e .its-set)) h
+  set-found finished e m h = absurd h
 
   not-found : {st : State} → state st ≡ not-a-state → WrongState n s
   not-found e = let z : _≡_ {A = ℕ} 0 1 = cc in absurd (omega arith)

@@ -72,11 +72,10 @@ pub record HeldBy (b s : List ℕ) (g : Good) (st : State) : Type 0 where
 
 pub record Clashing (b s : List ℕ) : Type 0 where
   pub block : Good
-  pub from : State
-  pub held : HeldBy b s block from
+  pub is-good : reading b ≡ good block
   pub first : ℕ
   pub second : ℕ
-  pub clash : Incompatible block (active-of from) first second
+  pub clash : Incompatible block (active-in s) first second
 
 -- 11 INPUT: a bit set at or above the number of inputs.
 pub record Undeclared (b : List ℕ) (w : ℕ) : Type 0 where

@@ -1,10 +1,10 @@
 -- "Must and can in one instant", sentence by sentence: lay this file beside document 01. Each is an equation about the definitions,
 -- of statements started or resumed, that holds by computation; where a sentence has a condition, it is put in first.
 -- One sentence, can of a local under open, is as a later request has it (docs/DECISIONS.md, "Can of a local"). Assumes nothing.
-use mathlib.Core.Path.{_≡_, refl, _∙_, ap, subst}
-use mathlib.Core.Bool.{Bool, true, false, not, cond, _&&_, _||_, true≢false, and-true, or-false}
+use mathlib.Core.Path.{_≡_, refl, sym, _∙_, ap, subst}
+use mathlib.Core.Bool.{Bool, true, false, not, cond, _&&_, _||_, true≢false, and-true, or-false, or-assoc}
 use mathlib.Core.Logic.{_↔_}
-use mathlib.Core.List.{List}
+use mathlib.Core.List.{List, [], _∷_, _++_}
 use mathlib.Core.Option.{Option, none, some}
 use Prim.Native.Nat.{ℕ, zero, suc, _+_, _-_, _<_, max}
 use lib.Dec.{T, eqb, ltb, eqb·suc-zero}
@@ -14,7 +14,7 @@ use Rattle.sets.proofs.Members.{ext}
 use Rattle.sets.proofs.Maxima.{maxima-in, maxima-out, maxima-empty-left, maxima-empty-right}
 use Rattle.rules.specs.Statements.{Block, depth, code, Stmt, nothing, pause, emit, present?_then_else_, suspend_on_, _⨾_, loop, _parallel_, trap, exit, local, pauses}
 use Rattle.rules.specs.Events.{Status, present, absent, unknown, Event, giving, known, event}
-use Rattle.rules.specs.Instant.{Step, done, stay, say, leave, test, catch, scope, chain, beside, active, held, started, resumed}
+use Rattle.rules.specs.Instant.{Step, done, stay, say, leave, test, catch, scope, chain, beside, any, active, held, started, resumed}
 use Rattle.rules.specs.MustCan.{Mark, plus, opened, Question, must, can, Given, either, both, followed, hidden, marked, gives}
 use Rattle.rules.specs.States.{State, fresh, running, finished, step, executed-as, kept, next}
 use Rattle.rules.specs.Rounds.{Settled, one-more, all-same, round, begin, settle, final-of, answer, answered, not-constructive, react, code-width}
@@ -575,3 +575,55 @@ module _ (b : Block) (st : State) (ins : Numbers) where
   answer-unknown : lowest code-width (final-must .codes) ≡ none → react b st ins ≡ not-constructive (final .statuses) (final .rounds)
   unfolding react
   answer-unknown e = rw (e, answer)
+
+-- A STATEMENT HOLDS AN ACTIVE PAUSE: some pause of it is active
+
+in-front : (A : Numbers) (xs ys : List ℕ) → any A (xs ++ ys) ≡ (any A xs || any A ys)
+unfolding any
+in-front A [] ys = refl
+in-front A (x ∷ xs) ys = ap (λ (b : Bool). A x || b) (in-front A xs ys) ∙ sym (or-assoc (A x) (any A xs) (any A ys))
+
+module _ (A : Numbers) (p q : Stmt) (s : ℕ) where
+  active-nothing : active A nothing ≡ false
+  unfolding active any pauses
+  active-nothing = refl
+
+  active-pause : (n : ℕ) → active A (pause n) ≡ A n
+  unfolding active any pauses
+  active-pause n = or-false (A n)
+
+  active-present : active A (present? s then p else q) ≡ (active A p || active A q)
+  unfolding active pauses
+  active-present = in-front A (pauses p) (pauses q)
+
+  active-sequence : active A (p ⨾ q) ≡ (active A p || active A q)
+  unfolding active pauses
+  active-sequence = in-front A (pauses p) (pauses q)
+
+  active-parallel : active A (p parallel q) ≡ (active A p || active A q)
+  unfolding active pauses
+  active-parallel = in-front A (pauses p) (pauses q)
+
+  active-local : active A (local s p) ≡ active A p
+  unfolding active pauses
+  active-local = refl
+
+  active-emit : active A (emit s) ≡ false
+  unfolding active any pauses
+  active-emit = refl
+
+  active-exit : (d : ℕ) → active A (exit (depth d)) ≡ false
+  unfolding active any pauses
+  active-exit d = refl
+
+  active-suspend : active A (suspend p on s) ≡ active A p
+  unfolding active pauses
+  active-suspend = refl
+
+  active-loop : active A (loop p) ≡ active A p
+  unfolding active pauses
+  active-loop = refl
+
+  active-trap : active A (trap p) ≡ active A p
+  unfolding active pauses
+  active-trap = refl
