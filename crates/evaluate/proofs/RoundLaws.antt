@@ -1,6 +1,6 @@
 -- The rounds over words: masks, marks, and the statuses that the words stand for. Assumes nothing.
 use mathlib.Core.Path.{_≡_, refl, sym, ap, ap₂, _∙_, subst, subst₂, fun-ext}
-use mathlib.Core.Bool.{Bool, true, false, not, cond, _&&_, _||_, and-comm, and-false}
+use mathlib.Core.Bool.{Bool, true, false, not, cond, _&&_, _||_, and-comm, and-false, or-false}
 use mathlib.Core.List.{List, [], _∷_}
 use mathlib.Core.Option.{Option, none, some}
 use Prim.Native.Nat.{ℕ, zero, suc, _+_, _-_, _*_, _%_, _^_, _≤_, _<_}
@@ -18,7 +18,7 @@ use Rattle.sets.proofs.Members.{is-true, is-false, of-true, of-false, ext, same
 use Rattle.sets.proofs.Counts.{count-add, count-cong, count-none, count-first, lowest-some, lowest-in, lowest-empty}
 use Rattle.sets.proofs.Words.{below-power, bits-zero, bits-and, bits-or, bits-less, bits-ext}
 use Rattle.rules.specs.Statements.{Block, Stmt}
-use Rattle.rules.specs.Events.{Status, present, absent, unknown, Event, known, event}
+use Rattle.rules.specs.Events.{Status, present, absent, unknown, Event, known, Hearing, all-heard, status-of, event}
 use Rattle.rules.specs.Instant.{Step}
 use Rattle.rules.specs.MustCan.{plus, must, can, Given, marked, gives}
 use Rattle.rules.specs.States.{running, finished, active-of, step, kept, next}
@@ -35,7 +35,7 @@ use Rattle.evaluate.specs.declared.pauses.Kept.{Kept}
 use Rattle.evaluate.specs.declared.rounds.Ended.{Ended}
 use Rattle.evaluate.specs.declared.rounds.Phase.{Phase}
 use Rattle.evaluate.specs.declared.rounds.Reacted.{Reacted}
-use Rattle.evaluate.specs.Words.{status-of, event-of, given-of}
+use Rattle.evaluate.specs.Words.{event-of, given-of, hearing-of}
 use Rattle.evaluate.specs.Forms.{At, Live, step-of, Does, Shows}
 use Rattle.evaluate.specs.Walks.{Walked, Keeping}
 use Rattle.rules.specs.Rounds.{undecided, outputs-with}
@@ -101,38 +101,42 @@ status-at m i n k f h = go (decLt k (i + n))
     go (no l) = status-out m i n (k - i) (omega arith) ∙ sym (no-mark f k (not-outs i n k (λ a b. l b)))
 
 -- The event of a round.
-given-status : (g p a : Bool) → p ≡ false → a ≡ false → status-of (g || p) (not g || a) ≡ known g
-given-status true p a e f = refl
-given-status false p a e f = ap₂ (λ (x y : Bool). status-of x y) e refl
+masked : (w x first : ℕ) (b : Block) (k : ℕ) → bits first k ≡ ltb k (b .inputs) → bits (bitOr (bitAnd first w) x) k ≡ (ltb k (b .inputs) && bits w k || bits x k)
+masked w x first b k e = bits-or (bitAnd first w) x k ∙ ap (λ (y : Bool). y || bits x k) (bits-and first w k ∙ ap (λ (y : Bool). y && bits w k) e)
 
-pub heard-event : (b : Block) (first given : ℕ) (m : Heard) → ((k : ℕ) → bits first k ≡ ltb k (b .inputs)) → Fine (outs-from (b .inputs) (b .outputs)) m
-    → event-of (record { present = bitOr (bitAnd first given) (m .present); absent = bitOr (bitAnd first (bitXor first given)) (m .absent) }) ≡ event b (bits given) (marks-of b m)
+no-mark-here : (g h p a : Bool) → p ≡ false → a ≡ false → status-of (g || p) (h || a) ≡ status-of g h
+no-mark-here g h p a e f = ap₂ (λ (x y : Bool). status-of (g || x) (h || y)) e f ∙ ap₂ status-of (or-false g) (or-false h)
+
+pub heard-event : (b : Block) (first : ℕ) (given m : Heard) → ((k : ℕ) → bits first k ≡ ltb k (b .inputs)) → Fine (outs-from (b .inputs) (b .outputs)) m
+    → event-of (record { present = bitOr (bitAnd first (given .present)) (m .present); absent = bitOr (bitAnd first (given .absent)) (m .absent) }) ≡ event b (hearing-of given) (marks-of b m)
 unfolding event event-of
-heard-event b first given m f fine = fun-ext (λ k. ap₂ status-of (there k) (away k) ∙ go k (decLt k (b .inputs)))
+heard-event b first given m f fine =
+    fun-ext (λ k. ap₂ status-of (masked (given .present) (m .present) first b k (f k)) (masked (given .absent) (m .absent) first b k (f k)) ∙ go k (decLt k (b .inputs)))
   where
-    there : (k : ℕ) → bits (bitOr (bitAnd first given) (m .present)) k ≡ (ltb k (b .inputs) && bits given k || bits (m .present) k)
-    there k =
-        bits-or (bitAnd first given) (m .present) k ∙ ap (λ (x : Bool). x || bits (m .present) k) (bits-and first given k ∙ ap (λ (x : Bool). x && bits given k) (f k))
+    at : ℕ → Bool → Status
+    at k x = status-of (x && bits (given .present) k || bits (m .present) k) (x && bits (given .absent) k || bits (m .absent) k)
 
-    away : (k : ℕ) → bits (bitOr (bitAnd first (bitXor first given)) (m .absent)) k ≡ (ltb k (b .inputs) && not (bits given k) || bits (m .absent) k)
-    away k =
-        bits-or (bitAnd first (bitXor first given)) (m .absent) k
-        ∙ ap (λ (x : Bool). x || bits (m .absent) k) (bits-less first given k ∙ ap (λ (x : Bool). x && not (bits given k)) (f k))
+    is : ℕ → Bool → Status
+    is k x = cond x (status-of (bits (given .present) k) (bits (given .absent) k)) (getD (marks-of b m) (k - b .inputs) unknown)
 
-    go : (k : ℕ) → Dec (k < b .inputs)
-        → status-of (ltb k (b .inputs) && bits given k || bits (m .present) k) (ltb k (b .inputs) && not (bits given k) || bits (m .absent) k)
-        ≡ cond (ltb k (b .inputs)) (known (bits given k)) (getD (marks-of b m) (k - b .inputs) unknown)
+    go : (k : ℕ) → Dec (k < b .inputs) → at k (ltb k (b .inputs)) ≡ is k (ltb k (b .inputs))
     go k (yes l) =
         let e = is-true (ltb k (b .inputs)) (lt→ltb k (b .inputs) l) in
         let o = not-outs (b .inputs) (b .outputs) k (λ h q. omega arith) in
-        ap (λ (x : Bool). status-of (x && bits given k || bits (m .present) k) (x && not (bits given k) || bits (m .absent) k)) e
-        ∙ given-status (bits given k) (bits (m .present) k) (bits (m .absent) k) (no-present fine k o) (no-absent fine k o)
-        ∙ ap (λ (x : Bool). cond x (known (bits given k)) (getD (marks-of b m) (k - b .inputs) unknown)) (sym e)
+        ap (at k) e
+        ∙ no-mark-here (bits (given .present) k) (bits (given .absent) k) (bits (m .present) k) (bits (m .absent) k) (no-present fine k o) (no-absent fine k o)
+        ∙ ap (is k) (sym e)
     go k (no l) =
         let e = is-false (ltb k (b .inputs)) (λ t. l (ltb→lt k (b .inputs) t)) in
-        ap (λ (x : Bool). status-of (x && bits given k || bits (m .present) k) (x && not (bits given k) || bits (m .absent) k)) e
-        ∙ sym (status-at m (b .inputs) (b .outputs) k fine (omega arith))
-        ∙ ap (λ (x : Bool). cond x (known (bits given k)) (getD (marks-of b m) (k - b .inputs) unknown)) (sym e)
+        ap (at k) e ∙ sym (status-at m (b .inputs) (b .outputs) k fine (omega arith)) ∙ ap (is k) (sym e)
+
+-- No unknowns: the rest of the inputs is absent.
+pub heard-all : (b : Block) (first given : ℕ) {i : ℕ} → ((k : ℕ) → bits first k ≡ ltb k i) → b .inputs ≡ i
+    → hearing-of (record { present = given; absent = bitAnd first (bitXor first given) }) ≡ all-heard b (bits given)
+heard-all b first given f e = λ j. record {
+  heard-present = bits given;
+  heard-absent = fun-ext (λ n. bits-less first given n ∙ ap (λ (x : Bool). x && not (bits given n)) (f n ∙ ap (ltb n) (sym e))) j;
+}
 
 -- A round's marks, bit by bit.
 marks-apart : (o m c p a : Bool) → (p && a) ≡ false → ((o && (m || p && c)) && ((o && (a || o && not c)) && not m)) ≡ false
@@ -253,13 +257,13 @@ same-set {m = m} {r} {a} e h = subst (λ (X : Numbers). Marks X m a r) (ext e) h
 pub fine-block : {b : Block} {i n : ℕ} {m : Heard} → Sized b i n → Fine (outs-from i n) m → Fine (outs-from (b .inputs) (b .outputs)) m
 fine-block {m = m} z f = subst₂ (λ (x y : ℕ). Fine (outs-from x y) m) (sym (z .its-inputs)) (sym (z .its-outputs)) f
 
-pub rounded-is : {tab : Table} {live : List Bool} {c : Part} (i n : ℕ) {given : ℕ} {m r e : Heard} {a : MustCan} → ((b : Block) (k : ℕ) → Sized b i k → Fine (outs-from i k) m → event-of e ≡ event b (bits given) (marks-of b m))
+pub rounded-is : {tab : Table} {live : List Bool} {c : Part} (i n : ℕ) {given : Heard} {m r e : Heard} {a : MustCan} → ((b : Block) (k : ℕ) → Sized b i k → Fine (outs-from i k) m → event-of e ≡ event b (hearing-of given) (marks-of b m))
     → Walked plus tab live (Same c) e a → Marks (outs-from i n) m a r → Rounded tab live c i n given m r
 unfolding rules.round given-of Shows
 rounded-is i n {given} {m} {r} {e} {a} ev w mk = record {
   fine = mk .fine;
   rounds = λ A l p d b z f.
-      let E = event b (bits given) (marks-of b m) in
+      let E = event b (hearing-of given) (marks-of b m) in
       let u : given-of (a .must) ≡ gives must p E = w .in-must refl .at A l p d ∙ ap (gives must p) (ev b n z f) in
       let v : given-of (a .can) ≡ gives (can plus) p E = w .in-can .at A l p d ∙ ap (gives (can plus) p) (ev b n z f) in
       marks-statuses (gives must p E) (gives (can plus) p E) m r (b .inputs) (b .outputs)
@@ -334,7 +338,7 @@ unfolding rules.all-same
 all-self [] = refl
 all-self (v ∷ vs) = ap₂ (λ (x y : Bool). x && y) (same-self v) (all-self vs)
 
-module _ (b : Block) (p : Step) (G : Numbers) where
+module _ (b : Block) (p : Step) (G : Hearing) where
   pub settle-stop : (f : ℕ) (outs : List Status) → rules.all-same (rules.round b p G outs) outs ≡ true → rules.settle b p G (suc f) outs ≡ record { statuses = outs; rounds = 1 }
   unfolding rules.settle
   settle-stop f outs e = ap (λ (z : Bool). elim z as (λ _. rules.Settled) [ true ↦ record { statuses = outs; rounds = 1 } | false ↦ rules.one-more (rules.settle b p G f (rules.round b p G outs)) ]) e
@@ -348,15 +352,15 @@ module _ (b : Block) (p : Step) (G : Numbers) where
   settle-none outs = refl
 
 -- From these statuses with this fuel as from those with that, k rounds on.
-pub record SameEnd (b : Block) (p : Step) (G : Numbers) (f : ℕ) (outs : List Status) (g : ℕ) (now : List Status) (k : ℕ) : Type 0 where
+pub record SameEnd (b : Block) (p : Step) (G : Hearing) (f : ℕ) (outs : List Status) (g : ℕ) (now : List Status) (k : ℕ) : Type 0 where
   pub statuses-eq : rules.settle b p G f outs .statuses ≡ rules.settle b p G g now .statuses
   pub rounds-eq : rules.settle b p G f outs .rounds ≡ k + rules.settle b p G g now .rounds
 
 -- What holds after k rounds.
-pub record Progress (tab : Table) (live : List Bool) (c : Part) (i n given : ℕ) (m : Heard) (k : ℕ) : Type 0 where
+pub record Progress (tab : Table) (live : List Bool) (c : Part) (i n : ℕ) (given : Heard) (m : Heard) (k : ℕ) : Type 0 where
   pub fine : Fine (outs-from i n) m
-  pub goes : (A : Numbers) → Live tab A live → (p : Step) → Does tab A c p → (b : Block) → Sized b i n → SameEnd b p (bits given) (suc n) (rules.begin b) (suc n - k) (marks-of b m) k
-  pub reached : (A : Numbers) → Live tab A live → (p : Step) → Does tab A c p → (b : Block) → Sized b i n → Reached b p (bits given) (marks-of b m)
+  pub goes : (A : Numbers) → Live tab A live → (p : Step) → Does tab A c p → (b : Block) → Sized b i n → SameEnd b p (hearing-of given) (suc n) (rules.begin b) (suc n - k) (marks-of b m) k
+  pub reached : (A : Numbers) → Live tab A live → (p : Step) → Does tab A c p → (b : Block) → Sized b i n → Reached b p (hearing-of given) (marks-of b m)
 
 abbrev no-marks : Heard
 no-marks = record { present = 0; absent = 0 }
@@ -373,7 +377,7 @@ begins b = none-marked (b .inputs) (b .outputs)
 all-left : (n : ℕ) → suc n ≡ suc n - 0
 all-left n = omega arith
 
-pub progress-none : {tab : Table} {live : List Bool} {c : Part} (i n : ℕ) {given : ℕ} → Progress tab live c i n given (record { present = 0; absent = 0 }) 0
+pub progress-none : {tab : Table} {live : List Bool} {c : Part} (i n : ℕ) {given : Heard} → Progress tab live c i n given (record { present = 0; absent = 0 }) 0
 progress-none i n {given} = record {
   fine = record {
     in-present = λ k. bits-zero k ∙ sym (ap (λ (x : Bool). outs-from i n k && x) (bits-zero k) ∙ and-false (outs-from i n k));
@@ -381,15 +385,15 @@ progress-none i n {given} = record {
     apart = λ k. ap (λ (x : Bool). x && bits 0 k) (bits-zero k);
   };
   goes = λ A l p d b z. record {
-    statuses-eq = ap₂ (λ (f : ℕ) (vs : List Status). rules.settle b p (bits given) f vs .statuses) (all-left n) (begins b);
-    rounds-eq = ap₂ (λ (f : ℕ) (vs : List Status). rules.settle b p (bits given) f vs .rounds) (all-left n) (begins b) ∙ sym (zero-add (rules.settle b p (bits given) (suc n - 0) (marks-of b no-marks) .rounds));
+    statuses-eq = ap₂ (λ (f : ℕ) (vs : List Status). rules.settle b p (hearing-of given) f vs .statuses) (all-left n) (begins b);
+    rounds-eq = ap₂ (λ (f : ℕ) (vs : List Status). rules.settle b p (hearing-of given) f vs .rounds) (all-left n) (begins b) ∙ sym (zero-add (rules.settle b p (hearing-of given) (suc n - 0) (marks-of b no-marks) .rounds));
   };
-  reached = λ A l p d b z. subst (Reached b p (bits given)) (begins b) at-first;
+  reached = λ A l p d b z. subst (Reached b p (hearing-of given)) (begins b) at-first;
 }
 
 -- The next round is the last where it changes nothing, and so where no output is undecided.
-module _ {tab : Table} {live : List Bool} {c : Part} {i n given : ℕ} {m : Heard} {k : ℕ} (q : Progress tab live c i n given m k) (h : k ≤ n) where
-  pub ends-here : ((A : Numbers) → Live tab A live → (p : Step) → Does tab A c p → (b : Block) → Sized b i n → rules.round b p (bits given) (marks-of b m) ≡ marks-of b m)
+module _ {tab : Table} {live : List Bool} {c : Part} {i n : ℕ} {given : Heard} {m : Heard} {k : ℕ} (q : Progress tab live c i n given m k) (h : k ≤ n) where
+  pub ends-here : ((A : Numbers) → Live tab A live → (p : Step) → Does tab A c p → (b : Block) → Sized b i n → rules.round b p (hearing-of given) (marks-of b m) ≡ marks-of b m)
       → Ends tab live c i n given (record { marks = m; rounds = k + 1 })
   ends-here v = record {
     fine = q .fine;
@@ -400,15 +404,15 @@ module _ {tab : Table} {live : List Bool} {c : Part} {i n given : ℕ} {m : Hear
       left : suc n - k ≡ suc (n - k)
       left = omega arith
 
-      stop : (A : Numbers) → Live tab A live → (p : Step) → Does tab A c p → (b : Block) → Sized b i n → rules.settle b p (bits given) (suc n - k) (marks-of b m) ≡ record { statuses = marks-of b m; rounds = 1 }
+      stop : (A : Numbers) → Live tab A live → (p : Step) → Does tab A c p → (b : Block) → Sized b i n → rules.settle b p (hearing-of given) (suc n - k) (marks-of b m) ≡ record { statuses = marks-of b m; rounds = 1 }
       stop A l p d b z =
-          ap (λ (f : ℕ). rules.settle b p (bits given) f (marks-of b m)) left
-          ∙ settle-stop b p (bits given) (n - k) (marks-of b m) (ap (λ (vs : List Status). rules.all-same vs (marks-of b m)) (v A l p d b z) ∙ all-self (marks-of b m))
+          ap (λ (f : ℕ). rules.settle b p (hearing-of given) f (marks-of b m)) left
+          ∙ settle-stop b p (hearing-of given) (n - k) (marks-of b m) (ap (λ (vs : List Status). rules.all-same vs (marks-of b m)) (v A l p d b z) ∙ all-self (marks-of b m))
 
   pub progress-decided : undecided (statuses i n m) ≡ 0 → Ends tab live c i n given (record { marks = m; rounds = k + 1 })
-  progress-decided e = ends-here (λ A l p d b z. nothing-left b p (bits given) (q .reached A l p d b z) (ap₂ (λ (x y : ℕ). undecided (statuses x y m)) (z .its-inputs) (z .its-outputs) ∙ e))
+  progress-decided e = ends-here (λ A l p d b z. nothing-left b p (hearing-of given) (q .reached A l p d b z) (ap₂ (λ (x y : ℕ). undecided (statuses x y m)) (z .its-inputs) (z .its-outputs) ∙ e))
 
-module _ {tab : Table} {live : List Bool} {c : Part} {i n given : ℕ} {m r : Heard} {k : ℕ} (q : Progress tab live c i n given m k) (h : k ≤ n) (w : Rounded tab live c i n given m r) where
+module _ {tab : Table} {live : List Bool} {c : Part} {i n : ℕ} {given : Heard} {m r : Heard} {k : ℕ} (q : Progress tab live c i n given m k) (h : k ≤ n) (w : Rounded tab live c i n given m r) where
   changed : (b : Block) → Sized b i n → (eqb (r .present) (m .present) && eqb (r .absent) (m .absent)) ≡ false → marks-of b r ≡ marks-of b m → ⊥
   changed b z e v =
       of-false e (and-in (eqb (r .present) (m .present)) (eqb (r .absent) (m .absent)) (of-true (eq-eqb (r .present) (m .present) (same-present fr fm same-at))) (of-true (eq-eqb (r .absent) (m .absent) (same-absent fr fm same-at))))
@@ -434,14 +438,14 @@ module _ {tab : Table} {live : List Bool} {c : Part} {i n given : ℕ} {m r : He
     goes = λ A l p d b z.
         let u = q .goes A l p d b z in
         let v = w .rounds A l p d b z (q .fine) in
-        let still = is-false (rules.all-same (rules.round b p (bits given) (marks-of b m)) (marks-of b m)) (λ t. changed b z e (v ∙ all-eq (rules.round b p (bits given) (marks-of b m)) (marks-of b m) t)) in
-        let on = ap (λ (f : ℕ). rules.settle b p (bits given) f (marks-of b m)) left ∙ settle-on b p (bits given) (n - k) (marks-of b m) still in
-        let next : rules.settle b p (bits given) (n - k) (rules.round b p (bits given) (marks-of b m)) ≡ rules.settle b p (bits given) (suc n - (k + 1)) (marks-of b r) = ap₂ (rules.settle b p (bits given)) (omega arith) (sym v) in
+        let still = is-false (rules.all-same (rules.round b p (hearing-of given) (marks-of b m)) (marks-of b m)) (λ t. changed b z e (v ∙ all-eq (rules.round b p (hearing-of given) (marks-of b m)) (marks-of b m) t)) in
+        let on = ap (λ (f : ℕ). rules.settle b p (hearing-of given) f (marks-of b m)) left ∙ settle-on b p (hearing-of given) (n - k) (marks-of b m) still in
+        let next : rules.settle b p (hearing-of given) (n - k) (rules.round b p (hearing-of given) (marks-of b m)) ≡ rules.settle b p (hearing-of given) (suc n - (k + 1)) (marks-of b r) = ap₂ (rules.settle b p (hearing-of given)) (omega arith) (sym v) in
         record {
           statuses-eq = u .statuses-eq ∙ ap (λ (x : rules.Settled). x .statuses) on ∙ ap (λ (x : rules.Settled). x .statuses) next;
           rounds-eq = u .rounds-eq ∙ ap (λ (x : rules.Settled). k + x .rounds) on ∙ omega (arith, ap (λ (x : rules.Settled). x .rounds) next);
         };
-    reached = λ A l p d b z. subst (Reached b p (bits given)) (sym (w .rounds A l p d b z (q .fine))) (settling (q .reached A l p d b z) (round-settles b p (bits given) (marks-of b m)));
+    reached = λ A l p d b z. subst (Reached b p (hearing-of given)) (sym (w .rounds A l p d b z (q .fine))) (settling (q .reached A l p d b z) (round-settles b p (hearing-of given) (marks-of b m)));
   }
 
   pub progress-stop : (eqb (r .present) (m .present) && eqb (r .absent) (m .absent)) ≡ true → Ends tab live c i n given (record { marks = m; rounds = k + 1 })
@@ -455,15 +459,15 @@ module _ {tab : Table} {live : List Bool} {c : Part} {i n given : ℕ} {m r : He
             absent = lib.Dec.eqb→eq (r .absent) (m .absent) (and-right (eqb (r .present) (m .present)) (eqb (r .absent) (m .absent)) t) j;
           }
 
-pub progress-end : {tab : Table} {live : List Bool} {c : Part} {i n given : ℕ} {m : Heard} {k : ℕ} → Progress tab live c i n given m k → n < k → k ≤ n + 1 → Ends tab live c i n given (record { marks = m; rounds = k })
+pub progress-end : {tab : Table} {live : List Bool} {c : Part} {i n : ℕ} {given : Heard} {m : Heard} {k : ℕ} → Progress tab live c i n given m k → n < k → k ≤ n + 1 → Ends tab live c i n given (record { marks = m; rounds = k })
 progress-end {n = n} {given} {m} {k} q h l = record {
   fine = q .fine;
   statuses-are = λ A y p d b z. sym (q .goes A y p d b z .statuses-eq ∙ ap (λ (x : rules.Settled). x .statuses) (none p b));
   rounds-are = λ A y p d b z. sym (q .goes A y p d b z .rounds-eq ∙ ap (λ (x : rules.Settled). k + x .rounds) (none p b) ∙ add-zero k);
 }
   where
-    none : (p : Step) (b : Block) → rules.settle b p (bits given) (suc n - k) (marks-of b m) ≡ record { statuses = marks-of b m; rounds = 0 }
-    none p b = ap (λ (f : ℕ). rules.settle b p (bits given) f (marks-of b m)) (omega arith) ∙ settle-none b p (bits given) (marks-of b m)
+    none : (p : Step) (b : Block) → rules.settle b p (hearing-of given) (suc n - k) (marks-of b m) ≡ record { statuses = marks-of b m; rounds = 0 }
+    none p b = ap (λ (f : ℕ). rules.settle b p (hearing-of given) f (marks-of b m)) (omega arith) ∙ settle-none b p (hearing-of given) (marks-of b m)
 
 -- Which outputs have a status, by the words.
 present-bit : (p a : Bool) → rules.same (status-of p a) present ≡ p
@@ -607,7 +611,7 @@ kept-answer c A kn st cd kp ac = record {
 }
 
 -- One instant, put together.
-pub reacts-is : (b : Block) (ph : Phase) (A G : Numbers) (r : Reacted) (m : Heard) (k : ℕ) (C K : Numbers) → let p = step (b .body) (state-of ph A) in let z = rules.settle b p G (suc (b .outputs)) (rules.begin b) in let E = event b G (marks-of b m) in
+pub reacts-is : (b : Block) (ph : Phase) (A : Numbers) (G : Hearing) (r : Reacted) (m : Heard) (k : ℕ) (C K : Numbers) → let p = step (b .body) (state-of ph A) in let z = rules.settle b p G (suc (b .outputs)) (rules.begin b) in let E = event b G (marks-of b m) in
     marks-of b m ≡ z .statuses → k ≡ z .rounds → C ≡ gives must p E .codes → K ≡ kept p E → Answers b (rules.answer (record { statuses = marks-of b m; rounds = k }) (lowest rules.code-width C) K) r → Reacts b ph A G r
 unfolding Reacts rules.react rules.final-of
 reacts-is b ph A G r m k C K s n c q a =
@@ -617,12 +621,12 @@ reacts-is b ph A G r m k C K s n c q a =
     let first = subst₂ (λ (X Y : Numbers). Answers b (rules.answer (record { statuses = marks-of b m; rounds = k }) (lowest rules.code-width X) Y) r) c q a in
     subst (λ (x : rules.Settled). Answers b (rules.answer x (lowest rules.code-width (gives must p (event b G (x .statuses)) .codes)) (kept p (event b G (x .statuses)))) r) e first
 
-pub instant-is : {tab : Table} {live : List Bool} {A : Numbers} {c : Part} {e : Heard} {end : Ended} {last : Kept} (r : Reacted) (i n given : ℕ) (ph : Phase) (body : Stmt) → At tab (c .at) body
+pub instant-is : {tab : Table} {live : List Bool} {A : Numbers} {c : Part} {e : Heard} {end : Ended} {last : Kept} (r : Reacted) (i n : ℕ) (given : Heard) (ph : Phase) (body : Stmt) → At tab (c .at) body
     → ((B : Numbers) (t : Stmt) → step-of (c .going) B t ≡ step t (state-of ph B)) → Live tab A live → Ends tab live c i n given end
-    → ((b : Block) (k : ℕ) → Sized b i k → Fine (outs-from i k) (end .marks) → event-of e ≡ event b (bits given) (marks-of b (end .marks))) → Keeping A tab live (Same c) e last
+    → ((b : Block) (k : ℕ) → Sized b i k → Fine (outs-from i k) (end .marks) → event-of e ≡ event b (hearing-of given) (marks-of b (end .marks))) → Keeping A tab live (Same c) e last
     → ((b : Block) → Sized b i n → Fine (outs-from i n) (end .marks)
     → Answers b (rules.answer (record { statuses = marks-of b (end .marks); rounds = end .rounds }) (lowest rules.code-width (bits (last .codes))) (set-of (last .pauses))) r)
-    → Reacts (record { inputs = i; outputs = n; body = body }) ph A (bits given) r
+    → Reacts (record { inputs = i; outputs = n; body = body }) ph A (hearing-of given) r
 unfolding Shows
 instant-is {tab} {live} {A} {c} {e} {end} {last} r i n given ph body there going l ends ev keeps answers =
     let b : Block = record { inputs = i; outputs = n; body = body } in
@@ -631,5 +635,5 @@ instant-is {tab} {live} {A} {c} {e} {end} {last} r i n given ph body there going
     let d : Does tab A c p = record { tree = body; there = there; its-step = sym (going A body) } in
     let k = keeps .at l p d in
     let E = ev b n z (ends .fine) in
-    reacts-is b ph A (bits given) r (end .marks) (end .rounds) (bits (last .codes)) (set-of (last .pauses)) (ends .statuses-are A l p d b z) (ends .rounds-are A l p d b z)
+    reacts-is b ph A (hearing-of given) r (end .marks) (end .rounds) (bits (last .codes)) (set-of (last .pauses)) (ends .statuses-are A l p d b z) (ends .rounds-are A l p d b z)
     (k .codes-are ∙ ap (λ (F : Event). gives must p F .codes) E) (k .pauses-are ∙ ap (kept p) E) (answers b z (ends .fine))

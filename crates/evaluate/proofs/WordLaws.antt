@@ -8,12 +8,12 @@ use Rattle.sets.specs.Numbers.{Numbers, empty, single, union, without, only-if,
 use Rattle.sets.specs.Words.{bits}
 use Rattle.sets.proofs.Members.{ext}
 use Rattle.sets.proofs.Words.{bits-zero, bits-or, bits-less, bits-mask-test, is-set, is-single, is-shift, is-same}
-use Rattle.rules.specs.Events.{present, absent, unknown, giving}
+use Rattle.rules.specs.Events.{present, absent, unknown, giving, status-of}
 use Rattle.rules.specs.MustCan.{plus, opened, can, Given, nothing-known, either, caught, both, followed, marked, local-status, hidden}
 use Rattle.evaluate.specs.declared.words.Heard.{Heard}
 use Rattle.evaluate.specs.declared.words.Told.{Told}
 use Rattle.evaluate.specs.declared.words.MustCan.{MustCan}
-use Rattle.evaluate.specs.Words.{status-of, event-of, given-of, quiet, loud}
+use Rattle.evaluate.specs.Words.{event-of, given-of, quiet, loud}
 
 pub given-eq : {a b : Given} → a .signals ≡ b .signals → a .codes ≡ b .codes → a ≡ b
 given-eq p q = λ i. record { signals = p i; codes = q i }

@@ -7,7 +7,7 @@ use lib.Dec.{leb, ltb}
 use Rattle.sets.specs.Numbers.{Numbers, empty, count}
 use Rattle.sets.specs.Words.{bits, set-of}
 use Rattle.rules.specs.Statements.{Block}
-use Rattle.rules.specs.Events.{Status, present, absent}
+use Rattle.rules.specs.Events.{Status, present, absent, Hearing}
 use Rattle.rules.specs.Instant.{Step}
 use Rattle.rules.specs.MustCan.{marked}
 use Rattle.rules.specs.States.{State, fresh, running, finished, active-of, next}
@@ -20,7 +20,7 @@ use Rattle.evaluate.specs.declared.rounds.Ended.{Ended}
 use Rattle.evaluate.specs.declared.rounds.Phase.{Phase}
 use Rattle.evaluate.specs.declared.rounds.Phase.the-variants.{Fresh, Running, Finished}
 use Rattle.evaluate.specs.declared.rounds.Reacted.{Reacted}
-use Rattle.evaluate.specs.Words.{event-of}
+use Rattle.evaluate.specs.Words.{event-of, hearing-of}
 use Rattle.evaluate.specs.Forms.{Live, Does}
 
 -- The outputs' signals: n of them from i on.
@@ -52,18 +52,18 @@ pub record Sized (b : Block) (i n : ℕ) : Type 0 where
   pub its-outputs : b .outputs ≡ n
 
 -- One round, for whatever the part has to do.
-pub record Rounded (tab : Table) (live : List Bool) (c : Part) (i n given : ℕ) (m r : Heard) : Type 0 where
+pub record Rounded (tab : Table) (live : List Bool) (c : Part) (i n : ℕ) (given : Heard) (m r : Heard) : Type 0 where
   pub fine : Fine (outs-from i n) m → Fine (outs-from i n) r
   pub rounds : (A : Numbers) → Live tab A live → (p : Step) → Does tab A c p → (b : Block) → Sized b i n → Fine (outs-from i n) m
-      → marks-of b r ≡ round b p (bits given) (marks-of b m)
+      → marks-of b r ≡ round b p (hearing-of given) (marks-of b m)
 
 -- All rounds.
-pub record Ends (tab : Table) (live : List Bool) (c : Part) (i n given : ℕ) (r : Ended) : Type 0 where
+pub record Ends (tab : Table) (live : List Bool) (c : Part) (i n : ℕ) (given : Heard) (r : Ended) : Type 0 where
   pub fine : Fine (outs-from i n) (r .marks)
   pub statuses-are : (A : Numbers) → Live tab A live → (p : Step) → Does tab A c p → (b : Block) → Sized b i n
-      → marks-of b (r .marks) ≡ settle b p (bits given) (suc n) (begin b) .statuses
+      → marks-of b (r .marks) ≡ settle b p (hearing-of given) (suc n) (begin b) .statuses
   pub rounds-are : (A : Numbers) → Live tab A live → (p : Step) → Does tab A c p → (b : Block) → Sized b i n
-      → r .rounds ≡ settle b p (bits given) (suc n) (begin b) .rounds
+      → r .rounds ≡ settle b p (hearing-of given) (suc n) (begin b) .rounds
 
 -- The state of a phase and a set.
 abbrev pub state-of : Phase → Numbers → State
@@ -98,6 +98,6 @@ Answers b (answered outs c st n) r = Answered b outs c st n r
 Answers b (not-constructive outs n) r = Undecided b outs n r
 
 -- The code's answer is the definition's.
-unfoldable pub Reacts : Block → Phase → Numbers → Numbers → Reacted → Type 0
+unfoldable pub Reacts : Block → Phase → Numbers → Hearing → Reacted → Type 0
 unfolding Answers react
-Reacts b ph A given r = Answers b (react b (state-of ph A) given) r
+Reacts b ph A heard r = Answers b (react b (state-of ph A) heard) r

@@ -5,7 +5,7 @@ use mathlib.Core.Bool.{Bool, true, false}
 use Prim.Native.Nat.{ℕ, _-_}
 use Rattle.sets.specs.Numbers.{Numbers, empty, single, only-if}
 use Rattle.sets.specs.Words.{bits, set-of}
-use Rattle.rules.specs.Events.{Status, present, absent, unknown, Event}
+use Rattle.rules.specs.Events.{Status, present, absent, unknown, Event, Hearing, status-of}
 use Rattle.rules.specs.MustCan.{Mark, plus, opened, Given}
 use Rattle.evaluate.specs.declared.words.Heard.{Heard}
 use Rattle.evaluate.specs.declared.words.Told.{Told}
@@ -15,15 +15,13 @@ use Rattle.evaluate.specs.declared.words.Mark.the-variants.{Plus, Open}
 use Rattle.evaluate.specs.declared.words.Seen.{Seen}
 use Rattle.evaluate.specs.declared.words.Seen.the-variants.{Present, Absent, Unknown}
 
--- A signal's status from its two bits.
-abbrev pub status-of : Bool → Bool → Status
-status-of true a = present
-status-of false true = absent
-status-of false false = unknown
-
 -- The event of two words.
 unfoldable pub event-of : Heard → Event
 event-of e n = status-of (bits (e .present) n) (bits (e .absent) n)
+
+-- What two words say of the inputs.
+abbrev pub hearing-of : Heard → Hearing
+hearing-of e = record { heard-present = bits (e .present); heard-absent = bits (e .absent) }
 
 -- A status of the code.
 abbrev pub seen-as : Seen → Status

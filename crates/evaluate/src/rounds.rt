@@ -19,10 +19,10 @@ ghost use lib.Dec.{eqb, ltb};
 ghost use Rattle.sets.specs.Numbers.{Numbers, empty, lowest};
 ghost use Rattle.sets.specs.Words.{bits, set-of};
 ghost use Rattle.rules.specs.Statements.{Block, Stmt};
-ghost use Rattle.rules.specs.Events.{event};
+ghost use Rattle.rules.specs.Events.{all-heard, event};
 ghost use Rattle.rules.specs.States.{step};
 ghost use Rattle.rules.specs.Rounds.{undecided, answer, code-width};
-ghost use Rattle.evaluate.specs.Words.{event-of};
+ghost use Rattle.evaluate.specs.Words.{event-of, hearing-of};
 ghost use Rattle.evaluate.specs.Forms.{table, At, Placed, step-of};
 ghost use Rattle.evaluate.specs.Reacts.{outs-from, statuses, marks-of, Fine, Marks, Sized, Rounded, Ends, state-of, Answers, Reacts};
 
@@ -73,15 +73,27 @@ pub(crate) fn outputs_of(inputs: u16, outputs: u16) -> u64
     all & (all ^ first)
 }
 
-// The event of a round: an input is present when it is in the input set and else absent, the outputs have their marks.
-pub(crate) fn heard_in(inputs: u16, given: u64, marks: Heard) -> Heard
+// No unknowns: the inputs of a set are present, and the other inputs absent.
+pub fn all_heard(inputs: u16, given: u64) -> Heard
     requires { ⌜ inputs ≤ 64 ⌝ }
-    ensures { λ r. ⌜ ((b : Block) (n : ℕ) → Sized b inputs n → Fine (outs-from inputs n) marks → event-of r ≡ event b (bits given) (marks-of b marks)) ⌝ }
+    ensures { λ r. ⌜ ((b : Block) → b .inputs ≡ inputs → hearing-of r ≡ all-heard b (bits given)) ⌝ }
 {
     let first = below(inputs);
     Heard {
-        present: first & given | marks.present,
-        absent: first & (first ^ given) | marks.absent,
+        present: given,
+        absent: first & (first ^ given),
+    }
+}
+
+// The event of a round: the inputs as they are heard, the outputs with their marks.
+pub(crate) fn heard_in(inputs: u16, given: Heard, marks: Heard) -> Heard
+    requires { ⌜ inputs ≤ 64 ⌝ }
+    ensures { λ r. ⌜ ((b : Block) (n : ℕ) → Sized b inputs n → Fine (outs-from inputs n) marks → event-of r ≡ event b (hearing-of given) (marks-of b marks)) ⌝ }
+{
+    let first = below(inputs);
+    Heard {
+        present: first & given.present | marks.present,
+        absent: first & given.absent | marks.absent,
     }
 }
 
@@ -107,7 +119,7 @@ fn round_of(
     part: Part,
     inputs: u16,
     outputs: u16,
-    given: u64,
+    given: Heard,
     marks: Heard,
 ) -> Heard
     requires { ⌜ (inputs + outputs ≤ 64) × Placed (table (now kinds) (now operands) (now sizes)) (part .at) ⌝ }
@@ -138,7 +150,7 @@ pub(crate) fn all_rounds(
     part: Part,
     inputs: u16,
     outputs: u16,
-    given: u64,
+    given: Heard,
 ) -> Ended
     requires { ⌜ (inputs + outputs ≤ 64) × Placed (table (now kinds) (now operands) (now sizes)) (part .at) ⌝ }
     ensures { λ r. ⌜ Ends (table (now (kinds .entry)) (now (operands .entry)) (now (sizes .entry))) (now (live .entry)) part inputs outputs given r ⌝ }
@@ -252,7 +264,7 @@ fn answer_of(inputs: u16, outputs: u16, end: Ended, last: Kept) -> Reacted
     }
 }
 
-// One instant of a block from a state, with an input set.
+// One instant of a block from a state, with the inputs that are heard present and absent.
 pub fn react(
     kinds: &[u16; 512],
     operands: &[u16; 512],
@@ -261,10 +273,10 @@ pub fn react(
     set: [u64; 2],
     inputs: u16,
     outputs: u16,
-    given: u64,
+    given: Heard,
 ) -> Reacted
     requires { ⌜ (inputs + outputs ≤ 64) × Placed (table (now kinds) (now operands) (now sizes)) 0 ⌝ }
-    ensures { λ r. ⌜ ((body : Stmt) → At (table (now (kinds .entry)) (now (operands .entry)) (now (sizes .entry))) 0 body → Reacts (record { inputs = inputs; outputs = outputs; body = body }) phase (set-of set) (bits given) r) ⌝ }
+    ensures { λ r. ⌜ ((body : Stmt) → At (table (now (kinds .entry)) (now (operands .entry)) (now (sizes .entry))) 0 body → Reacts (record { inputs = inputs; outputs = outputs; body = body }) phase (set-of set) (hearing-of given) r) ⌝ }
 {
     let live = actives(kinds, operands, sizes, set);
     let part = Part {

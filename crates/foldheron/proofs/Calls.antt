@@ -23,7 +23,7 @@ use Rattle.reaction.specs.declared.Reply.the-variants.{Refused, Clash, Answered
 use Rattle.reaction.specs.declared.Reaction.{Reaction}
 use Rattle.reaction.specs.declared.Doubt.{Doubt}
 use Rattle.reaction.specs.declared.Outcome.{Outcome}
-use Rattle.reaction.specs.Instants.{Verdict, refused, clash, reacted, Told, told, told-refusal, block-of, try-inputs, try-clash, try-state, try-block, verdict, logged-verdict, state-after, log-after, end-after}
+use Rattle.reaction.specs.Instants.{Verdict, refused, clash, reacted, Told, told, told-refusal, block-of, try-inputs, try-clash, try-state, try-block, verdict, logged-verdict, state-after, log-after, end-after, heard-of}
 use Rattle.reaction.specs.Outcomes.{told-of, Writes, case-of, case-for, Comes}
 use Rattle.foldheron.specs.declared.Why.{Why}
 use Rattle.foldheron.specs.declared.instants.Instant.the-variants as Instant
@@ -40,7 +40,7 @@ inputs-leave : (g : Good) (st : State) (given : ℕ) (roomless : Bool) (s : List
 unfolding Leaves try-inputs
 inputs-leave g st given roomless s h = go (undeclared-input (g .header .inputs) given) roomless refl
   where
-    go : (x y : Bool) → roomless ≡ y → Leaves (cond x (refused 11 0) (cond y (refused 12 0) (reacted (block-of g) (react (block-of g) st (bits given))))) s roomless
+    go : (x y : Bool) → roomless ≡ y → Leaves (cond x (refused 11 0) (cond y (refused 12 0) (reacted (block-of g) (react (block-of g) st (heard-of g given))))) s roomless
     go true y e = (lit≤ tt, lit≤ tt)
     go false true e = (lit≤ tt, lit≤ tt)
     go false false e = (h, e)

@@ -18,7 +18,7 @@ use Rattle.block.specs.Format.{Good, Reading, good, turned-down, reading, preor
 use Rattle.block.proofs.GoodReadings.{numbers}
 use Rattle.records.specs.StateRecord.{Found, not-a-state, state, active-in, read-state, state-record, Pair, first-clash, undeclared-input}
 use Rattle.records.specs.LogRecord.{no-room}
-use Rattle.reaction.specs.Instants.{STATE, CLASH, INPUT, ROOM, Verdict, refused, clash, reacted, block-of, try-inputs, try-clash, try-state, try-block, verdict, told, instant-verdict, logged-verdict}
+use Rattle.reaction.specs.Instants.{STATE, CLASH, INPUT, ROOM, Verdict, refused, clash, reacted, block-of, try-inputs, try-clash, try-state, try-block, verdict, told, instant-verdict, logged-verdict, heard-of}
 use Rattle.foldheron.specs.declared.Part.{Part}
 use Rattle.foldheron.specs.Answers.{check-owed, begun-owed, state-owed, absent-part, part-owed}
 use Rattle.promises.specs.Tests.{Test, First}
@@ -121,7 +121,7 @@ module _ (b s : List ℕ) (w : ℕ) (g : Good) (e : reading b ≡ good g) where
         let r = undeclared-some (g .header .inputs) w q in
         record { block = g; is-good = e; signal = r .0; is-set = r .2; at-or-above = r .1 }
 
-    unsettled : NoCode (block-of g) st (bits w) → Unsettled b s w
+    unsettled : NoCode (block-of g) st (heard-of g w) → Unsettled b s w
     unsettled d = record {
       block = g;
       from = st;
@@ -132,16 +132,16 @@ module _ (b s : List ℕ) (w : ℕ) (g : Good) (e : reading b ≡ good g) where
       no-code = d .no-code;
     }
 
-    settled : Unsettled b s w → NoCode (block-of g) st (bits w)
+    settled : Unsettled b s w → NoCode (block-of g) st (heard-of g w)
     settled t =
-        subst (λ (y : State). NoCode (block-of g) y (bits w)) (sym (same-state (t .block) (t .from) (t .held)))
-        (subst (λ (x : Good). NoCode (block-of x) (t .from) (bits w)) (sym (same-block (t .block) (t .held .is-good)))
+        subst (λ (y : State). NoCode (block-of g) y (heard-of g w)) (sym (same-state (t .block) (t .from) (t .held)))
+        (subst (λ (x : Good). NoCode (block-of x) (t .from) (heard-of x w)) (sym (same-block (t .block) (t .held .is-good)))
         (record { rounds = t .rounds; final = t .final; final-round = t .final-round; no-code = t .no-code }))
 
-    code-first : (a : Answer) → react (block-of g) st (bits w) ≡ a → First (code-test b s w ∷ []) (told (reacted (block-of g) a) .number)
+    code-first : (a : Answer) → react (block-of g) st (heard-of g w) ≡ a → First (code-test b s w ∷ []) (told (reacted (block-of g) a) .number)
     unfolding told
-    code-first (not-constructive vs n) q = inl (unsettled (code-unknown (block-of g) st (bits w) (checked b g e) vs n q), refl)
-    code-first (answered vs c st′ n) q = inr ((λ t. code-known (block-of g) st (bits w) (checked b g e) vs c st′ n q (settled t)), refl)
+    code-first (not-constructive vs n) q = inl (unsettled (code-unknown (block-of g) st (heard-of g w) (checked b g e) vs n q), refl)
+    code-first (answered vs c st′ n) q = inr ((λ t. code-known (block-of g) st (heard-of g w) (checked b g e) vs c st′ n q (settled t)), refl)
 
     module _ (roomless : Bool) (middle : List Test) (full : roomless ≡ true → (ts : List Test) → First (middle ++ ts) ROOM)
         (room : roomless ≡ false → (ts : List Test) (n : ℕ) → First ts n → First (middle ++ ts) n) where
@@ -151,10 +151,10 @@ module _ (b s : List ℕ) (w : ℕ) (g : Good) (e : reading b ≡ good g) where
         where
           go : (x : Bool) → undeclared-input (g .header .inputs) w ≡ x → (y : Bool) → roomless ≡ y
               → First (input-test b w ∷ (middle ++ code-test b s w ∷ []))
-              (told (cond x (refused INPUT 0) (cond y (refused ROOM 0) (reacted (block-of g) (react (block-of g) st (bits w))))) .number)
+              (told (cond x (refused INPUT 0) (cond y (refused ROOM 0) (reacted (block-of g) (react (block-of g) st (heard-of g w))))) .number)
           go true q y r = inl (input-some q, refl)
           go false q true r = inr (input-none q, full r (code-test b s w ∷ []))
-          go false q false r = inr (input-none q, room r (code-test b s w ∷ []) _ (code-first (react (block-of g) st (bits w)) refl))
+          go false q false r = inr (input-none q, room r (code-test b s w ∷ []) _ (code-first (react (block-of g) st (heard-of g w)) refl))
 
       clash-first : (c : Option Pair) → first-clash (g .body) (active-of st) ≡ c
           → First (clash-test b s ∷ input-test b w ∷ (middle ++ code-test b s w ∷ [])) (told (try-clash g st w roomless c) .number)
@@ -205,10 +205,10 @@ past-tests b s w roomless g e = on-state (read-state (g .pauses) s) refl
     on-answer (answered vs c st n) = (refl, λ z. absurd (omega arith))
     on-answer (not-constructive vs n) = (refl, λ z. absurd (omega arith))
 
-    on-inputs : (st : State) (x y : Bool) → Fine (cond x (refused INPUT 0) (cond y (refused ROOM 0) (reacted (block-of g) (react (block-of g) st (bits w)))))
+    on-inputs : (st : State) (x y : Bool) → Fine (cond x (refused INPUT 0) (cond y (refused ROOM 0) (reacted (block-of g) (react (block-of g) st (heard-of g w)))))
     on-inputs st true y = (refl, λ z. absurd (omega arith))
     on-inputs st false true = (refl, λ z. absurd (omega arith))
-    on-inputs st false false = on-answer (react (block-of g) st (bits w))
+    on-inputs st false false = on-answer (react (block-of g) st (heard-of g w))
 
     on-clash : (st : State) → read-state (g .pauses) s ≡ state st → (c : Option Pair) → first-clash (g .body) (active-of st) ≡ c → Fine (try-clash g st w roomless c)
     on-clash st h none q = on-inputs st (undeclared-input (g .header .inputs) w) roomless

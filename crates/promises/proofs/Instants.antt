@@ -14,7 +14,7 @@ use Rattle.theorems.proofs.Instants.{reacts}
 use Rattle.theorems.proofs.Traces.{instant-not-stuck}
 use Rattle.block.specs.Format.{Good, good, reading}
 use Rattle.block.proofs.GoodReadings.{sound}
-use Rattle.reaction.specs.Instants.{block-of, Verdict, reacted, try-clash, try-state, try-block, verdict, told, state-after}
+use Rattle.reaction.specs.Instants.{block-of, Verdict, reacted, try-clash, try-state, try-block, verdict, told, state-after, heard-of}
 use Rattle.reaction.proofs.Ways.{all-pass}
 use Rattle.promises.specs.Promised.{Holds, Inputs, set-of, rules-answer, PromisedAnswer, Promised}
 use Rattle.promises.proofs.Records.{inputs-pass, checked, held-is-legal, legal-is-held}
@@ -33,7 +33,7 @@ module _ (b : List ℕ) (g : Good) (e : reading b ≡ good g) (s : List ℕ) (st
   stuck-not : NotStuck (block-of g) st (set-of w) (rules-answer g st w)
   stuck-not =
       instant-not-stuck (block-of g) (checked b g e) st (set-of w) (rules-answer g st w) (held-is-legal b g e s st h)
-      (reacts (block-of g) st (bits (w .number)) (checked b g e))
+      (reacts (block-of g) st (heard-of g (w .number)) (checked b g e))
 
   after-holds : (a : Answer) → Legal (g .body) (after st a) → Holds g (state-after s (reacted (block-of g) a)) (after st a)
   unfolding state-after

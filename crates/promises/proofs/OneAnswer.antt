@@ -14,14 +14,14 @@ use Rattle.sets.proofs.Members.{and-left, and-right}
 use Rattle.sets.proofs.Counts.{lowest-some}
 use Rattle.rules.specs.Statements.{Block, Stmt}
 use Rattle.rules.specs.States.{State, active-of, step, kept}
-use Rattle.rules.specs.Events.{event}
+use Rattle.rules.specs.Events.{Hearing, event}
 use Rattle.rules.specs.MustCan.{must, gives}
 use Rattle.rules.specs.Rounds.{Settled, answered, not-constructive, answer, final-of, react}
 use Rattle.theorems.proofs.Demand3.{rounds-end}
 use Rattle.block.specs.Format.{Good, Reading, good, turned-down, reading}
 use Rattle.block.proofs.GoodReadings.{numbers}
 use Rattle.records.specs.StateRecord.{Found, not-a-state, state, read-state, Pair, paired, with-second, clashes, first-clash, undeclared-input}
-use Rattle.reaction.specs.Instants.{Verdict, refused, clash, reacted, Told, told, block-of, try-inputs, try-clash, try-state, try-block, verdict}
+use Rattle.reaction.specs.Instants.{Verdict, refused, clash, reacted, Told, told, block-of, try-inputs, try-clash, try-state, try-block, verdict, heard-of}
 use Rattle.foldheron.specs.declared.Why.{Why}
 use Rattle.foldheron.specs.declared.Why.the-variants as Why
 use Rattle.foldheron.specs.declared.instants.Instant.{Instant}
@@ -41,7 +41,7 @@ unfolding Apart answer
 counted-answer b r none A h = h
 counted-answer b r (some c) A h = tt
 
-counted : (b : Block) (st : State) (ins : Numbers) → Apart (reacted b (react b st ins))
+counted : (b : Block) (st : State) (ins : Hearing) → Apart (reacted b (react b st ins))
 unfolding react
 counted b st ins =
     let r = final-of b st ins in
@@ -53,10 +53,10 @@ inputs-apart : (g : Good) (st : State) (given : ℕ) (roomless : Bool) → Apart
 unfolding Apart try-inputs
 inputs-apart g st given roomless = go (undeclared-input (g .header .inputs) given) roomless
   where
-    go : (x y : Bool) → Apart (cond x (refused 11 0) (cond y (refused 12 0) (reacted (block-of g) (react (block-of g) st (bits given)))))
+    go : (x y : Bool) → Apart (cond x (refused 11 0) (cond y (refused 12 0) (reacted (block-of g) (react (block-of g) st (heard-of g given)))))
     go true y = ((λ e. omega arith), (λ e. omega arith))
     go false true = ((λ e. omega arith), (λ e. omega arith))
-    go false false = counted (block-of g) st (bits given)
+    go false false = counted (block-of g) st (heard-of g given)
 
 -- a clash's second pause is above the first
 second-above : (p : Stmt) (A : Numbers) (m : ℕ) (o : Option ℕ) (pair : Pair) → lowest 128 (clashes p A m) ≡ o → paired m o ≡ some pair → pair .first < pair .second

@@ -12,11 +12,12 @@ use Rattle.sets.specs.Numbers.{Numbers, empty, count}
 use Rattle.sets.specs.Words.{bits, word}
 use Rattle.sets.proofs.Words.{bits-word}
 use Rattle.rules.specs.Statements.{Block}
-use Rattle.rules.specs.Events.{Status, present, unknown, known}
+use Rattle.rules.specs.Events.{Status, present, unknown, known, all-heard}
 use Rattle.rules.specs.States.{State, active-of}
 use Rattle.rules.specs.Rounds.{same, outputs-with, Answer, answered, not-constructive}
 use Rattle.rules.specs.Coherence.{world}
 use Rattle.theorems.specs.Reactions.{OnlyIfAnswered}
+use Rattle.theorems.proofs.Late.{all-is-choice}
 use Rattle.records.specs.StateRecord.{state-record}
 use Rattle.reaction.specs.Instants.{reacted, told, state-after}
 use Rattle.promises.specs.Promised.{Tells}
@@ -60,14 +61,14 @@ module _ (b : Block) (few : b .inputs + b .outputs ≤ 64) (outs : List Bool) (e
       bits-word 64 (outputs-with present b vs) n
       ∙ ap (λ (x : Bool). ltb n 64 && x) (ap (λ (us : List Status). outputs-with present b us n) (sym e) ∙ present-outputs b outs n) ∙ within n
 
-pub tells : (b : Block) → b .inputs + b .outputs ≤ 64 → (st : State) (given : Numbers) (s : List ℕ) (a : Answer) → OnlyIfAnswered b st given a
+pub tells : (b : Block) → b .inputs + b .outputs ≤ 64 → (st : State) (given : Numbers) (s : List ℕ) (a : Answer) → OnlyIfAnswered b st (all-heard b given) a
     → Tells b st given s a (told (reacted b a)) (state-after s (reacted b a))
 unfolding told state-after
 tells b few st given s (answered vs c st′ n) only = record {
   is-answered = refl;
-  only-reaction = only;
+  only-reaction = only given (all-is-choice b given);
   says-it =
-      λ outs d st″ r. let q = only .the-only-one outs d st″ r in
+      λ outs d st″ r. let q = only given (all-is-choice b given) .the-only-one outs d st″ r in
       record {
         outputs-are = outputs-told b few outs (r .each-output) vs (q .same-outputs);
         code-is = sym (q .same-code);

@@ -18,7 +18,7 @@ use Rattle.sets.proofs.Counts.{lowest-some}
 use Rattle.sets.proofs.Maxima.{some-to-in}
 use Rattle.sets.proofs.Words.{bits-shift, lt-pow, lowest-there}
 use Rattle.rules.specs.Statements.{Block}
-use Rattle.rules.specs.Events.{Status, event}
+use Rattle.rules.specs.Events.{Status, Hearing, event}
 use Rattle.rules.specs.MustCan.{must, gives}
 use Rattle.rules.specs.States.{State, fresh, running, finished, active-of, compatible, step}
 use Rattle.rules.specs.Rounds.{begin, Rounds, answered, not-constructive, react}
@@ -235,7 +235,7 @@ room-there log end e (inl h) = let r : end + 24 ≤ length log = has-room log en
 room-there log end e (inr h) = let r : end + 24 ≤ length log = has-room log end e in omega arith
 
 -- NOT CONSTRUCTIVE. The rules' answer is an instant of theirs, and its rounds have one end.
-module _ (b : Block) (st : State) (given : Numbers) where
+module _ (b : Block) (st : State) (given : Hearing) where
   pub record NoCode : Type 0 where
     pub rounds : ℕ
     pub final : List Status

@@ -20,7 +20,7 @@ use Rattle.block.specs.Format.{BROKEN, KIND, EDITION, LIMIT, SIGNAL, EXIT, SHAP
 use Rattle.records.specs.Numerals.{field}
 use Rattle.records.specs.StateRecord.{state, active-in, none-active, read-state}
 use Rattle.records.specs.LogRecord.{log-record}
-use Rattle.reaction.specs.Instants.{STATE, CLASH, INPUT, ROOM, NOT-CONSTRUCTIVE, block-of, Told}
+use Rattle.reaction.specs.Instants.{STATE, CLASH, INPUT, ROOM, NOT-CONSTRUCTIVE, block-of, Told, heard-of}
 use Rattle.foldheron.specs.declared.instants.Logged.{Logged}
 use Rattle.foldheron.specs.InstantAnswers.{instant-told}
 use Rattle.promises.specs.Tests.{Test}
@@ -96,8 +96,8 @@ pub record Unsettled (b s : List ℕ) (w : ℕ) : Type 0 where
   pub held : HeldBy b s block from
   pub rounds : ℕ
   pub final : List Status
-  pub final-round : Rounds (block-of block) (step (block .body) from) (bits w) (begin (block-of block)) rounds final
-  pub no-code : (c : ℕ) → T (gives must (step (block .body) from) (event (block-of block) (bits w) final) .codes c) → ⊥
+  pub final-round : Rounds (block-of block) (step (block .body) from) (heard-of block w) (begin (block-of block)) rounds final
+  pub no-code : (c : ℕ) → T (gives must (step (block .body) from) (event (block-of block) (heard-of block w) final) .codes c) → ⊥
 
 -- 14 INDEX: a statement number at or above the count.
 pub record NoStatement (b : List ℕ) (n : ℕ) : Type 0 where

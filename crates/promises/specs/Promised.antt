@@ -14,13 +14,14 @@ use Rattle.rules.specs.Rounds.{Answer, answered, not-constructive, react}
 use Rattle.rules.specs.Coherence.{world, Coherent}
 use Rattle.theorems.specs.Reactions.{OnlyReaction}
 use Rattle.theorems.specs.Traces.{InputSet, after}
+use Rattle.theorems.proofs.Late.{all-inputs}
 use Rattle.theorems.specs.Demand.{NotStuck}
 use Rattle.block.specs.Format.{Good, good, reading}
 use Rattle.block.specs.Told.{summary-of}
 use Rattle.block.specs.declared.whole.Summary.{Summary}
 use Rattle.records.specs.Numerals.{Bytes}
 use Rattle.records.specs.StateRecord.{state, state-record, read-state, first-clash}
-use Rattle.reaction.specs.Instants.{NOT-CONSTRUCTIVE, block-of, reacted, Told, told, state-after, log-by, end-by, instant-verdict}
+use Rattle.reaction.specs.Instants.{NOT-CONSTRUCTIVE, block-of, reacted, Told, told, state-after, log-by, end-by, instant-verdict, heard-of}
 use Rattle.foldheron.specs.declared.instants.Instant.{Instant}
 use Rattle.foldheron.specs.declared.instants.Logged.{Logged}
 use Rattle.foldheron.specs.InstantAnswers.{instant-told}
@@ -43,11 +44,11 @@ pub record Inputs (g : Good) : Type 0 where
   pub declared : (n : ℕ) → T (bits number n) → n < g .header .inputs
 
 abbrev pub set-of : {g : Good} → Inputs g → InputSet (block-of g)
-set-of w = record { members = bits (w .number); declared = w .declared }
+set-of {g} w = all-inputs (block-of g) (bits (w .number)) (w .declared)
 
 -- The rules' answer, from the state and for the input set.
 abbrev pub rules-answer : (g : Good) → State → Inputs g → Answer
-rules-answer g st w = react (block-of g) st (bits (w .number))
+rules-answer g st w = react (block-of g) st (heard-of g (w .number))
 
 -- A reaction as an answer tells it and as the state's bytes hold it. Bit n is set exactly when signal n is an output and present.
 pub record Says (b : Block) (t : Told) (s : List ℕ) (outs : List Bool) (c : ℕ) (st : State) : Type 0 where

@@ -14,7 +14,7 @@ use Rattle.sets.specs.Words.{bits, word, set-of}
 use Rattle.sets.proofs.Members.{eqb-not}
 use Rattle.sets.proofs.Words.{is-word}
 use Rattle.rules.specs.Statements.{Block}
-use Rattle.rules.specs.Events.{Status, present, absent}
+use Rattle.rules.specs.Events.{Status, present, absent, Hearing, all-heard}
 use Rattle.rules.specs.States.{State, fresh, running, finished, phase-of, active-of, next}
 use Rattle.rules.specs.Rounds.{outputs-with, undecided, Answer, answered, not-constructive, react}
 use Rattle.block.specs.Table.{Table, statements}
@@ -33,14 +33,16 @@ use Rattle.records.specs.Clashing.{pair-of, Searchable, Bounded}
 use Rattle.records.specs.declared.clash.Clash.{Clash as Clashing}
 use Rattle.records.specs.declared.clash.Clash.the-variants.{None, Pair}
 use Rattle.records.proofs.Writing.{written-state}
+use Rattle.evaluate.specs.Words.{hearing-of}
 use Rattle.evaluate.specs.Forms.{At}
+use Rattle.evaluate.specs.declared.words.Heard.{Heard}
 use Rattle.evaluate.specs.Reacts as evaluate
 use Rattle.evaluate.specs.declared.rounds.Phase.{Phase}
 use Rattle.evaluate.specs.declared.rounds.Phase.the-variants.{Fresh, Running, Finished}
 use Rattle.evaluate.specs.declared.rounds.Reacted.{Reacted}
 use Rattle.reaction.specs.declared.Reply.the-variants.{Refused, Clash, Answered, NotConstructive}
 use Rattle.reaction.specs.declared.Outcome.{Outcome}
-use Rattle.reaction.specs.Instants.{Verdict, refused, clash, reacted, INPUT, ROOM, block-of, try-inputs, try-clash, clash-tried, try-state, try-block, verdict, told-reaction, told}
+use Rattle.reaction.specs.Instants.{Verdict, refused, clash, reacted, INPUT, ROOM, block-of, heard-of, try-inputs, try-clash, clash-tried, try-state, try-block, verdict, told-reaction, told}
 use Rattle.reaction.specs.Outcomes.{told-of, Writes, case-of, case-for, Comes, Opened, Begins}
 
 -- turned down
@@ -62,7 +64,7 @@ module _ (g : Good) (st : State) (given : ℕ) (roomless : Bool) where
   room-fails e r = rw (e, r)
 
   pub all-pass : undeclared-input (g .header .inputs) given ≡ false → roomless ≡ false
-      → try-inputs g st given roomless ≡ reacted (block-of g) (react (block-of g) st (bits given))
+      → try-inputs g st given roomless ≡ reacted (block-of g) (react (block-of g) st (heard-of g given))
   unfolding try-inputs
   all-pass e r = rw (e, r)
 
@@ -191,22 +193,27 @@ module _ {tab : Table} {s : Summary} {g : Good} (o : Opened tab s g) where
         → Comes (try-inputs g st given roomless) r
     room-way e d f t = turned-down 12 0 e (room-fails g st given roomless (sym its-test ∙ sym d ∙ f) t)
 
-    pub react-way : (r : Reacted) {x : Bool} {phase : Phase} {set : List ℕ} {out : Outcome} → Begins st phase set
-        → evaluate.Reacts (record { inputs = s .inputs; outputs = s .outputs; body = g .body }) phase (set-of set) (bits given) r
+    pub react-way : (r : Reacted) (heard : Heard) {x : Bool} {phase : Phase} {set : List ℕ} {out : Outcome} → Begins st phase set
+        → evaluate.Reacts (record { inputs = s .inputs; outputs = s .outputs; body = g .body }) phase (set-of set) (hearing-of heard) r
+        → ((b : Block) → b .inputs ≡ s .inputs → hearing-of heard ≡ all-heard b (bits given))
         → ((b : Block) (a : Answer) → evaluate.Answers b a r → Comes (reacted b a) out)
         → x ≡ undeclared-input (s .inputs) given → x ≡ false → roomless ≡ false → Comes (try-inputs g st given roomless) out
     unfolding evaluate.Reacts
-    react-way r {x} {phase} {set} {out} begins e f d u m =
+    react-way r heard {x} {phase} {set} {out} begins e all f d u m =
         subst (λ (v : Verdict). Comes v out) (sym (all-pass g st given roomless (sym its-test ∙ sym d ∙ u) m))
-        (f (block-of g) (react (block-of g) st (bits given)) its-answer)
+        (f (block-of g) (react (block-of g) st (heard-of g given)) its-answer)
       where
+        summed-block : Block
+        summed-block = record { inputs = s .inputs; outputs = s .outputs; body = g .body }
+
         its-state : evaluate.state-of phase (set-of set) ≡ st
         its-state = sym (begins .state-is)
 
-        its-answer : evaluate.Answers (block-of g) (react (block-of g) st (bits given)) r
+        its-answer : evaluate.Answers (block-of g) (react (block-of g) st (heard-of g given)) r
         its-answer =
-            subst (λ (b : Block). evaluate.Answers b (react b st (bits given)) r) same-block
-            (subst (λ (q : State). evaluate.Answers (record { inputs = s .inputs; outputs = s .outputs; body = g .body }) (react (record { inputs = s .inputs; outputs = s .outputs; body = g .body }) q (bits given)) r) its-state e)
+            subst (λ (h : Hearing). evaluate.Answers (block-of g) (react (block-of g) st h) r) (all (block-of g) (sym (ap (λ (x : Summary). x .inputs) (o .summed))))
+            (subst (λ (b : Block). evaluate.Answers b (react b st (hearing-of heard)) r) same-block
+            (subst (λ (q : State). evaluate.Answers summed-block (react summed-block q (hearing-of heard)) r) its-state e))
 
   -- the search for a clash may begin
   pub searchable : (set : List ℕ) → ((k : ℕ) → T (set-of set k) → k < g .pauses) → Searchable (tab .kinds) (tab .sizes) (s .statements) set (g .body)

@@ -6,7 +6,7 @@ use Prim.Native.Nat.{ℕ, _+_}
 use Rattle.sets.specs.Numbers.{count}
 use Rattle.sets.specs.Words.{bits, word}
 use Rattle.rules.specs.Statements.{Block}
-use Rattle.rules.specs.Events.{present, absent}
+use Rattle.rules.specs.Events.{present, absent, Hearing, all-heard}
 use Rattle.rules.specs.States.{State, active-of}
 use Rattle.rules.specs.Rounds.{outputs-with, undecided, Answer, answered, not-constructive, react}
 use Rattle.block.specs.Format.{Good, Reading, good, turned-down, reading}
@@ -33,6 +33,10 @@ NOT-CONSTRUCTIVE = 13
 abbrev pub block-of : Good → Block
 block-of g = record { inputs = g .header .inputs; outputs = g .header .outputs; body = g .body }
 
+-- What an input set says: its inputs are present, and the other ones absent.
+abbrev pub heard-of : Good → ℕ → Hearing
+heard-of g given = all-heard (block-of g) (bits given)
+
 -- What an instant comes to: turned down with a number and a place, a clash with its pair, or the rules' reaction.
 pub data Verdict : Type 0 where
   refused : ℕ → ℕ → Verdict
@@ -44,7 +48,7 @@ unfoldable pub try-inputs : Good → State → ℕ → Bool → Verdict
 try-inputs g st given roomless =
     cond (undeclared-input (g .header .inputs) given) (refused INPUT 0)
     (cond roomless (refused ROOM 0)
-    (reacted (block-of g) (react (block-of g) st (bits given))))
+    (reacted (block-of g) (react (block-of g) st (heard-of g given))))
 
 unfoldable pub try-clash : Good → State → ℕ → Bool → Option Pair → Verdict
 try-clash g st given roomless (some pair) = clash pair

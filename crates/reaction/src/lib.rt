@@ -5,6 +5,7 @@ use block::whole::Summary;
 use block::whole::read_block;
 use evaluate::rounds::Phase;
 use evaluate::rounds::Reacted;
+use evaluate::rounds::all_heard;
 use evaluate::rounds::react;
 use records::bits::input_over;
 use records::clash::Clash;
@@ -129,7 +130,8 @@ fn past_clash(
     if roomless {
         return refused(12, 0);
     }
-    of_reaction(react(kinds, operands, sizes, phase, set, inputs, outputs, given))
+    let heard = all_heard(inputs, given);
+    of_reaction(react(kinds, operands, sizes, phase, set, inputs, outputs, heard))
 }
 
 // CLASH, from a state that was found.

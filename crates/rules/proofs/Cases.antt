@@ -1,12 +1,13 @@
 -- The worked instants of document 01 (N as a later request has it), and our own, as one table: each row is a block, a state, the present inputs and the whole answer.
 -- That the rules give every answer is one statement, `worked`, proved by computing. Assumes nothing.
 use mathlib.Core.Path.{_≡_, refl}
+use mathlib.Core.Bool.{not, _||_}
 use mathlib.Core.List.{List, [], _∷_, map}
 use Prim.Native.Nat.{ℕ}
 use lib.ListN.{length}
 use Rattle.sets.specs.Numbers.{members, listed, some-to, maxima, down, downs, lowest}
 use Rattle.rules.specs.Statements.{depth, code, Stmt, nothing, pause, emit, present?_then_else_, suspend_on_, _⨾_, loop, _parallel_, trap, exit, local, pauses}
-use Rattle.rules.specs.Events.{Status, present, absent, unknown, event}
+use Rattle.rules.specs.Events.{Status, present, absent, unknown, Hearing, event}
 use Rattle.rules.specs.Instant.{any, active, held, started, resumed}
 use Rattle.rules.specs.MustCan.{gives}
 use Rattle.rules.specs.States.{State, fresh, running, finished, phase-of, active-of, step, kept, next}
@@ -41,18 +42,27 @@ pub record Row : Type 0 where
   pub body : Stmt
   pub begins : State
   pub given : List ℕ
+  pub unheard : List ℕ
   pub told : Told
 
 abbrev pub row : ℕ → ℕ → Stmt → State → List ℕ → Told → Row
-row i o p st given t = record { inputs = i; outputs = o; body = p; begins = st; given = given; told = t }
+row i o p st given t = record { inputs = i; outputs = o; body = p; begins = st; given = given; unheard = []; told = t }
+
+-- With inputs not heard yet: the others are present where they are given and else absent.
+abbrev pub late-row : ℕ → ℕ → Stmt → State → List ℕ → List ℕ → Told → Row
+late-row i o p st given late t = record { inputs = i; outputs = o; body = p; begins = st; given = given; unheard = late; told = t }
 
 abbrev pub active-on : List ℕ → State
 active-on ns = running (listed ns)
 
+abbrev pub heard-in : Row → Hearing
+unfolding listed
+heard-in r = record { heard-present = listed (r .given); heard-absent = λ n. not (listed (r .given) n || listed (r .unheard) n) }
+
 -- The answer that the rules give to a row's instant, and the state that it leaves.
 abbrev pub reaction : Row → Answer
 unfolding react listed
-reaction r = react (record { inputs = r .inputs; outputs = r .outputs; body = r .body }) (r .begins) (listed (r .given))
+reaction r = react (record { inputs = r .inputs; outputs = r .outputs; body = r .body }) (r .begins) (heard-in r)
 
 abbrev pub answers : Row → Told
 unfolding react listed members pauses phase-of active-of undecided
@@ -229,13 +239,46 @@ outputs-plus-1 =
 abbrev pub over : Row
 over = row 0 1 (emit 0) finished [] (ends (absent ∷ []) 2)
 
+-- Inputs not heard yet; I is 0.
+
+-- the code is known even so: O is absent until the pause is over, O is 1
+abbrev pub late-pause : Stmt
+late-pause = pause 0 ⨾ (present? 0 then emit 1 else nothing)
+
+abbrev pub unheard-waits : Row
+unheard-waits = late-row 1 1 late-pause fresh [] (0 ∷ []) (waits (absent ∷ []) 2 (0 ∷ []))
+
+-- and then it is not, before I is heard
+abbrev pub unheard-stuck : Row
+unheard-stuck = late-row 1 1 late-pause (active-on (0 ∷ [])) [] (0 ∷ []) (stuck (unknown ∷ []) 1 1)
+
+abbrev pub heard-then : Row
+heard-then = row 1 1 late-pause (active-on (0 ∷ [])) (0 ∷ []) (ends (present ∷ []) 2)
+
+-- both choices would emit O, and still there is no code
+abbrev pub unheard-both : Row
+unheard-both = late-row 1 1 (present? 0 then emit 1 else emit 1) fresh [] (0 ∷ []) (stuck (unknown ∷ []) 1 1)
+
+-- M with nothing heard
+abbrev pub unheard-M : Row
+unheard-M = late-row 1 2 (M .body) fresh [] (0 ∷ []) (stuck (unknown ∷ unknown ∷ []) 2 1)
+
+-- rounds may differ: A settles first, and then I is not asked; O is 1, A is 2
+abbrev pub unheard-rounds : Row
+unheard-rounds =
+    late-row 1 2 (present? 2 then (present? 0 then emit 1 else nothing) else nothing) fresh [] (0 ∷ []) (ends (absent ∷ absent ∷ []) 3)
+
+abbrev pub heard-rounds : Row
+heard-rounds = row 1 2 (present? 2 then (present? 0 then emit 1 else nothing) else nothing) fresh [] (ends (absent ∷ absent ∷ []) 2)
+
 abbrev pub table : List Row
 table =
     B ∷ C ∷ E ∷ F ∷ G ∷ H-first ∷ H-second ∷ J ∷ M ∷ N
     ∷ second-part-open ∷ present-opens ∷ suspend-opens ∷ restart-opens ∷ must-asks-plus ∷ suspend-may-stay
     ∷ suspend-starts ∷ present-resumes ∷ suspend-holds ∷ suspend-holds-its-own ∷ exit-keeps-none ∷ resumed-exit-keeps-none
     ∷ both-arms ∷ one-arm ∷ outer-trap ∷ no-output
-    ∷ input-absent ∷ later-pause ∷ else-resumes ∷ local-present-keeps ∷ local-absent-keeps ∷ outputs-plus-1 ∷ over ∷ []
+    ∷ input-absent ∷ later-pause ∷ else-resumes ∷ local-present-keeps ∷ local-absent-keeps ∷ outputs-plus-1 ∷ over
+    ∷ unheard-waits ∷ unheard-stuck ∷ heard-then ∷ unheard-both ∷ unheard-M ∷ unheard-rounds ∷ heard-rounds ∷ []
 
 pub worked : map answers table ≡ map (λ r. r .told) table
 unfolding react listed members pauses phase-of active-of undecided gives kept started resumed any active held code marks round begin all-same settle final-of answer some-to maxima down downs lowest step next event

@@ -13,7 +13,7 @@ use Rattle.sets.specs.Numbers.{Numbers, empty, single, union, without, only-if,
 use Rattle.sets.proofs.Members.{ext}
 use Rattle.sets.proofs.Maxima.{maxima-in, maxima-out, maxima-empty-left, maxima-empty-right}
 use Rattle.rules.specs.Statements.{Block, depth, code, Stmt, nothing, pause, emit, present?_then_else_, suspend_on_, _⨾_, loop, _parallel_, trap, exit, local, pauses}
-use Rattle.rules.specs.Events.{Status, present, absent, unknown, Event, giving, known, event}
+use Rattle.rules.specs.Events.{Status, present, absent, unknown, Event, giving, Hearing, input-status, all-heard, event}
 use Rattle.rules.specs.Instant.{Step, done, stay, say, leave, test, catch, scope, chain, beside, any, active, held, started, resumed}
 use Rattle.rules.specs.MustCan.{Mark, plus, opened, Question, must, can, Given, either, both, followed, hidden, marked, gives}
 use Rattle.rules.specs.States.{State, fresh, running, finished, step, executed-as, kept, next}
@@ -345,17 +345,36 @@ module _ (a : Numbers) where
   unfolding downs
   downs-above k = refl
 
--- ROUNDS of a block from a state, with a set of present inputs; that there are at least 1 and at most outputs plus 1 of them is a theorem
+-- THE INPUTS with no unknowns: bit n set when input n is present; other inputs are absent
+module _ (b : Block) (given : Numbers) (n : ℕ) where
+  all-heard-present : given n ≡ true → input-status (all-heard b given) n ≡ present
+  all-heard-present e = rw e
+
+  all-heard-absent : ltb n (b .inputs) ≡ true → given n ≡ false → input-status (all-heard b given) n ≡ absent
+  all-heard-absent h e = rw (e, h)
+
+-- ROUNDS of a block from a state, with what is heard of the inputs; that there are at least 1 and at most outputs plus 1 of them is a theorem
 -- (`rounds-end` of the crate theorems)
 
-module _ (b : Block) (st : State) (ins : Numbers) where
+module _ (b : Block) (st : State) (ins : Hearing) where
   abbrev whole : Step
   whole = step (b .body) st
 
-  -- the event: an input is present when its bit is set, other inputs are absent; the i-th output is signal inputs + i
-  event-input : (outs : List Status) (n : ℕ) → ltb n (b .inputs) ≡ true → event b ins outs n ≡ known (ins n)
+  -- the event: an input in the set of inputs present is present, one in the set of inputs absent is absent, the rest are unknown; the i-th
+  -- output is signal inputs + i
+  event-input-present : (outs : List Status) (n : ℕ) → ltb n (b .inputs) ≡ true → ins .heard-present n ≡ true → event b ins outs n ≡ present
   unfolding event
-  event-input outs n h = rw h
+  event-input-present outs n h e = rw (h, e)
+
+  event-input-absent : (outs : List Status) (n : ℕ) → ltb n (b .inputs) ≡ true → ins .heard-present n ≡ false → ins .heard-absent n ≡ true
+      → event b ins outs n ≡ absent
+  unfolding event
+  event-input-absent outs n h e d = rw (h, e, d)
+
+  event-input-unknown : (outs : List Status) (n : ℕ) → ltb n (b .inputs) ≡ true → ins .heard-present n ≡ false → ins .heard-absent n ≡ false
+      → event b ins outs n ≡ unknown
+  unfolding event
+  event-input-unknown outs n h e d = rw (h, e, d)
 
   event-output : (outs : List Status) (n : ℕ) → ltb n (b .inputs) ≡ false → event b ins outs n ≡ getD outs (n - b .inputs) unknown
   unfolding event
@@ -559,7 +578,7 @@ unfolding next
 root-0 A = refl
 
 -- an instant is answered with the code that must gives at the final statuses; without one it is NOT CONSTRUCTIVE
-module _ (b : Block) (st : State) (ins : Numbers) where
+module _ (b : Block) (st : State) (ins : Hearing) where
   abbrev final : Settled
   final = final-of b st ins
 

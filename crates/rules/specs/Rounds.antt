@@ -9,7 +9,7 @@ use lib.Dec.{leb}
 use lib.ListN.{getD, replicate}
 use Rattle.sets.specs.Numbers.{Numbers, lowest}
 use Rattle.rules.specs.Statements.{Block}
-use Rattle.rules.specs.Events.{Status, present, absent, unknown, event}
+use Rattle.rules.specs.Events.{Status, present, absent, unknown, Hearing, event}
 use Rattle.rules.specs.Instant.{Step}
 use Rattle.rules.specs.MustCan.{plus, must, can, Given, marked, gives}
 use Rattle.rules.specs.States.{State, step, kept, next}
@@ -20,17 +20,17 @@ marks m c s [] = []
 marks m c s (v ∷ vs) = marked (m .signals s) (c .signals s) v ∷ marks m c (suc s) vs
 
 -- A round marks present the outputs in must and absent those not in can under plus.
-unfoldable pub round : Block → Step → Numbers → List Status → List Status
-round b p given outs = marks (gives must p (event b given outs)) (gives (can plus) p (event b given outs)) (b .inputs) outs
+unfoldable pub round : Block → Step → Hearing → List Status → List Status
+round b p heard outs = marks (gives must p (event b heard outs)) (gives (can plus) p (event b heard outs)) (b .inputs) outs
 
 -- All outputs begin unknown.
 unfoldable pub begin : Block → List Status
 begin b = replicate (b .outputs) unknown
 
--- Rounds b p given outs n final: from these statuses the n-th round is the first that changes nothing, and it leaves `final`.
-pub data Rounds (b : Block) (p : Step) (given : Numbers) : List Status → ℕ → List Status → Type 0 where
-  last : {outs : List Status} → round b p given outs ≡ outs → Rounds b p given outs 1 outs
-  more : {outs final : List Status} {n : ℕ} → round b p given outs ≢ outs → Rounds b p given (round b p given outs) n final → Rounds b p given outs (suc n) final
+-- Rounds b p heard outs n final: from these statuses the n-th round is the first that changes nothing, and it leaves `final`.
+pub data Rounds (b : Block) (p : Step) (heard : Hearing) : List Status → ℕ → List Status → Type 0 where
+  last : {outs : List Status} → round b p heard outs ≡ outs → Rounds b p heard outs 1 outs
+  more : {outs final : List Status} {n : ℕ} → round b p heard outs ≢ outs → Rounds b p heard (round b p heard outs) n final → Rounds b p heard outs (suc n) final
 
 abbrev pub same : Status → Status → Bool
 same present present = true
@@ -67,18 +67,18 @@ abbrev pub one-more : Settled → Settled
 one-more r = record { statuses = r .statuses; rounds = suc (r .rounds) }
 
 -- The rounds, computed: outputs plus 1 of them are enough.
-unfoldable pub settle : Block → Step → Numbers → ℕ → List Status → Settled
+unfoldable pub settle : Block → Step → Hearing → ℕ → List Status → Settled
 unfolding round all-same
-settle b p given zero outs = record { statuses = outs; rounds = 0 }
-settle b p given (suc fuel) outs =
-    elim (all-same (round b p given outs) outs) [
+settle b p heard zero outs = record { statuses = outs; rounds = 0 }
+settle b p heard (suc fuel) outs =
+    elim (all-same (round b p heard outs) outs) [
       | true ↦ record { statuses = outs; rounds = 1 }
-      | false ↦ one-more (settle b p given fuel (round b p given outs))
+      | false ↦ one-more (settle b p heard fuel (round b p heard outs))
     ]
 
-unfoldable pub final-of : Block → State → Numbers → Settled
+unfoldable pub final-of : Block → State → Hearing → Settled
 unfolding settle begin
-final-of b st given = settle b (step (b .body) st) given (suc (b .outputs)) (begin b)
+final-of b st heard = settle b (step (b .body) st) heard (suc (b .outputs)) (begin b)
 
 -- The answer to an instant: the outputs' final statuses with the code, the next state and the number of rounds; or, where the
 -- final round leaves the code unknown, NOT CONSTRUCTIVE with the statuses and the rounds.
@@ -95,11 +95,11 @@ unfolding next
 answer r none A = not-constructive (r .statuses) (r .rounds)
 answer r (some c) A = answered (r .statuses) c (next c A) (r .rounds)
 
--- One instant of a block from a state, with a set of present inputs.
-unfoldable pub react : Block → State → Numbers → Answer
+-- One instant of a block from a state, with what is heard of the inputs.
+unfoldable pub react : Block → State → Hearing → Answer
 unfolding answer final-of
-react b st given =
-    let r = final-of b st given in
+react b st heard =
+    let r = final-of b st heard in
     let p = step (b .body) st in
-    let E = event b given (r .statuses) in
+    let E = event b heard (r .statuses) in
     answer r (lowest code-width (gives must p E .codes)) (kept p E)

@@ -16,7 +16,7 @@ use Rattle.sets.proofs.Members.{of-true, of-false}
 use Rattle.sets.proofs.Maxima.{maxima-out, downs-out}
 use Rattle.sets.proofs.Counts.{lowest-some, lowest-none}
 use Rattle.rules.specs.Statements.{Block, code}
-use Rattle.rules.specs.Events.{Status, present, absent, unknown, Event, giving, known, event}
+use Rattle.rules.specs.Events.{Status, present, absent, unknown, Event, giving, known, event, Hearing}
 use Rattle.rules.specs.Instant.{Step, done, stay, say, leave, test, catch, scope, chain, beside}
 use Rattle.rules.specs.MustCan.{plus, must, can, Given, choose, marked, gives}
 use Rattle.rules.specs.States.{State, step, executed-as, kept-by, kept, next}
@@ -143,23 +143,23 @@ same-kept (beside p q) E c t =
     ap₂ only-if (ap (λ (g : Given). g .codes 1) (same-must (beside p q) E c t)) (ap₂ union (same-kept p E (r .0) (r .2)) (same-kept q E (r .1) (r .3)))
 
 -- The rounds, as they were.
-module _ (b : Block) (p : Step) (given : Numbers) where
+module _ (b : Block) (p : Step) (heard : Hearing) where
   abbrev had-must : List Status → ℕ → Bool
-  had-must vs i = gave must p (event b given vs) .signals (b .inputs + i)
+  had-must vs i = gave must p (event b heard vs) .signals (b .inputs + i)
 
   abbrev had-can : List Status → ℕ → Bool
-  had-can vs i = gave (can plus) p (event b given vs) .signals (b .inputs + i)
+  had-can vs i = gave (can plus) p (event b heard vs) .signals (b .inputs + i)
 
   was-within : (vs : List Status) (i : ℕ) → T (had-must vs i) → T (had-can vs i)
-  was-within vs i = must-was-in-can p (event b given vs) .of-signals .at (b .inputs + i)
+  was-within vs i = must-was-in-can p (event b heard vs) .of-signals .at (b .inputs + i)
 
-  before-length : (vs : List Status) → length (round-before b p given vs) ≡ length vs
+  before-length : (vs : List Status) → length (round-before b p heard vs) ≡ length vs
   unfolding round-before
-  before-length vs = marks-length (gave must p (event b given vs)) (gave (can plus) p (event b given vs)) (b .inputs) vs
+  before-length vs = marks-length (gave must p (event b heard vs)) (gave (can plus) p (event b heard vs)) (b .inputs) vs
 
-  before-at : (vs : List Status) (i : ℕ) → i < length vs → getD (round-before b p given vs) i unknown ≡ marked (had-must vs i) (had-can vs i) (getD vs i unknown)
+  before-at : (vs : List Status) (i : ℕ) → i < length vs → getD (round-before b p heard vs) i unknown ≡ marked (had-must vs i) (had-can vs i) (getD vs i unknown)
   unfolding round-before
-  before-at vs i h = marks-at (gave must p (event b given vs)) (gave (can plus) p (event b given vs)) (b .inputs) vs i h
+  before-at vs i h = marks-at (gave must p (event b heard vs)) (gave (can plus) p (event b heard vs)) (b .inputs) vs i h
 
   pub record WasBacked (vs : List Status) : Type 0 where
     pub each : (i : ℕ) → i < length vs → Backed (getD vs i unknown) (had-must vs i) (had-can vs i)
@@ -169,20 +169,20 @@ module _ (b : Block) (p : Step) (given : Numbers) where
   begin-backed = record { each = λ i h. subst⁻¹ (λ (v : Status). Backed v (had-must (begin b) i) (had-can (begin b) i)) (begin-at (b .outputs) i) tt }
 
   module _ {vs : List Status} (w : WasBacked vs) where
-    before-keeps : (i : ℕ) → i < length vs → Below (getD vs i unknown) (getD (round-before b p given vs) i unknown)
+    before-keeps : (i : ℕ) → i < length vs → Below (getD vs i unknown) (getD (round-before b p heard vs) i unknown)
     before-keeps i h =
         subst⁻¹ (λ (v : Status). Below (getD vs i unknown) v) (before-at vs i h)
         (backed-below (getD vs i unknown) (had-must vs i) (had-can vs i) (was-within vs i) (w .each i h))
 
-    before-above : event b given vs ⊑ event b given (round-before b p given vs)
-    before-above = outputs-below b given vs (round-before b p given vs) before-keeps
+    before-above : event b heard vs ⊑ event b heard (round-before b p heard vs)
+    before-above = outputs-below b heard vs (round-before b p heard vs) before-keeps
 
-    backed-on : WasBacked (round-before b p given vs)
+    backed-on : WasBacked (round-before b p heard vs)
     backed-on = record { each = λ i h. later i (subst (λ (n : ℕ). i < n) (before-length vs) h) }
       where
-        later : (i : ℕ) → i < length vs → Backed (getD (round-before b p given vs) i unknown) (had-must (round-before b p given vs) i) (had-can (round-before b p given vs) i)
+        later : (i : ℕ) → i < length vs → Backed (getD (round-before b p heard vs) i unknown) (had-must (round-before b p heard vs) i) (had-can (round-before b p heard vs) i)
         later i h =
-            backed-later (getD (round-before b p given vs) i unknown) (had-must vs i) (had-can vs i) _ _
+            backed-later (getD (round-before b p heard vs) i unknown) (had-must vs i) (had-can vs i) _ _
             (compare formula formula formula-formula p (for-must before-above) .of-signals .at (b .inputs + i))
             (compare formula formula formula-formula p (for-can plus plus before-above tt) .of-signals .at (b .inputs + i))
             (subst⁻¹ (λ (v : Status). Backed v (had-must vs i) (had-can vs i)) (before-at vs i h)
@@ -190,88 +190,88 @@ module _ (b : Block) (p : Step) (given : Numbers) where
 
   -- They end, and in one way.
   pub record EndedBefore (vs : List Status) (r : Settled) : Type 0 where
-    pub ends : RoundsBefore b p given vs (r .rounds) (r .statuses)
+    pub ends : RoundsBefore b p heard vs (r .rounds) (r .statuses)
 
-  pub settle-before-ends : (fuel : ℕ) (vs : List Status) → WasBacked vs → undecided vs < fuel → EndedBefore vs (settle-before b p given fuel vs)
+  pub settle-before-ends : (fuel : ℕ) (vs : List Status) → WasBacked vs → undecided vs < fuel → EndedBefore vs (settle-before b p heard fuel vs)
   unfolding settle-before
   settle-before-ends zero vs w h = absurd (not-suc-le-zero h)
   settle-before-ends (suc fuel) vs w h =
-      go (all-same (round-before b p given vs) vs) refl (progress vs (round-before b p given vs) (before-length vs) (before-keeps w))
-      (settle-before-ends fuel (round-before b p given vs) (backed-on w))
+      go (all-same (round-before b p heard vs) vs) refl (progress vs (round-before b p heard vs) (before-length vs) (before-keeps w))
+      (settle-before-ends fuel (round-before b p heard vs) (backed-on w))
     where
-      go : (z : Bool) → all-same (round-before b p given vs) vs ≡ z → (round-before b p given vs ≡ vs) ⊎ (undecided (round-before b p given vs) < undecided vs)
-          → (undecided (round-before b p given vs) < fuel → EndedBefore (round-before b p given vs) (settle-before b p given fuel (round-before b p given vs)))
-          → EndedBefore vs (elim z [ true ↦ record { statuses = vs; rounds = 1 } | false ↦ one-more (settle-before b p given fuel (round-before b p given vs)) ])
-      go true e q f = record { ends = last (all-same-is (round-before b p given vs) vs (of-true e)) }
+      go : (z : Bool) → all-same (round-before b p heard vs) vs ≡ z → (round-before b p heard vs ≡ vs) ⊎ (undecided (round-before b p heard vs) < undecided vs)
+          → (undecided (round-before b p heard vs) < fuel → EndedBefore (round-before b p heard vs) (settle-before b p heard fuel (round-before b p heard vs)))
+          → EndedBefore vs (elim z [ true ↦ record { statuses = vs; rounds = 1 } | false ↦ one-more (settle-before b p heard fuel (round-before b p heard vs)) ])
+      go true e q f = record { ends = last (all-same-is (round-before b p heard vs) vs (of-true e)) }
       go false e (inl q) f = absurd (of-false e (subst⁻¹ (λ (ws : List Status). T (all-same ws vs)) q (all-same-refl vs)))
       go false e (inr q) f =
           record { ends = more (λ d. of-false e (subst⁻¹ (λ (ws : List Status). T (all-same ws vs)) d (all-same-refl vs))) (f (omega arith) .ends) }
 
-  rounds-were-one : {vs ws us : List Status} {m n : ℕ} → RoundsBefore b p given vs m ws → RoundsBefore b p given vs n us → (m ≡ n) × (ws ≡ us)
+  rounds-were-one : {vs ws us : List Status} {m n : ℕ} → RoundsBefore b p heard vs m ws → RoundsBefore b p heard vs n us → (m ≡ n) × (ws ≡ us)
   rounds-were-one (last e) (last f) = (refl, refl)
   rounds-were-one (last e) (more f q) = absurd (f e)
   rounds-were-one (more e r) (last f) = absurd (e f)
   rounds-were-one (more e r) (more f q) = let x = rounds-were-one r q in (ap suc (x .0), x .1)
 
-  last-before : {vs ws : List Status} {n : ℕ} → RoundsBefore b p given vs n ws → (round-before b p given ws ≡ ws) × (length ws ≡ length vs)
+  last-before : {vs ws : List Status} {n : ℕ} → RoundsBefore b p heard vs n ws → (round-before b p heard ws ≡ ws) × (length ws ≡ length vs)
   last-before (last e) = (e, refl)
   last-before (more {vs = vs} e r) = let x = last-before r in (x .0, x .1 ∙ before-length vs)
 
   -- Whatever is settled now stays below statuses that a round left as they were before.
-  now-below : {vs ws : List Status} → Reached b p given vs → length ws ≡ b .outputs → round-before b p given ws ≡ ws
+  now-below : {vs ws : List Status} → Reached b p heard vs → length ws ≡ b .outputs → round-before b p heard ws ≡ ws
       → (i : ℕ) → i < b .outputs → Below (getD vs i unknown) (getD ws i unknown)
   unfolding begin
   now-below {ws = ws} at-first sized e i h = subst⁻¹ (λ (v : Status). Below v (getD ws i unknown)) (begin-at (b .outputs) i) tt
   now-below {ws = ws} (settling {vs = us} {ws = vs} q s) sized e i h =
-      go (λ j l. now-below q sized e j l) (s .each i (subst⁻¹ (λ (n : ℕ). i < n) (reached-length b p given q) h))
+      go (λ j l. now-below q sized e j l) (s .each i (subst⁻¹ (λ (n : ℕ). i < n) (reached-length b p heard q) h))
     where
       go : ((j : ℕ) → j < b .outputs → Below (getD us j unknown) (getD ws j unknown))
-          → (getD vs i unknown ≡ getD us i unknown) ⊎ (getD vs i unknown ≡ getD (round b p given us) i unknown) → Below (getD vs i unknown) (getD ws i unknown)
+          → (getD vs i unknown ≡ getD us i unknown) ⊎ (getD vs i unknown ≡ getD (round b p heard us) i unknown) → Below (getD vs i unknown) (getD ws i unknown)
       go f (inl a) = subst⁻¹ (λ (v : Status). Below v (getD ws i unknown)) a (f i h)
       go f (inr a) =
-          let up : event b given us ⊑ event b given ws = outputs-below b given us ws (λ j l. f j (subst (λ (n : ℕ). j < n) (reached-length b p given q) l)) in
-          subst⁻¹ (λ (v : Status). Below v (getD ws i unknown)) (a ∙ round-at b p given us i (subst⁻¹ (λ (n : ℕ). i < n) (reached-length b p given q) h))
+          let up : event b heard us ⊑ event b heard ws = outputs-below b heard us ws (λ j l. f j (subst (λ (n : ℕ). j < n) (reached-length b p heard q) l)) in
+          subst⁻¹ (λ (v : Status). Below v (getD ws i unknown)) (a ∙ round-at b p heard us i (subst⁻¹ (λ (n : ℕ). i < n) (reached-length b p heard q) h))
           (marked-under (getD us i unknown) (getD ws i unknown)
-          (gives must p (event b given us) .signals (b .inputs + i)) (gives (can plus) p (event b given us) .signals (b .inputs + i)) (had-must ws i) (had-can ws i)
+          (gives must p (event b heard us) .signals (b .inputs + i)) (gives (can plus) p (event b heard us) .signals (b .inputs + i)) (had-must ws i) (had-can ws i)
           (less-must p up .of-signals .at (b .inputs + i)) (more-can p up .of-signals .at (b .inputs + i)) (was-within ws i)
           (ap (λ (us : List Status). getD us i unknown) (sym e) ∙ before-at ws i (subst⁻¹ (λ (n : ℕ). i < n) sized h)) (f i h))
 
-module _ (b : Block) (st : State) (given : Numbers) where
+module _ (b : Block) (st : State) (heard : Hearing) where
   abbrev S : Step
   S = step (b .body) st
 
   -- By the formula too each instant had at most one answer, and of a checked block `react-before` computes it.
-  pub one-answer-before : {a d : Answer} → InstantBefore b st given a → InstantBefore b st given d → a ≡ d
+  pub one-answer-before : {a d : Answer} → InstantBefore b st heard a → InstantBefore b st heard d → a ≡ d
   one-answer-before (answers {vs = vs} {c = c} r t) (answers {vs = ws} {c = d} q u) =
-      let e = rounds-were-one b S given r q in
-      let f : c ≡ d = one-code-before S (event b given vs) .equal c d t (subst⁻¹ (λ (us : List Status). T (gave must S (event b given us) .codes d)) (e .1) u) in
-      λ i. answered (e .1 i) (f i) (next (f i) (kept-before S (event b given (e .1 i)))) (e .0 i)
+      let e = rounds-were-one b S heard r q in
+      let f : c ≡ d = one-code-before S (event b heard vs) .equal c d t (subst⁻¹ (λ (us : List Status). T (gave must S (event b heard us) .codes d)) (e .1) u) in
+      λ i. answered (e .1 i) (f i) (next (f i) (kept-before S (event b heard (e .1 i)))) (e .0 i)
   one-answer-before (answers {c = c} r t) (refuses q f) =
-      let e = rounds-were-one b S given r q in
-      absurd (f c (subst (λ (us : List Status). T (gave must S (event b given us) .codes c)) (e .1) t))
+      let e = rounds-were-one b S heard r q in
+      absurd (f c (subst (λ (us : List Status). T (gave must S (event b heard us) .codes c)) (e .1) t))
   one-answer-before (refuses r f) (answers {c = c} q u) =
-      let e = rounds-were-one b S given q r in
-      absurd (f c (subst (λ (us : List Status). T (gave must S (event b given us) .codes c)) (e .1) u))
-  one-answer-before (refuses r f) (refuses q g) = let e = rounds-were-one b S given r q in λ i. not-constructive (e .1 i) (e .0 i)
+      let e = rounds-were-one b S heard q r in
+      absurd (f c (subst (λ (us : List Status). T (gave must S (event b heard us) .codes c)) (e .1) u))
+  one-answer-before (refuses r f) (refuses q g) = let e = rounds-were-one b S heard r q in λ i. not-constructive (e .1 i) (e .0 i)
 
-  pub reacted-before : Checked b → InstantBefore b st given (react-before b st given)
+  pub reacted-before : Checked b → InstantBefore b st heard (react-before b st heard)
   unfolding react-before answer begin
   reacted-before checked = go (lowest code-width (gave must S E .codes)) refl
     where
       r : Settled
-      r = settle-before b S given (suc (b .outputs)) (begin b)
+      r = settle-before b S heard (suc (b .outputs)) (begin b)
 
       E : Event
-      E = event b given (r .statuses)
+      E = event b heard (r .statuses)
 
-      ended : EndedBefore b S given (begin b) r
-      ended = let u : undecided (begin b) ≡ b .outputs = undecided-begin (b .outputs) in settle-before-ends b S given (suc (b .outputs)) (begin b) (begin-backed b S given) (omega arith)
+      ended : EndedBefore b S heard (begin b) r
+      ended = let u : undecided (begin b) ≡ b .outputs = undecided-begin (b .outputs) in settle-before-ends b S heard (suc (b .outputs)) (begin b) (begin-backed b S heard) (omega arith)
 
       narrow : (c : ℕ) → (c ≡ 0) ⊎ (c ≡ 1) → c < code-width
       narrow c (inl q) = omega arith
       narrow c (inr q) = omega arith
 
-      go : (o : Option ℕ) → lowest code-width (gave must S E .codes) ≡ o → InstantBefore b st given (answer r o (kept-before S E))
+      go : (o : Option ℕ) → lowest code-width (gave must S E .codes) ≡ o → InstantBefore b st heard (answer r o (kept-before S E))
       go none e =
           refuses (ended .ends) (λ c t. lowest-none code-width (gave must S E .codes) e c
           (narrow c (root-codes (b .body) st (checked .exits-are-trapped) .if-given (can plus) E c
@@ -279,26 +279,26 @@ module _ (b : Block) (st : State) (given : Numbers) where
       go (some c) e = answers (ended .ends) (lowest-some code-width (gave must S E .codes) e .1)
 
   -- The statuses now lie below those before.
-  module _ {vs ws : List Status} {m n : ℕ} (r : Rounds b S given (begin b) m vs) (q : RoundsBefore b S given (begin b) n ws) where
+  module _ {vs ws : List Status} {m n : ℕ} (r : Rounds b S heard (begin b) m vs) (q : RoundsBefore b S heard (begin b) n ws) where
     sized : length ws ≡ b .outputs
     unfolding begin
-    sized = last-before b S given q .1 ∙ length-replicate (b .outputs) unknown
+    sized = last-before b S heard q .1 ∙ length-replicate (b .outputs) unknown
 
-    reached : Reached b S given vs
-    reached = last-reached b S given at-first r
+    reached : Reached b S heard vs
+    reached = last-reached b S heard at-first r
 
-    under : event b given vs ⊑ event b given ws
+    under : event b heard vs ⊑ event b heard ws
     under =
-        outputs-below b given vs ws (λ i h.
-        now-below b S given reached sized (last-before b S given q .0) i (subst (λ (k : ℕ). i < k) (reached-length b S given reached) h))
+        outputs-below b heard vs ws (λ i h.
+        now-below b S heard reached sized (last-before b S heard q .0) i (subst (λ (k : ℕ). i < k) (reached-length b S heard reached) h))
 
     -- With a code now they are the same: each is decided now.
-    same-statuses : (c : ℕ) → T (gives must S (event b given vs) .codes c) → ws ≡ vs
+    same-statuses : (c : ℕ) → T (gives must S (event b heard vs) .codes c) → ws ≡ vs
     same-statuses c t =
-        ext-getD unknown ws vs (sized ∙ sym (reached-length b S given reached)) (λ i h.
-        let l : i < length vs = subst (λ (k : ℕ). i < k) (sized ∙ sym (reached-length b S given reached)) h in
-        known-stays (getD vs i unknown) (getD ws i unknown) (gives must S (event b given vs) .signals (b .inputs + i)) (decided b S given vs (last-unchanged b S given r) c t i l)
-        (now-below b S given reached sized (last-before b S given q .0) i (subst (λ (k : ℕ). i < k) sized h)))
+        ext-getD unknown ws vs (sized ∙ sym (reached-length b S heard reached)) (λ i h.
+        let l : i < length vs = subst (λ (k : ℕ). i < k) (sized ∙ sym (reached-length b S heard reached)) h in
+        known-stays (getD vs i unknown) (getD ws i unknown) (gives must S (event b heard vs) .signals (b .inputs + i)) (decided b S heard vs (last-unchanged b S heard r) c t i l)
+        (now-below b S heard reached sized (last-before b S heard q .0) i (subst (λ (k : ℕ). i < k) sized h)))
       where
         known-stays : (v w : Status) (x : Bool) → v ≡ known x → Below v w → w ≡ v
         known-stays present w x e l = l
@@ -307,32 +307,32 @@ module _ (b : Block) (st : State) (given : Numbers) where
         known-stays unknown w false e l = let z : _≡_ {A = ℕ} 0 1 = cc in absurd (omega arith)
 
   -- No instant refused before is answered now.
-  pub none-newly-answered : {vs ws : List Status} {c m n : ℕ} {st′ : State} → InstantBefore b st given (not-constructive ws n) → Instant b st given (answered vs c st′ m) → ⊥
+  pub none-newly-answered : {vs ws : List Status} {c m n : ℕ} {st′ : State} → InstantBefore b st heard (not-constructive ws n) → Instant b st heard (answered vs c st′ m) → ⊥
   none-newly-answered (refuses q f) (now.answers {c = c} r t) = f c (less-must S (under r q) .of-codes .at c t)
 
   -- Where both answer, they have the same outputs, code and next state.
-  pub same-as-before : {vs ws : List Status} {c d m n : ℕ} {st′ st″ : State} → InstantBefore b st given (answered ws d st″ n) → Instant b st given (answered vs c st′ m)
+  pub same-as-before : {vs ws : List Status} {c d m n : ℕ} {st′ st″ : State} → InstantBefore b st heard (answered ws d st″ n) → Instant b st heard (answered vs c st′ m)
       → (ws ≡ vs) × (d ≡ c) × (st″ ≡ st′)
   same-as-before (answers {vs = ws} {c = d} q u) (now.answers {vs = vs} {c = c} r t) =
       let e = same-statuses r q c t in
-      let u′ : T (gave must S (event b given vs) .codes d) = subst (λ (us : List Status). T (gave must S (event b given us) .codes d)) e u in
-      let k : d ≡ c = one-code S (event b given vs) .equal d c (subst (λ (g : Given). T (g .codes d)) (same-must S (event b given vs) c t) u′) t in (
+      let u′ : T (gave must S (event b heard vs) .codes d) = subst (λ (us : List Status). T (gave must S (event b heard us) .codes d)) e u in
+      let k : d ≡ c = one-code S (event b heard vs) .equal d c (subst (λ (g : Given). T (g .codes d)) (same-must S (event b heard vs) c t) u′) t in (
         e,
         k,
-        ap₂ (λ (x : ℕ) (us : List Status). next x (kept-before S (event b given us))) k e ∙ ap (next c) (same-kept S (event b given vs) c t),
+        ap₂ (λ (x : ℕ) (us : List Status). next x (kept-before S (event b heard us))) k e ∙ ap (next c) (same-kept S (event b heard vs) c t),
       )
 
   -- An instant answered now was answered before, with the same outputs, code and next state, whether or not the block is checked.
-  pub was-answered : {vs : List Status} {c m : ℕ} {st′ : State} → Instant b st given (answered vs c st′ m) → (n : ℕ) × InstantBefore b st given (answered vs c st′ n)
+  pub was-answered : {vs : List Status} {c m : ℕ} {st′ : State} → Instant b st heard (answered vs c st′ m) → (n : ℕ) × InstantBefore b st heard (answered vs c st′ n)
   unfolding begin
   was-answered (now.answers {vs = vs} {c = c} r t) =
-      let f = settle-before b S given (suc (b .outputs)) (begin b) in
+      let f = settle-before b S heard (suc (b .outputs)) (begin b) in
       let u : undecided (begin b) ≡ b .outputs = undecided-begin (b .outputs) in
-      let q = settle-before-ends b S given (suc (b .outputs)) (begin b) (begin-backed b S given) (omega arith) .ends in
+      let q = settle-before-ends b S heard (suc (b .outputs)) (begin b) (begin-backed b S heard) (omega arith) .ends in
       let e : f .statuses ≡ vs = same-statuses r q c t in
-      let had : InstantBefore b st given (answered (f .statuses) c (next c (kept-before S (event b given (f .statuses)))) (f .rounds)) =
+      let had : InstantBefore b st heard (answered (f .statuses) c (next c (kept-before S (event b heard (f .statuses)))) (f .rounds)) =
       answers q (less-must S (under r q) .of-codes .at c t) in (
         f .rounds,
-        subst (λ (x : State). InstantBefore b st given (answered vs c x (f .rounds))) (ap (next c) (same-kept S (event b given vs) c t))
-            (subst (λ (us : List Status). InstantBefore b st given (answered us c (next c (kept-before S (event b given us))) (f .rounds))) e had),
+        subst (λ (x : State). InstantBefore b st heard (answered vs c x (f .rounds))) (ap (next c) (same-kept S (event b heard vs) c t))
+            (subst (λ (us : List Status). InstantBefore b st heard (answered us c (next c (kept-before S (event b heard us))) (f .rounds))) e had),
       )

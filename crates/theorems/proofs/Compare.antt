@@ -126,14 +126,14 @@ module _ (strict wide : Reading) (near : Closer strict wide) where
   asks-within opened p G s t = absurd t
 
   -- A local's status, as the question gives it.
-  abbrev status-of : Reading → Question → ℕ → Step → Event → Status
-  status-of x k s p E = local-status k s (gives-by x must p (giving E s unknown)) (gives-by x (absence-read x k) p (giving E s unknown))
+  abbrev status-by : Reading → Question → ℕ → Step → Event → Status
+  status-by x k s p E = local-status k s (gives-by x must p (giving E s unknown)) (gives-by x (absence-read x k) p (giving E s unknown))
 
   scope-no-more : {x y : Reading} {k l : Question} {E F : Event} (s : ℕ) (p : Step) → Compared p → NoMore strict wide x k E y l F
-      → NoMore strict wide x k (giving E s (status-of x k s p E)) y l (giving F s (status-of y l s p F))
+      → NoMore strict wide x k (giving E s (status-by x k s p E)) y l (giving F s (status-by y l s p F))
   scope-no-more {E = E} {F = F} s p f (for-must h) =
       let d : giving E s unknown ⊑ giving F s unknown = giving-below s unknown unknown h tt in
-      for-must (giving-below s (status-of wide must s p E) (status-of strict must s p F) h
+      for-must (giving-below s (status-by wide must s p E) (status-by strict must s p F) h
       (marked-below (gives-by wide must p (giving E s unknown) .signals s) (gives-by wide (can plus) p (giving E s unknown) .signals s)
       (gives-by strict must p (giving F s unknown) .signals s) (gives-by strict (can plus) p (giving F s unknown) .signals s)
       (f wide strict must must (giving E s unknown) (giving F s unknown) (for-must d) .of-signals .at s)
@@ -145,7 +145,7 @@ module _ (strict wide : Reading) (near : Closer strict wide) where
       let mf = gives-by wide must p (giving F s unknown) .signals s in
       let ce = gives-by strict (can (strict m)) p (giving E s unknown) .signals s in
       let cf = gives-by wide (can (wide n)) p (giving F s unknown) .signals s in
-      for-can m n (giving-below s (status-of wide (can n) s p F) (status-of strict (can m) s p E) h
+      for-can m n (giving-below s (status-by wide (can n) s p F) (status-by strict (can m) s p E) h
       (marked-below (asks-must (can n) && mf) cf (asks-must (can m) && me) ce
       (asks-stricter m n me mf r (f wide strict must must (giving F s unknown) (giving E s unknown) (for-must d) .of-signals .at s))
       (f strict wide (can (strict m)) (can (wide n)) (giving E s unknown) (giving F s unknown)

@@ -9,7 +9,7 @@ use lib.Dec.{T}
 use lib.ListN.{length, getD}
 use Rattle.sets.specs.Numbers.{Numbers, Within}
 use Rattle.rules.specs.Statements.{Block, Stmt, loop}
-use Rattle.rules.specs.Events.{Status, unknown, Event, event}
+use Rattle.rules.specs.Events.{Status, unknown, Event, Hearing, all-heard, event}
 use Rattle.rules.specs.Instant.{Step, started}
 use Rattle.rules.specs.MustCan.{Mark, plus, opened, Question, must, can, gives}
 use Rattle.rules.specs.Loops.{codes-of, loops-pass}
@@ -17,12 +17,13 @@ use Rattle.rules.specs.States.{State, step, Legal, kept, next}
 use Rattle.rules.specs.Rounds.{round, begin, Rounds, final-of, Answer, answered, not-constructive, react, undecided}
 use Rattle.rules.specs.Coherence.{Locals, execute, LocalsAgree, world, Coherent}
 use Rattle.rules.proofs.OneCode.{one-code}
-use Rattle.theorems.specs.Order.{Below, _⊑_, whole, Inside, Between}
+use Rattle.theorems.specs.Order.{Below, _⊑_, HearsMore, Choice, whole, Inside, Between}
 use Rattle.theorems.specs.Reach.{Reached, at-first, Final}
 use Rattle.theorems.specs.Reactions.{Some, OnlyReaction}
 use Rattle.theorems.specs.Checked.{Checked, Part, NeverZero, ZeroOrOne}
 use Rattle.theorems.specs.Traces.{InputSet, Instant, Trace}
 use Rattle.theorems.specs.Demand.{NeverStuck}
+use Rattle.theorems.specs.Late.{SameButRounds}
 use Rattle.theorems.specs.AnyOrder.{Justifies, Order, NoneLeft, OneLeft, EndsAsRounds}
 use Rattle.theorems.proofs.MustInCan.{must-in-can}
 use Rattle.theorems.proofs.Compare.{must-grows, can-shrinks, plus-in-opened}
@@ -37,6 +38,7 @@ use Rattle.theorems.proofs.Traps.{root-codes}
 use Rattle.theorems.proofs.NextLegal.{run-keeps-at-one, run-next-legal, computed-keeps-at-one, computed-next-legal}
 use Rattle.theorems.proofs.Instants.{one-answer, never-both, reacts, answer-only}
 use Rattle.theorems.proofs.Traces.{run-not-stuck, never-stuck}
+use Rattle.theorems.proofs.Late.{late, choice-hears-more, all-is-choice}
 
 -- "A block that passes the check never gets stuck." The whole of the demand, over every run: exactly one run over every list of declared
 -- input sets, and at each of its instants what the sentences below say.
@@ -57,20 +59,33 @@ pub each-state-reached-is-legal : (b : Block) → Checked b → {st st′ : Stat
 each-state-reached-is-legal b checked h t = run-not-stuck b checked h t .1
 
 -- "Each instant, with room in any log lent, is either answered or refused as not constructive."
-pub each-instant-is-answered-or-refused : (b : Block) → Checked b → (st : State) (given : Numbers) → Instant b st given (react b st given)
-each-instant-is-answered-or-refused b checked st given = reacts b st given checked
+pub each-instant-is-answered-or-refused : (b : Block) → Checked b → (st : State) (heard : Hearing) → Instant b st heard (react b st heard)
+each-instant-is-answered-or-refused b checked st heard = reacts b st heard checked
 
-pub it-has-no-other-answer : (b : Block) (st : State) (given : Numbers) {a d : Answer} → Instant b st given a → Instant b st given d → a ≡ d
-it-has-no-other-answer b st given = one-answer b st given
+pub it-has-no-other-answer : (b : Block) (st : State) (heard : Hearing) {a d : Answer} → Instant b st heard a → Instant b st heard d → a ≡ d
+it-has-no-other-answer b st heard = one-answer b st heard
 
-pub it-is-not-both : (b : Block) (st : State) (given : Numbers) {vs ws : List Status} {c m n : ℕ} {st′ : State}
-    → Instant b st given (answered vs c st′ m) → Instant b st given (not-constructive ws n) → ⊥
-it-is-not-both b st given = never-both b st given
+pub it-is-not-both : (b : Block) (st : State) (heard : Hearing) {vs ws : List Status} {c m n : ℕ} {st′ : State}
+    → Instant b st heard (answered vs c st′ m) → Instant b st heard (not-constructive ws n) → ⊥
+it-is-not-both b st heard = never-both b st heard
 
 -- "Each answered one is the only reaction that the plain coherence law allows: same outputs, same code, same next state."
-pub each-answered-one-is-the-only-reaction : (b : Block) (st : State) (given : Numbers) {vs : List Status} {c n : ℕ} {st′ : State}
-    → Instant b st given (answered vs c st′ n) → OnlyReaction b st given vs c st′
-each-answered-one-is-the-only-reaction b st given i = answer-only b st given i
+pub each-answered-one-is-the-only-reaction : (b : Block) (st : State) (heard : Hearing) {vs : List Status} {c n : ℕ} {st′ : State}
+    → Instant b st heard (answered vs c st′ n) → (given : Numbers) → Choice b heard given → OnlyReaction b st given vs c st′
+each-answered-one-is-the-only-reaction b st heard i = answer-only b st heard i
+
+-- "An answer given with unknown inputs has the outputs, code and next state that come with any statuses for them": whatever more is heard, part or all;
+pub whatever-more-is-heard-the-answer-stays : (b : Block) (st : State) (h h′ : Hearing) → HearsMore b h h′ → {vs : List Status} {c n : ℕ} {st′ : State} {a : Answer}
+    → Instant b st h (answered vs c st′ n) → Instant b st h′ a → SameButRounds vs c st′ a
+whatever-more-is-heard-the-answer-stays = late
+
+-- every choice of present and absent for the rest is such a hearing, with no unknowns.
+pub every-choice-is-heard : (b : Block) {heard : Hearing} {given : Numbers} → Choice b heard given → HearsMore b heard (all-heard b given)
+every-choice-is-heard = choice-hears-more
+
+-- With no unknowns the set itself is a choice, so that the demand without them is an instance.
+pub with-no-unknowns-the-set-is-the-choice : (b : Block) (given : Numbers) → Choice b (all-heard b given) given
+with-no-unknowns-the-set-is-the-choice = all-is-choice
 
 -- What it rests on. Must and can: must grows and can shrinks with the event; plus is inside open; must is inside can under plus; must has at
 -- most one code; where it has one, can under plus equals it.
@@ -94,58 +109,58 @@ with-a-code-can-equals-must = exact
 
 -- Rounds: they end after at least 1 and at most outputs plus 1, as `final-of` computes; their end is the only one, the first statuses that
 -- a round leaves as they are; a decided output keeps its status; a known code leaves none undecided; and any order of settling ends alike.
-pub rounds-end : (b : Block) (st : State) (given : Numbers) → Final b st given
+pub rounds-end : (b : Block) (st : State) (heard : Hearing) → Final b st heard
 rounds-end = final
 
-pub rounds-are-determined : (b : Block) (p : Step) (given : Numbers) {vs ws us : List Status} {m n : ℕ} → Rounds b p given vs m ws → Rounds b p given vs n us → (m ≡ n) × (ws ≡ us)
-rounds-are-determined b p given = rounds-unique b p given
+pub rounds-are-determined : (b : Block) (p : Step) (heard : Hearing) {vs ws us : List Status} {m n : ℕ} → Rounds b p heard vs m ws → Rounds b p heard vs n us → (m ≡ n) × (ws ≡ us)
+rounds-are-determined b p heard = rounds-unique b p heard
 
-pub final-of-computes-their-only-end : (b : Block) (st : State) (given : Numbers) {vs : List Status} {n : ℕ} → Rounds b (step (b .body) st) given (begin b) n vs
-    → (n ≡ final-of b st given .rounds) × (vs ≡ final-of b st given .statuses)
-final-of-computes-their-only-end b st given r = rounds-unique b (step (b .body) st) given r (final b st given .ends)
+pub final-of-computes-their-only-end : (b : Block) (st : State) (heard : Hearing) {vs : List Status} {n : ℕ} → Rounds b (step (b .body) st) heard (begin b) n vs
+    → (n ≡ final-of b st heard .rounds) × (vs ≡ final-of b st heard .statuses)
+final-of-computes-their-only-end b st heard r = rounds-unique b (step (b .body) st) heard r (final b st heard .ends)
 
-pub the-last-round-changes-nothing : (b : Block) (p : Step) (given : Numbers) {vs ws : List Status} {n : ℕ} → Rounds b p given vs n ws → round b p given ws ≡ ws
-the-last-round-changes-nothing b p given = last-unchanged b p given
+pub the-last-round-changes-nothing : (b : Block) (p : Step) (heard : Hearing) {vs ws : List Status} {n : ℕ} → Rounds b p heard vs n ws → round b p heard ws ≡ ws
+the-last-round-changes-nothing b p heard = last-unchanged b p heard
 
-pub a-decided-output-keeps-its-status : (b : Block) (p : Step) (given : Numbers) {vs : List Status} → Reached b p given vs
-    → (i : ℕ) → i < length vs → Below (getD vs i unknown) (getD (round b p given vs) i unknown)
-a-decided-output-keeps-its-status b p given = round-keeps b p given
+pub a-decided-output-keeps-its-status : (b : Block) (p : Step) (heard : Hearing) {vs : List Status} → Reached b p heard vs
+    → (i : ℕ) → i < length vs → Below (getD vs i unknown) (getD (round b p heard vs) i unknown)
+a-decided-output-keeps-its-status b p heard = round-keeps b p heard
 
-pub with-none-undecided-a-round-changes-nothing : (b : Block) (p : Step) (given : Numbers) {vs : List Status} → Reached b p given vs → undecided vs ≡ 0
-    → round b p given vs ≡ vs
-with-none-undecided-a-round-changes-nothing b p given = nothing-left b p given
+pub with-none-undecided-a-round-changes-nothing : (b : Block) (p : Step) (heard : Hearing) {vs : List Status} → Reached b p heard vs → undecided vs ≡ 0
+    → round b p heard vs ≡ vs
+with-none-undecided-a-round-changes-nothing b p heard = nothing-left b p heard
 
-pub a-known-code-leaves-none-undecided : (b : Block) (p : Step) (given : Numbers) {vs : List Status} {n : ℕ} → Rounds b p given (begin b) n vs
-    → (c : ℕ) → T (gives must p (event b given vs) .codes c) → undecided vs ≡ 0
-a-known-code-leaves-none-undecided b p given {vs} r = none-undecided b p given vs (last-unchanged b p given r)
+pub a-known-code-leaves-none-undecided : (b : Block) (p : Step) (heard : Hearing) {vs : List Status} {n : ℕ} → Rounds b p heard (begin b) n vs
+    → (c : ℕ) → T (gives must p (event b heard vs) .codes c) → undecided vs ≡ 0
+a-known-code-leaves-none-undecided b p heard {vs} r = none-undecided b p heard vs (last-unchanged b p heard r)
 
-pub rounds-are-one-order-of-settling : (b : Block) (p : Step) (given : Numbers) {vs : List Status} {n : ℕ} → Rounds b p given (begin b) n vs → Reached b p given vs
-rounds-are-one-order-of-settling b p given r = last-reached b p given at-first r
+pub rounds-are-one-order-of-settling : (b : Block) (p : Step) (heard : Hearing) {vs : List Status} {n : ℕ} → Rounds b p heard (begin b) n vs → Reached b p heard vs
+rounds-are-one-order-of-settling b p heard r = last-reached b p heard at-first r
 
-pub any-order-of-settling-ends-alike : (b : Block) (p : Step) (given : Numbers) {vs ws : List Status} → Reached b p given vs → Reached b p given ws
-    → round b p given vs ≡ vs → round b p given ws ≡ ws → vs ≡ ws
-any-order-of-settling-ends-alike b p given = same-end b p given
+pub any-order-of-settling-ends-alike : (b : Block) (p : Step) (heard : Hearing) {vs ws : List Status} → Reached b p heard vs → Reached b p heard ws
+    → round b p heard vs ≡ vs → round b p heard ws ≡ ws → vs ≡ ws
+any-order-of-settling-ends-alike b p heard = same-end b p heard
 
 -- One output at a time, present if in must and absent if not in can under plus: whatever the order, where none is left the statuses are those of
 -- the rounds, with the same code or none. Every step decides one output, so no order takes more steps than there are outputs; at every moment
 -- one is left or none is, any output that a round would settle may be settled alone, and every order can be gone on with until none is left.
-pub settling-one-at-a-time-ends-as-the-rounds : (b : Block) (st : State) (given : Numbers) {n : ℕ} {vs : List Status}
-    → Order b (step (b .body) st) given (begin b) n vs → NoneLeft b (step (b .body) st) given vs → EndsAsRounds b st given n vs
+pub settling-one-at-a-time-ends-as-the-rounds : (b : Block) (st : State) (heard : Hearing) {n : ℕ} {vs : List Status}
+    → Order b (step (b .body) st) heard (begin b) n vs → NoneLeft b (step (b .body) st) heard vs → EndsAsRounds b st heard n vs
 settling-one-at-a-time-ends-as-the-rounds = any-order
 
-pub a-step-for-each-output-decided : (b : Block) (p : Step) (given : Numbers) {n : ℕ} {vs : List Status} → Order b p given (begin b) n vs
+pub a-step-for-each-output-decided : (b : Block) (p : Step) (heard : Hearing) {n : ℕ} {vs : List Status} → Order b p heard (begin b) n vs
     → n + undecided vs ≡ b .outputs
 a-step-for-each-output-decided = steps-from-begin
 
-pub at-every-moment-one-is-left-or-none : (b : Block) (p : Step) (given : Numbers) (vs : List Status) → OneLeft b p given vs ⊎ NoneLeft b p given vs
+pub at-every-moment-one-is-left-or-none : (b : Block) (p : Step) (heard : Hearing) (vs : List Status) → OneLeft b p heard vs ⊎ NoneLeft b p heard vs
 at-every-moment-one-is-left-or-none = one-left-or-none
 
-pub what-a-round-settles-may-be-settled-alone : (b : Block) (p : Step) (given : Numbers) (vs : List Status) (i : ℕ) → i < length vs → getD vs i unknown ≡ unknown
-    → (v : Status) → (v ≡ unknown → ⊥) → getD (round b p given vs) i unknown ≡ v → Justifies b p given vs i v
+pub what-a-round-settles-may-be-settled-alone : (b : Block) (p : Step) (heard : Hearing) (vs : List Status) (i : ℕ) → i < length vs → getD vs i unknown ≡ unknown
+    → (v : Status) → (v ≡ unknown → ⊥) → getD (round b p heard vs) i unknown ≡ v → Justifies b p heard vs i v
 what-a-round-settles-may-be-settled-alone = settled-alone
 
-pub every-order-goes-on-to-where-the-rounds-end : (b : Block) (st : State) (given : Numbers) {n : ℕ} {vs : List Status} → Order b (step (b .body) st) given (begin b) n vs
-    → (m : ℕ) × (ws : List Status) × Order b (step (b .body) st) given vs m ws × Order b (step (b .body) st) given (begin b) (m + n) ws × EndsAsRounds b st given (m + n) ws
+pub every-order-goes-on-to-where-the-rounds-end : (b : Block) (st : State) (heard : Hearing) {n : ℕ} {vs : List Status} → Order b (step (b .body) st) heard (begin b) n vs
+    → (m : ℕ) × (ws : List Status) × Order b (step (b .body) st) heard vs m ws × Order b (step (b .body) st) heard (begin b) (m + n) ws × EndsAsRounds b st heard (m + n) ws
 every-order-goes-on-to-where-the-rounds-end = goes-on-to-the-end
 
 -- Coherence: an execution whose locals agree lies between must and can at every event below its own, so a coherent reaction does at every
@@ -154,11 +169,12 @@ pub an-execution-lies-between : (p : Step) (l : Locals p) (W : Numbers) → Loca
     → Between (gives must p E) (gives (can plus) p E) (execute p l W)
 an-execution-lies-between = sound
 
-pub a-coherent-reaction-lies-between : (b : Block) (st : State) (given : Numbers) {outs : List Bool} {c : ℕ} {st′ : State} (r : Coherent b st given outs c st′)
-    {vs : List Status} → Reached b (step (b .body) st) given vs
-    → Between (gives must (step (b .body) st) (event b given vs)) (gives (can plus) (step (b .body) st) (event b given vs))
+pub a-coherent-reaction-lies-between : (b : Block) (st : State) (heard : Hearing) (given : Numbers) (chosen : Choice b heard given)
+    {outs : List Bool} {c : ℕ} {st′ : State} (r : Coherent b st given outs c st′)
+    {vs : List Status} → Reached b (step (b .body) st) heard vs
+    → Between (gives must (step (b .body) st) (event b heard vs)) (gives (can plus) (step (b .body) st) (event b heard vs))
     (execute (step (b .body) st) (r .locals) (world b given outs))
-a-coherent-reaction-lies-between b st given r = coherent-between b st given r
+a-coherent-reaction-lies-between b st heard given chosen r = coherent-between b st heard given chosen r
 
 -- Codes and pauses: the loop check's codes bound what can gives a started statement, and every run; from a legal state code 1 comes exactly
 -- with something kept, and what is kept makes a legal state: some of the block's pauses, pairwise compatible.

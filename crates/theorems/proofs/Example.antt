@@ -17,6 +17,7 @@ use Rattle.theorems.specs.Checked.{Checked, Part, itself, in-trap, in-le
 use Rattle.theorems.specs.Traces.{InputSet, run}
 use Rattle.theorems.specs.Demand.{NeverStuck}
 use Rattle.theorems.proofs.Traces.{never-stuck}
+use Rattle.theorems.proofs.Late.{all-inputs}
 
 -- What is seen of an answer: refusal, statuses, code, pauses kept.
 pub record Seen : Type 0 where
@@ -54,9 +55,8 @@ waiting-checked = record {
 
 -- No input twice, then I: both pauses wait, then the loop's alone, then the exit is taken and ends the block.
 waiting-inputs : List (InputSet waiting)
-waiting-inputs =
-    record { members = empty; declared = λ n t. absurd t } ∷ record { members = empty; declared = λ n t. absurd t }
-    ∷ record { members = single 0; declared = λ n t. let e = single-out 0 n t in omega arith } ∷ []
+waiting-inputs = all-inputs waiting empty (λ n t. absurd t) ∷ all-inputs waiting empty (λ n t. absurd t)
+    ∷ all-inputs waiting (single 0) (λ n t. let e = single-out 0 n t in omega arith) ∷ []
 
 waiting-run : map see (run waiting fresh waiting-inputs)
     ≡ record { refusal = 0; statuses = absent ∷ []; code = 1; active = 0 ∷ 1 ∷ [] }
@@ -82,8 +82,7 @@ doubtful-checked = record { loops-are-good = tt; exits-are-trapped = ((tt, tt), 
 
 -- With I it is refused, and goes on as if that instant had not been.
 doubtful-inputs : List (InputSet doubtful)
-doubtful-inputs =
-    record { members = single 0; declared = λ n t. let e = single-out 0 n t in omega arith } ∷ record { members = empty; declared = λ n t. absurd t } ∷ []
+doubtful-inputs = all-inputs doubtful (single 0) (λ n t. let e = single-out 0 n t in omega arith) ∷ all-inputs doubtful empty (λ n t. absurd t) ∷ []
 
 doubtful-run : map see (run doubtful fresh doubtful-inputs)
     ≡ record { refusal = 13; statuses = unknown ∷ []; code = 0; active = [] }

@@ -7,10 +7,10 @@ use mathlib.Core.Option.{Option, none, some}
 use Prim.Native.Nat.{ℕ, _<_}
 use native.Mathlib.Omega.{arith}
 use lib.Dec.{T}
-use Rattle.sets.specs.Numbers.{Numbers, lowest}
+use Rattle.sets.specs.Numbers.{lowest}
 use Rattle.sets.proofs.Counts.{lowest-some, lowest-none}
 use Rattle.rules.specs.Statements.{Block}
-use Rattle.rules.specs.Events.{Status, Event, event}
+use Rattle.rules.specs.Events.{Status, Event, Hearing, event}
 use Rattle.rules.specs.MustCan.{must, gives}
 use Rattle.rules.specs.States.{State, step, Legal, kept, next}
 use Rattle.rules.specs.Rounds.{final-of, Answer, answered, not-constructive, code-width, answer, react}
@@ -24,56 +24,56 @@ use Rattle.theorems.proofs.Reaction.{coherent-unique, computed-coherent
 use Rattle.theorems.proofs.Traps.{root-codes}
 use Rattle.theorems.proofs.NextLegal.{computed-next-legal}
 
-module _ (b : Block) (st : State) (given : Numbers) where
+module _ (b : Block) (st : State) (heard : Hearing) where
   -- At most one answer.
-  pub one-answer : {a d : Answer} → Instant b st given a → Instant b st given d → a ≡ d
+  pub one-answer : {a d : Answer} → Instant b st heard a → Instant b st heard d → a ≡ d
   one-answer (answers {vs = vs} {n = m} {c = c} r t) (answers {vs = ws} {n = n} {c = d} q u) =
-      let e = rounds-unique b (step (b .body) st) given r q in
-      let f : c ≡ d = one-code (step (b .body) st) (event b given vs) .equal c d t
-      (subst⁻¹ (λ (us : List Status). T (gives must (step (b .body) st) (event b given us) .codes d)) (e .1) u) in
-      λ i. answered (e .1 i) (f i) (next (f i) (kept (step (b .body) st) (event b given (e .1 i)))) (e .0 i)
+      let e = rounds-unique b (step (b .body) st) heard r q in
+      let f : c ≡ d = one-code (step (b .body) st) (event b heard vs) .equal c d t
+      (subst⁻¹ (λ (us : List Status). T (gives must (step (b .body) st) (event b heard us) .codes d)) (e .1) u) in
+      λ i. answered (e .1 i) (f i) (next (f i) (kept (step (b .body) st) (event b heard (e .1 i)))) (e .0 i)
   one-answer (answers {vs = vs} {c = c} r t) (refuses q f) =
-      let e = rounds-unique b (step (b .body) st) given r q in
-      absurd (f c (subst (λ (us : List Status). T (gives must (step (b .body) st) (event b given us) .codes c)) (e .1) t))
+      let e = rounds-unique b (step (b .body) st) heard r q in
+      absurd (f c (subst (λ (us : List Status). T (gives must (step (b .body) st) (event b heard us) .codes c)) (e .1) t))
   one-answer (refuses r f) (answers {c = c} q u) =
-      let e = rounds-unique b (step (b .body) st) given q r in
-      absurd (f c (subst (λ (us : List Status). T (gives must (step (b .body) st) (event b given us) .codes c)) (e .1) u))
-  one-answer (refuses r f) (refuses q g) = let e = rounds-unique b (step (b .body) st) given r q in λ i. not-constructive (e .1 i) (e .0 i)
+      let e = rounds-unique b (step (b .body) st) heard q r in
+      absurd (f c (subst (λ (us : List Status). T (gives must (step (b .body) st) (event b heard us) .codes c)) (e .1) u))
+  one-answer (refuses r f) (refuses q g) = let e = rounds-unique b (step (b .body) st) heard r q in λ i. not-constructive (e .1 i) (e .0 i)
 
   -- Never both.
-  pub never-both : {vs ws : List Status} {c m n : ℕ} {st′ : State} → Instant b st given (answered vs c st′ m) → Instant b st given (not-constructive ws n) → ⊥
+  pub never-both : {vs ws : List Status} {c m n : ℕ} {st′ : State} → Instant b st heard (answered vs c st′ m) → Instant b st heard (not-constructive ws n) → ⊥
   never-both i j = let e = one-answer i j in let z : _≡_ {A = ℕ} 0 1 = cc in omega arith
 
   module _ (checked : Checked b) where
     -- Never neither: the computed answer is one.
-    pub reacts : Instant b st given (react b st given)
+    pub reacts : Instant b st heard (react b st heard)
     unfolding react answer final-of
-    reacts = go (lowest code-width (gives must (step (b .body) st) (event b given (final-of b st given .statuses)) .codes)) refl
+    reacts = go (lowest code-width (gives must (step (b .body) st) (event b heard (final-of b st heard .statuses)) .codes)) refl
       where
         E : Event
-        E = event b given (final-of b st given .statuses)
+        E = event b heard (final-of b st heard .statuses)
 
-        go : (o : Option ℕ) → lowest code-width (gives must (step (b .body) st) E .codes) ≡ o → Instant b st given (answer (final-of b st given) o (kept (step (b .body) st) E))
-        go none e = refuses (final b st given .ends) (λ c t. lowest-none code-width (gives must (step (b .body) st) E .codes) e c (narrow c (root-codes (b .body) st (checked .exits-are-trapped) .if-given must E c t)) t)
+        go : (o : Option ℕ) → lowest code-width (gives must (step (b .body) st) E .codes) ≡ o → Instant b st heard (answer (final-of b st heard) o (kept (step (b .body) st) E))
+        go none e = refuses (final b st heard .ends) (λ c t. lowest-none code-width (gives must (step (b .body) st) E .codes) e c (narrow c (root-codes (b .body) st (checked .exits-are-trapped) .if-given must E c t)) t)
           where
             narrow : (c : ℕ) → (c ≡ 0) ⊎ (c ≡ 1) → c < code-width
             narrow c (inl q) = omega arith
             narrow c (inr q) = omega arith
-        go (some c) e = answers (final b st given .ends) (lowest-some code-width (gives must (step (b .body) st) E .codes) e .1)
+        go (some c) e = answers (final b st heard .ends) (lowest-some code-width (gives must (step (b .body) st) E .codes) e .1)
 
     -- The state after an instant is legal.
-    pub after-legal : Legal (b .body) st → {a : Answer} → Instant b st given a → Legal (b .body) (after st a)
-    after-legal h (answers {vs = vs} {c = c} r t) = computed-next-legal (b .body) (checked .pauses-are-numbered) st h (event b given vs) c t
+    pub after-legal : Legal (b .body) st → {a : Answer} → Instant b st heard a → Legal (b .body) (after st a)
+    after-legal h (answers {vs = vs} {c = c} r t) = computed-next-legal (b .body) (checked .pauses-are-numbered) st h (event b heard vs) c t
     after-legal h (refuses r f) = h
 
   -- An answer is coherent, and the only reaction that is.
-  pub answer-only : {a : Answer} → Instant b st given a → OnlyIfAnswered b st given a
+  pub answer-only : {a : Answer} → Instant b st heard a → OnlyIfAnswered b st heard a
   answer-only (answers {vs = vs} {c = c} r t) =
-      let q = last-reached b (step (b .body) st) given at-first r in
-      let e = last-unchanged b (step (b .body) st) given r in
-      record {
-        coherent = computed-coherent b st given vs q e c t;
-        the-only-one = λ outs d st″ x. coherent-unique b st given vs q e c t x;
-        with-the-same-locals = λ outs d st″ x. locals-unique b st given vs q e c t x;
+      let q = last-reached b (step (b .body) st) heard at-first r in
+      let e = last-unchanged b (step (b .body) st) heard r in
+      λ given chosen. record {
+        coherent = computed-coherent b st heard given chosen vs q e c t;
+        the-only-one = λ outs d st″ x. coherent-unique b st heard given chosen vs q e c t x;
+        with-the-same-locals = λ outs d st″ x. locals-unique b st heard given chosen vs q e c t x;
       }
   answer-only (refuses r f) = tt

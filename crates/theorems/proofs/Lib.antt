@@ -19,6 +19,7 @@ pub mod Numbering
 pub mod Compatible
 pub mod NextLegal
 pub mod Instants
+pub mod Late
 pub mod Before
 pub mod BeforeCases
 pub mod Traces

@@ -13,7 +13,7 @@ use lib.ListN.{length, getD, replicate, length-replicate, List·getD-eq-default}
 use Rattle.sets.specs.Numbers.{Numbers}
 use Rattle.sets.proofs.Members.{is-true}
 use Rattle.rules.specs.Statements.{Block}
-use Rattle.rules.specs.Events.{Status, present, absent, unknown, Event, known, event}
+use Rattle.rules.specs.Events.{Status, present, absent, unknown, Event, known, event, Hearing, input-status}
 use Rattle.rules.specs.Instant.{Step}
 use Rattle.rules.specs.MustCan.{plus, must, can, marked, gives}
 use Rattle.rules.specs.Rounds.{round, begin}
@@ -74,14 +74,14 @@ below-antisym unknown present d e = e
 below-antisym unknown absent d e = e
 below-antisym unknown unknown d e = refl
 
-module _ (b : Block) (given : Numbers) where
+module _ (b : Block) (heard : Hearing) where
   -- Events by their outputs.
-  pub event-below : (vs : List Status) (F : Event) → ((n : ℕ) → T (ltb n (b .inputs)) → Below (known (given n)) (F n))
+  pub event-below : (vs : List Status) (F : Event) → ((n : ℕ) → T (ltb n (b .inputs)) → Below (input-status heard n) (F n))
       → ((i : ℕ) → i < length vs → (n : ℕ) → ltb n (b .inputs) ≡ false → n - b .inputs ≡ i → Below (getD vs i unknown) (F n))
-      → event b given vs ⊑ F
+      → event b heard vs ⊑ F
   unfolding event
   event-below vs F f g = record {
-    at = λ n. by-test (λ (v : Status). Below v (F n)) (ltb n (b .inputs)) (known (given n)) (getD vs (n - b .inputs) unknown) (f n)
+    at = λ n. by-test (λ (v : Status). Below v (F n)) (ltb n (b .inputs)) (input-status heard n) (getD vs (n - b .inputs) unknown) (f n)
         (λ e. out n e (decLt (n - b .inputs) (length vs)));
   }
     where
@@ -89,58 +89,58 @@ module _ (b : Block) (given : Numbers) where
       out n e (yes h) = g (n - b .inputs) h n e refl
       out n e (no h) = subst⁻¹ (λ (v : Status). Below v (F n)) (List·getD-eq-default vs unknown (omega arith)) tt
 
-  event-input : (ws : List Status) (n : ℕ) → T (ltb n (b .inputs)) → event b given ws n ≡ known (given n)
+  pub event-input : (ws : List Status) (n : ℕ) → T (ltb n (b .inputs)) → event b heard ws n ≡ input-status heard n
   unfolding event
-  event-input ws n t = ap (λ (z : Bool). cond z (known (given n)) (getD ws (n - b .inputs) unknown)) (is-true (ltb n (b .inputs)) t)
+  event-input ws n t = ap (λ (z : Bool). cond z (input-status heard n) (getD ws (n - b .inputs) unknown)) (is-true (ltb n (b .inputs)) t)
 
-  event-output : (ws : List Status) (i n : ℕ) → ltb n (b .inputs) ≡ false → n - b .inputs ≡ i → event b given ws n ≡ getD ws i unknown
+  pub event-output : (ws : List Status) (i n : ℕ) → ltb n (b .inputs) ≡ false → n - b .inputs ≡ i → event b heard ws n ≡ getD ws i unknown
   unfolding event
-  event-output ws i n e q = ap₂ (λ (z : Bool) (j : ℕ). cond z (known (given n)) (getD ws j unknown)) e q
+  event-output ws i n e q = ap₂ (λ (z : Bool) (j : ℕ). cond z (input-status heard n) (getD ws j unknown)) e q
 
-  pub outputs-below : (vs ws : List Status) → ((i : ℕ) → i < length vs → Below (getD vs i unknown) (getD ws i unknown)) → event b given vs ⊑ event b given ws
+  pub outputs-below : (vs ws : List Status) → ((i : ℕ) → i < length vs → Below (getD vs i unknown) (getD ws i unknown)) → event b heard vs ⊑ event b heard ws
   outputs-below vs ws f =
-      event-below vs (event b given ws) (λ n t. subst⁻¹ (λ (v : Status). Below (known (given n)) v) (event-input ws n t) (below-refl (known (given n))))
+      event-below vs (event b heard ws) (λ n t. subst⁻¹ (λ (v : Status). Below (input-status heard n) v) (event-input ws n t) (below-refl (input-status heard n)))
       (λ i h n e q. subst⁻¹ (λ (v : Status). Below (getD vs i unknown) v) (event-output ws i n e q) (f i h))
 
-module _ (b : Block) (p : Step) (given : Numbers) where
+module _ (b : Block) (p : Step) (heard : Hearing) where
   -- Whether output i is in must, and whether it is in can, at the event of these statuses.
   abbrev pub in-must : List Status → ℕ → Bool
-  in-must vs i = gives must p (event b given vs) .signals (b .inputs + i)
+  in-must vs i = gives must p (event b heard vs) .signals (b .inputs + i)
 
   abbrev pub in-can : List Status → ℕ → Bool
-  in-can vs i = gives (can plus) p (event b given vs) .signals (b .inputs + i)
+  in-can vs i = gives (can plus) p (event b heard vs) .signals (b .inputs + i)
 
   pub must-can : (vs : List Status) (i : ℕ) → T (in-must vs i) → T (in-can vs i)
-  must-can vs i = must-in-can p (event b given vs) .of-signals .at (b .inputs + i)
+  must-can vs i = must-in-can p (event b heard vs) .of-signals .at (b .inputs + i)
 
-  pub round-length : (vs : List Status) → length (round b p given vs) ≡ length vs
+  pub round-length : (vs : List Status) → length (round b p heard vs) ≡ length vs
   unfolding round
-  round-length vs = marks-length (gives must p (event b given vs)) (gives (can plus) p (event b given vs)) (b .inputs) vs
+  round-length vs = marks-length (gives must p (event b heard vs)) (gives (can plus) p (event b heard vs)) (b .inputs) vs
 
-  pub round-at : (vs : List Status) (i : ℕ) → i < length vs → getD (round b p given vs) i unknown ≡ marked (in-must vs i) (in-can vs i) (getD vs i unknown)
+  pub round-at : (vs : List Status) (i : ℕ) → i < length vs → getD (round b p heard vs) i unknown ≡ marked (in-must vs i) (in-can vs i) (getD vs i unknown)
   unfolding round
-  round-at vs i h = marks-at (gives must p (event b given vs)) (gives (can plus) p (event b given vs)) (b .inputs) vs i h
+  round-at vs i h = marks-at (gives must p (event b heard vs)) (gives (can plus) p (event b heard vs)) (b .inputs) vs i h
 
   pub record Justified (vs : List Status) : Type 0 where
     pub backed : (i : ℕ) → i < length vs → Backed (getD vs i unknown) (in-must vs i) (in-can vs i)
 
   -- A decided output keeps its status when any part is settled.
-  pub settling-keeps : {vs ws : List Status} → Justified vs → Settling b p given vs ws → (i : ℕ) → i < length vs → Below (getD vs i unknown) (getD ws i unknown)
+  pub settling-keeps : {vs ws : List Status} → Justified vs → Settling b p heard vs ws → (i : ℕ) → i < length vs → Below (getD vs i unknown) (getD ws i unknown)
   settling-keeps {vs} {ws} j s i h = go (s .each i h)
     where
-      go : (getD ws i unknown ≡ getD vs i unknown) ⊎ (getD ws i unknown ≡ getD (round b p given vs) i unknown) → Below (getD vs i unknown) (getD ws i unknown)
+      go : (getD ws i unknown ≡ getD vs i unknown) ⊎ (getD ws i unknown ≡ getD (round b p heard vs) i unknown) → Below (getD vs i unknown) (getD ws i unknown)
       go (inl e) = subst⁻¹ (λ (v : Status). Below (getD vs i unknown) v) e (below-refl (getD vs i unknown))
       go (inr e) =
           subst⁻¹ (λ (v : Status). Below (getD vs i unknown) v) (e ∙ round-at vs i h)
           (backed-below (getD vs i unknown) (in-must vs i) (in-can vs i) (must-can vs i) (j .backed i h))
 
-  pub settling-above : {vs ws : List Status} → Justified vs → Settling b p given vs ws → event b given vs ⊑ event b given ws
-  settling-above {vs} {ws} j s = outputs-below b given vs ws (settling-keeps j s)
+  pub settling-above : {vs ws : List Status} → Justified vs → Settling b p heard vs ws → event b heard vs ⊑ event b heard ws
+  settling-above {vs} {ws} j s = outputs-below b heard vs ws (settling-keeps j s)
 
-  settling-justified : {vs ws : List Status} → Justified vs → Settling b p given vs ws → Justified ws
+  settling-justified : {vs ws : List Status} → Justified vs → Settling b p heard vs ws → Justified ws
   settling-justified {vs} {ws} j s = record { backed = λ i h. later i (subst (λ (n : ℕ). i < n) (s .same-length) h) }
     where
-      there : (i : ℕ) → i < length vs → (getD ws i unknown ≡ getD vs i unknown) ⊎ (getD ws i unknown ≡ getD (round b p given vs) i unknown)
+      there : (i : ℕ) → i < length vs → (getD ws i unknown ≡ getD vs i unknown) ⊎ (getD ws i unknown ≡ getD (round b p heard vs) i unknown)
           → Backed (getD ws i unknown) (in-must vs i) (in-can vs i)
       there i h (inl e) = subst⁻¹ (λ (v : Status). Backed v (in-must vs i) (in-can vs i)) e (j .backed i h)
       there i h (inr e) =
@@ -159,32 +159,32 @@ module _ (b : Block) (p : Step) (given : Numbers) where
     backed = λ i h. subst⁻¹ (λ (v : Status). Backed v (in-must (begin b) i) (in-can (begin b) i)) (begin-at (b .outputs) i) tt;
   }
 
-  pub reached-justified : {vs : List Status} → Reached b p given vs → Justified vs
+  pub reached-justified : {vs : List Status} → Reached b p heard vs → Justified vs
   reached-justified at-first = begin-justified
   reached-justified (settling r s) = settling-justified (reached-justified r) s
 
-  pub reached-length : {vs : List Status} → Reached b p given vs → length vs ≡ b .outputs
+  pub reached-length : {vs : List Status} → Reached b p heard vs → length vs ≡ b .outputs
   unfolding begin
   reached-length at-first = length-replicate (b .outputs) unknown
   reached-length (settling r s) = s .same-length ∙ reached-length r
 
   -- A round settles all that it can.
-  pub round-settles : (vs : List Status) → Settling b p given vs (round b p given vs)
+  pub round-settles : (vs : List Status) → Settling b p heard vs (round b p heard vs)
   round-settles vs = record { same-length = round-length vs; each = λ i h. inr refl }
 
   -- From round to round a decided output keeps its status.
-  pub round-keeps : {vs : List Status} → Reached b p given vs → (i : ℕ) → i < length vs → Below (getD vs i unknown) (getD (round b p given vs) i unknown)
+  pub round-keeps : {vs : List Status} → Reached b p heard vs → (i : ℕ) → i < length vs → Below (getD vs i unknown) (getD (round b p heard vs) i unknown)
   round-keeps {vs} r i h = settling-keeps (reached-justified r) (round-settles vs) i h
 
   -- Where a round changes nothing and the code is known, no output is undecided: each has the status that must gives it.
-  pub decided : (vs : List Status) → round b p given vs ≡ vs → (c : ℕ) → T (gives must p (event b given vs) .codes c)
+  pub decided : (vs : List Status) → round b p heard vs ≡ vs → (c : ℕ) → T (gives must p (event b heard vs) .codes c)
       → (i : ℕ) → i < length vs → getD vs i unknown ≡ known (in-must vs i)
   decided vs e c t i h =
       ap (λ (ws : List Status). getD ws i unknown) (sym e) ∙ round-at vs i h
-      ∙ marked-all (getD vs i unknown) (in-must vs i) (in-can vs i) (must-can vs i) (can-in-must p (event b given vs) c t .of-signals .at (b .inputs + i))
+      ∙ marked-all (getD vs i unknown) (in-must vs i) (in-can vs i) (must-can vs i) (can-in-must p (event b heard vs) c t .of-signals .at (b .inputs + i))
 
   -- Whatever is settled, and in whatever order, stays below statuses that were reached and that a round leaves as they are.
-  reached-below : {vs ws : List Status} → Reached b p given vs → Reached b p given ws → round b p given ws ≡ ws
+  reached-below : {vs ws : List Status} → Reached b p heard vs → Reached b p heard ws → round b p heard ws ≡ ws
       → (i : ℕ) → i < b .outputs → Below (getD vs i unknown) (getD ws i unknown)
   unfolding begin
   reached-below {ws = ws} at-first r e i h = subst⁻¹ (λ (v : Status). Below v (getD ws i unknown)) (begin-at (b .outputs) i) tt
@@ -192,17 +192,17 @@ module _ (b : Block) (p : Step) (given : Numbers) where
       go (λ j l. reached-below q r e j l) (s .each i (subst⁻¹ (λ (n : ℕ). i < n) (reached-length q) h))
     where
       go : ((j : ℕ) → j < b .outputs → Below (getD us j unknown) (getD ws j unknown))
-          → (getD vs i unknown ≡ getD us i unknown) ⊎ (getD vs i unknown ≡ getD (round b p given us) i unknown) → Below (getD vs i unknown) (getD ws i unknown)
+          → (getD vs i unknown ≡ getD us i unknown) ⊎ (getD vs i unknown ≡ getD (round b p heard us) i unknown) → Below (getD vs i unknown) (getD ws i unknown)
       go f (inl a) = subst⁻¹ (λ (v : Status). Below v (getD ws i unknown)) a (f i h)
       go f (inr a) =
-          let up : event b given us ⊑ event b given ws = outputs-below b given us ws (λ j l. f j (subst (λ (n : ℕ). j < n) (reached-length q) l)) in
+          let up : event b heard us ⊑ event b heard ws = outputs-below b heard us ws (λ j l. f j (subst (λ (n : ℕ). j < n) (reached-length q) l)) in
           subst⁻¹ (λ (v : Status). Below v (getD ws i unknown)) (a ∙ round-at us i (subst⁻¹ (λ (n : ℕ). i < n) (reached-length q) h))
           (marked-under (getD us i unknown) (getD ws i unknown) (in-must us i) (in-can us i) (in-must ws i) (in-can ws i)
           (must-grows p up .of-signals .at (b .inputs + i)) (can-shrinks p plus up .of-signals .at (b .inputs + i)) (must-can ws i)
           (ap (λ (us : List Status). getD us i unknown) (sym e) ∙ round-at ws i (subst⁻¹ (λ (n : ℕ). i < n) (reached-length r) h)) (f i h))
 
   -- So any two ways of settling, each until nothing is left to settle, end with the same statuses.
-  pub same-end : {vs ws : List Status} → Reached b p given vs → Reached b p given ws → round b p given vs ≡ vs → round b p given ws ≡ ws → vs ≡ ws
+  pub same-end : {vs ws : List Status} → Reached b p heard vs → Reached b p heard ws → round b p heard vs ≡ vs → round b p heard ws ≡ ws → vs ≡ ws
   same-end {vs} {ws} q r d e =
       ext-getD unknown vs ws (reached-length q ∙ sym (reached-length r)) (λ i h.
       let l : i < b .outputs = subst (λ (n : ℕ). i < n) (reached-length q) h in

@@ -12,7 +12,7 @@ use lib.ListN.{length, getD, replicate}
 use Rattle.sets.specs.Numbers.{Numbers}
 use Rattle.sets.proofs.Members.{of-true, of-false}
 use Rattle.rules.specs.Statements.{Block}
-use Rattle.rules.specs.Events.{Status, present, absent, unknown, known, event}
+use Rattle.rules.specs.Events.{Status, present, absent, unknown, known, event, Hearing}
 use Rattle.rules.specs.Instant.{Step}
 use Rattle.rules.specs.MustCan.{must, gives}
 use Rattle.rules.specs.States.{State, step}
@@ -60,24 +60,24 @@ unfolding undecided
 undecided-begin zero = refl
 undecided-begin (suc n) = let e = undecided-begin n in omega arith
 
-module _ (b : Block) (p : Step) (given : Numbers) where
+module _ (b : Block) (p : Step) (heard : Hearing) where
   -- What is shown of the computed rounds.
   pub record Ended (vs : List Status) (r : Settled) : Type 0 where
-    pub ends : Rounds b p given vs (r .rounds) (r .statuses)
+    pub ends : Rounds b p heard vs (r .rounds) (r .statuses)
     pub at-least : 1 ≤ r .rounds
     pub at-most : r .rounds ≤ suc (undecided vs)
 
-  pub settle-ends : (fuel : ℕ) (vs : List Status) → Reached b p given vs → undecided vs < fuel → Ended vs (settle b p given fuel vs)
+  pub settle-ends : (fuel : ℕ) (vs : List Status) → Reached b p heard vs → undecided vs < fuel → Ended vs (settle b p heard fuel vs)
   unfolding settle
   settle-ends zero vs r h = absurd (not-suc-le-zero h)
   settle-ends (suc fuel) vs r h =
-      go (all-same (round b p given vs) vs) refl (progress vs (round b p given vs) (round-length b p given vs) (round-keeps b p given r))
-      (settle-ends fuel (round b p given vs) (settling r (round-settles b p given vs)))
+      go (all-same (round b p heard vs) vs) refl (progress vs (round b p heard vs) (round-length b p heard vs) (round-keeps b p heard r))
+      (settle-ends fuel (round b p heard vs) (settling r (round-settles b p heard vs)))
     where
-      go : (z : Bool) → all-same (round b p given vs) vs ≡ z → (round b p given vs ≡ vs) ⊎ (undecided (round b p given vs) < undecided vs)
-          → (undecided (round b p given vs) < fuel → Ended (round b p given vs) (settle b p given fuel (round b p given vs)))
-          → Ended vs (elim z [ true ↦ record { statuses = vs; rounds = 1 } | false ↦ one-more (settle b p given fuel (round b p given vs)) ])
-      go true e q f = record { ends = last (all-same-is (round b p given vs) vs (of-true e)); at-least = le-refl 1; at-most = suc-le-suc zero-le }
+      go : (z : Bool) → all-same (round b p heard vs) vs ≡ z → (round b p heard vs ≡ vs) ⊎ (undecided (round b p heard vs) < undecided vs)
+          → (undecided (round b p heard vs) < fuel → Ended (round b p heard vs) (settle b p heard fuel (round b p heard vs)))
+          → Ended vs (elim z [ true ↦ record { statuses = vs; rounds = 1 } | false ↦ one-more (settle b p heard fuel (round b p heard vs)) ])
+      go true e q f = record { ends = last (all-same-is (round b p heard vs) vs (of-true e)); at-least = le-refl 1; at-most = suc-le-suc zero-le }
       go false e (inl q) f = absurd (of-false e (subst⁻¹ (λ (ws : List Status). T (all-same ws vs)) q (all-same-refl vs)))
       go false e (inr q) f =
           let g = f (omega arith) in
@@ -88,28 +88,28 @@ module _ (b : Block) (p : Step) (given : Numbers) where
           }
 
   -- Where no output is undecided, a round changes nothing.
-  pub nothing-left : {vs : List Status} → Reached b p given vs → undecided vs ≡ 0 → round b p given vs ≡ vs
-  nothing-left {vs} r e = go (progress vs (round b p given vs) (round-length b p given vs) (round-keeps b p given r))
+  pub nothing-left : {vs : List Status} → Reached b p heard vs → undecided vs ≡ 0 → round b p heard vs ≡ vs
+  nothing-left {vs} r e = go (progress vs (round b p heard vs) (round-length b p heard vs) (round-keeps b p heard r))
     where
-      go : (round b p given vs ≡ vs) ⊎ (undecided (round b p given vs) < undecided vs) → round b p given vs ≡ vs
+      go : (round b p heard vs ≡ vs) ⊎ (undecided (round b p heard vs) < undecided vs) → round b p heard vs ≡ vs
       go (inl q) = q
       go (inr h) = absurd (omega arith)
 
-  -- The rounds from given statuses are determined.
-  pub rounds-unique : {vs ws us : List Status} {m n : ℕ} → Rounds b p given vs m ws → Rounds b p given vs n us → (m ≡ n) × (ws ≡ us)
+  -- The rounds from heard statuses are determined.
+  pub rounds-unique : {vs ws us : List Status} {m n : ℕ} → Rounds b p heard vs m ws → Rounds b p heard vs n us → (m ≡ n) × (ws ≡ us)
   rounds-unique (last e) (last f) = (refl, refl)
   rounds-unique (last e) (more f s) = absurd (f e)
   rounds-unique (more e r) (last f) = absurd (e f)
   rounds-unique (more e r) (more f s) = let q = rounds-unique r s in (ap suc (q .0), q .1)
 
   -- The last round changes nothing, and its statuses are reached.
-  pub last-unchanged : {vs ws : List Status} {n : ℕ} → Rounds b p given vs n ws → round b p given ws ≡ ws
+  pub last-unchanged : {vs ws : List Status} {n : ℕ} → Rounds b p heard vs n ws → round b p heard ws ≡ ws
   last-unchanged (last e) = e
   last-unchanged (more e r) = last-unchanged r
 
-  pub last-reached : {vs ws : List Status} {n : ℕ} → Reached b p given vs → Rounds b p given vs n ws → Reached b p given ws
+  pub last-reached : {vs ws : List Status} {n : ℕ} → Reached b p heard vs → Rounds b p heard vs n ws → Reached b p heard ws
   last-reached q (last e) = q
-  last-reached q (more {outs = vs} e r) = last-reached (settling q (round-settles b p given vs)) r
+  last-reached q (more {outs = vs} e r) = last-reached (settling q (round-settles b p heard vs)) r
 
 -- Where a round changes nothing and the code is known, no output is undecided.
 known-weight : (b : Bool) → weight (known b) ≡ 0
@@ -124,14 +124,14 @@ all-known (v ∷ vs) f h =
     let z : weight v ≡ 0 = ap weight (h zero (zero-lt-suc (length vs))) ∙ known-weight (f zero) in
     omega (arith, weighed v vs)
 
-pub none-undecided : (b : Block) (p : Step) (given : Numbers) (vs : List Status) → round b p given vs ≡ vs → (c : ℕ) → T (gives must p (event b given vs) .codes c)
+pub none-undecided : (b : Block) (p : Step) (heard : Hearing) (vs : List Status) → round b p heard vs ≡ vs → (c : ℕ) → T (gives must p (event b heard vs) .codes c)
     → undecided vs ≡ 0
-none-undecided b p given vs e c t = all-known vs (in-must b p given vs) (decided b p given vs e c t)
+none-undecided b p heard vs e c t = all-known vs (in-must b p heard vs) (decided b p heard vs e c t)
 
 -- From all outputs unknown.
-pub final : (b : Block) (st : State) (given : Numbers) → Final b st given
+pub final : (b : Block) (st : State) (heard : Hearing) → Final b st heard
 unfolding final-of begin
-final b st given =
+final b st heard =
     let u : undecided (begin b) ≡ b .outputs = undecided-begin (b .outputs) in
-    let e = settle-ends b (step (b .body) st) given (suc (b .outputs)) (begin b) at-first (omega arith) in
+    let e = settle-ends b (step (b .body) st) heard (suc (b .outputs)) (begin b) at-first (omega arith) in
     record { ends = e .ends; at-least = e .at-least; at-most = omega (arith, e .at-most) }

@@ -18,32 +18,32 @@ module _ (b : Block) (checked : Checked b) where
   run-is : (st : State) (givens : List (InputSet b)) → Trace b st givens (run b st givens) (arrives b st givens)
   unfolding run arrives
   run-is st [] = ends
-  run-is st (given ∷ givens) = goes-on (reacts b st (given .members) checked) (run-is (after st (react b st (given .members))) givens)
+  run-is st (given ∷ givens) = goes-on (reacts b st (given .heard) checked) (run-is (after st (react b st (given .heard))) givens)
 
   run-length : (st : State) (givens : List (InputSet b)) → length (run b st givens) ≡ length givens
   unfolding run
   run-length st [] = refl
-  run-length st (given ∷ givens) = ap suc (run-length (after st (react b st (given .members))) givens)
+  run-length st (given ∷ givens) = ap suc (run-length (after st (react b st (given .heard))) givens)
 
   run-unique : {st st′ : State} {givens : List (InputSet b)} {told : List Answer} → Trace b st givens told st′ → (told ≡ run b st givens) × (st′ ≡ arrives b st givens)
   unfolding run arrives
   run-unique ends = (refl, refl)
   run-unique (goes-on {st = st} {given = given} {givens = givens} {a = a} i t) =
-      let e : a ≡ react b st (given .members) = one-answer b st (given .members) i (reacts b st (given .members) checked) in
+      let e : a ≡ react b st (given .heard) = one-answer b st (given .heard) i (reacts b st (given .heard) checked) in
       let r = run-unique t in (
         ap₂ (λ (x : Answer) (xs : List Answer). x ∷ xs) e (r .0 ∙ ap (λ (x : Answer). run b (after st x) givens) e),
         r .1 ∙ ap (λ (x : Answer). arrives b (after st x) givens) e,
       )
 
-  pub instant-not-stuck : (st : State) (given : InputSet b) (a : Answer) → Legal (b .body) st → Instant b st (given .members) a → NotStuck b st given a
+  pub instant-not-stuck : (st : State) (given : InputSet b) (a : Answer) → Legal (b .body) st → Instant b st (given .heard) a → NotStuck b st given a
   instant-not-stuck st given a h i = record {
     loop-bodies = λ q part. loop-body-never-zero q (b .body) part (checked .loops-are-good);
     exits = root-codes (b .body) st (checked .exits-are-trapped);
     legal-before = h;
-    legal-after = after-legal b st (given .members) checked h i;
+    legal-after = after-legal b st (given .heard) checked h i;
     its-answer = i;
-    no-other = λ d j. one-answer b st (given .members) j i;
-    only-reaction = answer-only b st (given .members) i;
+    no-other = λ d j. one-answer b st (given .heard) j i;
+    only-reaction = answer-only b st (given .heard) i;
   }
 
   pub run-not-stuck : {st st′ : State} {givens : List (InputSet b)} {told : List Answer} → Legal (b .body) st → (t : Trace b st givens told st′)

@@ -9,7 +9,7 @@ use Prim.Native.Nat.{ℕ, zero, suc}
 use lib.Dec.{T}
 use Rattle.sets.specs.Numbers.{Numbers, empty, single, union, only-if, lowest}
 use Rattle.rules.specs.Statements.{Block, code}
-use Rattle.rules.specs.Events.{Status, unknown, Event, giving, event}
+use Rattle.rules.specs.Events.{Status, unknown, Event, giving, event, Hearing}
 use Rattle.rules.specs.Instant.{Step, done, stay, say, leave, test, catch, scope, chain, beside}
 use Rattle.rules.specs.MustCan.{Mark, plus, Question, must, can, Given, in-doubt, choose, caught, both, followed, onward, local-status, hidden}
 use Rattle.rules.specs.States.{State, step, kept-by, next}
@@ -67,36 +67,36 @@ kept-before (chain p q) E =
 kept-before (beside p q) E = only-if (gave must (beside p q) E .codes 1) (union (kept-before p E) (kept-before q E))
 
 -- The rounds, as they were.
-unfoldable pub round-before : Block → Step → Numbers → List Status → List Status
-round-before b p given vs = marks (gave must p (event b given vs)) (gave (can plus) p (event b given vs)) (b .inputs) vs
+unfoldable pub round-before : Block → Step → Hearing → List Status → List Status
+round-before b p heard vs = marks (gave must p (event b heard vs)) (gave (can plus) p (event b heard vs)) (b .inputs) vs
 
-pub data RoundsBefore (b : Block) (p : Step) (given : Numbers) : List Status → ℕ → List Status → Type 0 where
-  last : {vs : List Status} → round-before b p given vs ≡ vs → RoundsBefore b p given vs 1 vs
-  more : {vs final : List Status} {n : ℕ} → round-before b p given vs ≢ vs → RoundsBefore b p given (round-before b p given vs) n final
-      → RoundsBefore b p given vs (suc n) final
+pub data RoundsBefore (b : Block) (p : Step) (heard : Hearing) : List Status → ℕ → List Status → Type 0 where
+  last : {vs : List Status} → round-before b p heard vs ≡ vs → RoundsBefore b p heard vs 1 vs
+  more : {vs final : List Status} {n : ℕ} → round-before b p heard vs ≢ vs → RoundsBefore b p heard (round-before b p heard vs) n final
+      → RoundsBefore b p heard vs (suc n) final
 
 -- One instant, as it was: the rounds end, and their event made the code known, or did not.
-pub data InstantBefore (b : Block) (st : State) (given : Numbers) : Answer → Type 0 where
-  answers : {vs : List Status} {n c : ℕ} → RoundsBefore b (step (b .body) st) given (begin b) n vs
-      → T (gave must (step (b .body) st) (event b given vs) .codes c)
-      → InstantBefore b st given (answered vs c (next c (kept-before (step (b .body) st) (event b given vs))) n)
-  refuses : {vs : List Status} {n : ℕ} → RoundsBefore b (step (b .body) st) given (begin b) n vs
-      → ((c : ℕ) → T (gave must (step (b .body) st) (event b given vs) .codes c) → ⊥) → InstantBefore b st given (not-constructive vs n)
+pub data InstantBefore (b : Block) (st : State) (heard : Hearing) : Answer → Type 0 where
+  answers : {vs : List Status} {n c : ℕ} → RoundsBefore b (step (b .body) st) heard (begin b) n vs
+      → T (gave must (step (b .body) st) (event b heard vs) .codes c)
+      → InstantBefore b st heard (answered vs c (next c (kept-before (step (b .body) st) (event b heard vs))) n)
+  refuses : {vs : List Status} {n : ℕ} → RoundsBefore b (step (b .body) st) heard (begin b) n vs
+      → ((c : ℕ) → T (gave must (step (b .body) st) (event b heard vs) .codes c) → ⊥) → InstantBefore b st heard (not-constructive vs n)
 
 -- The same, computed.
-unfoldable pub settle-before : Block → Step → Numbers → ℕ → List Status → Settled
+unfoldable pub settle-before : Block → Step → Hearing → ℕ → List Status → Settled
 unfolding round-before all-same
-settle-before b p given zero vs = record { statuses = vs; rounds = 0 }
-settle-before b p given (suc fuel) vs =
-    elim (all-same (round-before b p given vs) vs) [
+settle-before b p heard zero vs = record { statuses = vs; rounds = 0 }
+settle-before b p heard (suc fuel) vs =
+    elim (all-same (round-before b p heard vs) vs) [
       | true ↦ record { statuses = vs; rounds = 1 }
-      | false ↦ one-more (settle-before b p given fuel (round-before b p given vs))
+      | false ↦ one-more (settle-before b p heard fuel (round-before b p heard vs))
     ]
 
-unfoldable pub react-before : Block → State → Numbers → Answer
+unfoldable pub react-before : Block → State → Hearing → Answer
 unfolding settle-before begin answer
-react-before b st given =
+react-before b st heard =
     let p = step (b .body) st in
-    let r = settle-before b p given (suc (b .outputs)) (begin b) in
-    let E = event b given (r .statuses) in
+    let r = settle-before b p heard (suc (b .outputs)) (begin b) in
+    let E = event b heard (r .statuses) in
     answer r (lowest code-width (gave must p E .codes)) (kept-before p E)

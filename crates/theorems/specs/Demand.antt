@@ -20,10 +20,10 @@ pub record NotStuck (b : Block) (st : State) (given : InputSet b) (a : Answer) :
   pub legal-before : Legal (b .body) st
   pub legal-after : Legal (b .body) (after st a)
   -- this is its answer or its refusal, and there is no other,
-  pub its-answer : Instant b st (given .members) a
-  pub no-other : (d : Answer) → Instant b st (given .members) d → d ≡ a
+  pub its-answer : Instant b st (given .heard) a
+  pub no-other : (d : Answer) → Instant b st (given .heard) d → d ≡ a
   -- and if answered, it is the only reaction that the coherence law allows.
-  pub only-reaction : OnlyIfAnswered b st (given .members) a
+  pub only-reaction : OnlyIfAnswered b st (given .heard) a
 
 -- Of the run over a list of input sets:
 pub record NeverStuck (b : Block) (st : State) (givens : List (InputSet b)) : Type 0 where

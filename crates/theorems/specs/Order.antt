@@ -1,8 +1,10 @@
 -- How events compare, and what is given at them. Assumes nothing.
 use mathlib.Core.Path.{_≡_}
 use Prim.Native.Nat.{ℕ}
+use lib.Dec.{T, ltb}
 use Rattle.sets.specs.Numbers.{Numbers, single, Within}
-use Rattle.rules.specs.Events.{Status, present, absent, unknown, Event, known}
+use Rattle.rules.specs.Statements.{Block}
+use Rattle.rules.specs.Events.{Status, present, absent, unknown, Event, known, Hearing, input-status}
 use Rattle.rules.specs.MustCan.{Given}
 use Rattle.rules.specs.Coherence.{Execution}
 
@@ -16,6 +18,14 @@ infix 4 _⊑_
 -- Every known status of the first event is the same in the second.
 pub record _⊑_ (E F : Event) : Type 0 where
   pub at : (n : ℕ) → Below (E n) (F n)
+
+-- Every input status that is known to the first hearing is the same in the second.
+pub record HearsMore (b : Block) (h h′ : Hearing) : Type 0 where
+  pub at : (n : ℕ) → T (ltb n (b .inputs)) → Below (input-status h n) (input-status h′ n)
+
+-- A choice for the inputs not heard: present exactly those of a set that agrees with what is heard.
+pub record Choice (b : Block) (heard : Hearing) (given : Numbers) : Type 0 where
+  pub at : (n : ℕ) → T (ltb n (b .inputs)) → Below (input-status heard n) (known (given n))
 
 -- The event in which every status is known: present for the members.
 abbrev pub whole : Numbers → Event

@@ -6,10 +6,11 @@ use Prim.Native.Nat.{ℕ}
 use lib.Dec.{T, eqb}
 use Rattle.sets.specs.Numbers.{Numbers}
 use Rattle.rules.specs.Statements.{Block}
-use Rattle.rules.specs.Events.{Status, present, absent, unknown, known}
+use Rattle.rules.specs.Events.{Status, present, absent, unknown, known, Hearing}
 use Rattle.rules.specs.Instant.{Step, done, stay, say, leave, test, catch, scope, chain, beside}
 use Rattle.rules.specs.States.{State, step}
 use Rattle.rules.specs.Rounds.{Answer, answered, not-constructive}
+use Rattle.theorems.specs.Order.{Choice}
 use Rattle.rules.specs.Coherence.{Locals, assigning, execute, world, Coherent}
 
 -- Some number is a member.
@@ -49,6 +50,7 @@ pub record OnlyReaction (b : Block) (st : State) (given : Numbers) (vs : List St
   pub with-the-same-locals : (outs : List Bool) (d : ℕ) (st″ : State) (r : Coherent b st given outs d st″)
       → SameLocals (step (b .body) st) (coherent .locals) (r .locals) (world b given (map is-present vs))
 
-abbrev pub OnlyIfAnswered : Block → State → Numbers → Answer → Type 0
-OnlyIfAnswered b st given (answered vs c st′ n) = OnlyReaction b st given vs c st′
-OnlyIfAnswered b st given (not-constructive vs n) = Unit {0}
+-- If answered, it is the only reaction, whatever is chosen for the inputs not heard.
+abbrev pub OnlyIfAnswered : Block → State → Hearing → Answer → Type 0
+OnlyIfAnswered b st heard (answered vs c st′ n) = (given : Numbers) → Choice b heard given → OnlyReaction b st given vs c st′
+OnlyIfAnswered b st heard (not-constructive vs n) = Unit {0}

@@ -2,26 +2,27 @@
 use mathlib.Core.List.{List, [], _∷_}
 use Prim.Native.Nat.{ℕ, _<_}
 use lib.Dec.{T}
-use Rattle.sets.specs.Numbers.{Numbers}
 use Rattle.rules.specs.Statements.{Block}
-use Rattle.rules.specs.Events.{Status, event}
+use Rattle.rules.specs.Events.{Status, Hearing, event}
 use Rattle.rules.specs.MustCan.{must, gives}
 use Rattle.rules.specs.States.{State, step, kept, next}
 use Rattle.rules.specs.Rounds.{begin, Rounds, Answer, answered, not-constructive, react}
 
--- An input set: only inputs that the block declares are present.
+-- What is heard of a block's inputs: only inputs that it declares, and none both present and absent.
 pub record InputSet (b : Block) : Type 0 where
-  pub members : Numbers
-  pub declared : (n : ℕ) → T (members n) → n < b .inputs
+  pub heard : Hearing
+  pub present-declared : (n : ℕ) → T (heard .heard-present n) → n < b .inputs
+  pub absent-declared : (n : ℕ) → T (heard .heard-absent n) → n < b .inputs
+  pub apart : (n : ℕ) → T (heard .heard-present n) → T (heard .heard-absent n) → ⊥
 
 -- One instant: the rounds end, and their event makes the code known, or does not.
-pub data Instant (b : Block) (st : State) (given : Numbers) : Answer → Type 0 where
-  answers : {vs : List Status} {n c : ℕ} → Rounds b (step (b .body) st) given (begin b) n vs
-      → T (gives must (step (b .body) st) (event b given vs) .codes c)
-      → Instant b st given (answered vs c (next c (kept (step (b .body) st) (event b given vs))) n)
-  refuses : {vs : List Status} {n : ℕ} → Rounds b (step (b .body) st) given (begin b) n vs
-      → ((c : ℕ) → T (gives must (step (b .body) st) (event b given vs) .codes c) → ⊥)
-      → Instant b st given (not-constructive vs n)
+pub data Instant (b : Block) (st : State) (heard : Hearing) : Answer → Type 0 where
+  answers : {vs : List Status} {n c : ℕ} → Rounds b (step (b .body) st) heard (begin b) n vs
+      → T (gives must (step (b .body) st) (event b heard vs) .codes c)
+      → Instant b st heard (answered vs c (next c (kept (step (b .body) st) (event b heard vs))) n)
+  refuses : {vs : List Status} {n : ℕ} → Rounds b (step (b .body) st) heard (begin b) n vs
+      → ((c : ℕ) → T (gives must (step (b .body) st) (event b heard vs) .codes c) → ⊥)
+      → Instant b st heard (not-constructive vs n)
 
 -- After an answer the block goes on from the next state, after a refusal from the same.
 abbrev pub after : State → Answer → State
@@ -32,7 +33,7 @@ after st (not-constructive vs n) = st
 pub data Trace (b : Block) : State → List (InputSet b) → List Answer → State → Type 0 where
   ends : {st : State} → Trace b st [] [] st
   goes-on : {st st′ : State} {given : InputSet b} {givens : List (InputSet b)} {a : Answer} {told : List Answer}
-      → Instant b st (given .members) a → Trace b (after st a) givens told st′ → Trace b st (given ∷ givens) (a ∷ told) st′
+      → Instant b st (given .heard) a → Trace b (after st a) givens told st′ → Trace b st (given ∷ givens) (a ∷ told) st′
 
 -- Something holds at every instant of a run: of its state, its input set and its answer.
 abbrev pub Throughout : (b : Block) (P : State → InputSet b → Answer → Type 0) {st st′ : State} {givens : List (InputSet b)} {told : List Answer}
@@ -44,9 +45,9 @@ Throughout b P (goes-on {st = st} {given = given} {a = a} i t) = P st given a ×
 unfoldable pub run : (b : Block) → State → List (InputSet b) → List Answer
 unfolding react
 run b st [] = []
-run b st (given ∷ givens) = react b st (given .members) ∷ run b (after st (react b st (given .members))) givens
+run b st (given ∷ givens) = react b st (given .heard) ∷ run b (after st (react b st (given .heard))) givens
 
 unfoldable pub arrives : (b : Block) → State → List (InputSet b) → State
 unfolding react
 arrives b st [] = st
-arrives b st (given ∷ givens) = arrives b (after st (react b st (given .members))) givens
+arrives b st (given ∷ givens) = arrives b (after st (react b st (given .heard))) givens

@@ -11,7 +11,7 @@ below-requires : tie.Need-below-requires
 below-requires c κs = search needs
 
 returns : tie.Need-returns
-returns c = λ b n z f. heard-event b (c .before .before .below .result) (c .before .before .before .args .given) (c .before .before .before .args .marks) (λ k. c .before .before .below .ensures k ∙ ap (ltb k) (sym (z .its-inputs))) (fine-block z f)
+returns c = λ b n z f. heard-event b (c .before .before .before .before .below .result) (c .before .before .before .before .before .args .given) (c .before .before .before .before .before .args .marks) (λ k. c .before .before .before .before .below .ensures k ∙ ap (ltb k) (sym (z .its-inputs))) (fine-block z f)
 
 pub heard-in-spec : {M : Type 1} → statement M
 heard-in-spec = tie.close (tie.spec below-requires returns)
