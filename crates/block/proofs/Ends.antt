@@ -125,7 +125,7 @@ module _ (b : List ℕ) where
           tree-got : (t : Stmt) × (statements-of ≡ got t (sofar-of r))
           tree-got = was-got statements-of (sym (read-it .answered) ∙ e)
 
-          its-tree : Tree (length b) (header-of d) outermost (sofar-of r₀) (tree-got .0) (sofar-of r)
+          its-tree : Tree 64 (length b) (header-of d) outermost (sofar-of r₀) (tree-got .0) (sofar-of r)
           its-tree =
               tree b (header-of d) signals-fit outermost-fits (begun-counts (header-of d))
               (parsed b (header-of d) 64 outermost (sofar-of r₀) (tree-got .0) (sofar-of r) (ap (λ (x : Around). read 64 b (header-of d) x (sofar-of r₀)) (sym no-scope) ∙ tree-got .1))

@@ -5,7 +5,7 @@ use mathlib.Core.Logic.{_⊎_, inl, inr, ⊎-elim}
 use mathlib.Core.Option.{Option, none, some}
 use mathlib.Core.List.{List, [], _∷_, _++_}
 use Prim.Native.Nat.{ℕ, zero, suc, _+_, _≤_, _<_}
-use native.Mathlib.Nat.{zero-add, pos-of-ne-zero}
+use native.Mathlib.Nat.{add-zero, zero-add, pos-of-ne-zero}
 use native.Mathlib.Decide.{decLt}
 use native.Mathlib.Omega.{arith}
 use lib.Dec.{T, eqb, ltb, leb, lit≤}
@@ -19,11 +19,12 @@ use Rattle.rules.specs.Statements.{Stmt, nothing, pause, emit, present?_then_el
 use Rattle.rules.specs.Loops.{codes-of, loops-pass}
 use Rattle.block.specs.Table.{statements, Small}
 use Rattle.block.specs.Format.{LIMIT, length-of, over-limit, wrong-signal, wrong-exit, Header, Around, Sofar, Got, got, refused, and-then, Good, Reading, good, turned-down, reading, header, header-fault, is-broken, two-bytes, kind-at, length-at, operand-at, statement-fault, past, inside, read, ended, loops-checked, preorder, numbered, bytes, endless, lowest-endless, outermost, begun, leaf, above, joined}
-use Rattle.block.specs.Good.{Scoped}
+use Rattle.block.specs.Good.{Scoped, path, nested-traps, nested-locals, locals, Next, Apart}
 use Rattle.block.proofs.Views.{is?, Kind, leafs, aboves, joins, leaf-children, above-children, joined-children}
 use Rattle.block.proofs.Passes.{passes, none-of}
 use Rattle.block.proofs.Parse.{parsed, read-fault, read-leaf, read-above, read-joined}
 use Rattle.block.proofs.Trees.{Tree, tree, Around-fits, Counts}
+use Rattle.block.proofs.Nesting.{next-apart}
 use Rattle.block.proofs.Places.{all-counted}
 
 -- No statement of a list is an endless loop. (Past the end there is `nothing`, which is none.)
@@ -144,6 +145,12 @@ pub record Sound (b : List ℕ) (g : Good) : Type 0 where
   pub small : Small (g .body)
   pub scoped : Scoped (g .header .inputs) (g .header .outputs) empty (g .body)
   pub whole : 14 + bytes (preorder (g .body)) ≡ length b
+  pub paths : path (g .body) ≤ 64
+  pub traps-nested : nested-traps (g .body) ≤ 16
+  pub locals-nested : nested-locals (g .body) ≤ 6
+  pub locals-counted : g .header .locals ≡ length (locals (g .body))
+  pub locals-next : Next (g .header .inputs + g .header .outputs) (g .body)
+  pub locals-apart : Apart empty (g .body)
 
 pub outermost-fits : Around-fits outermost
 outermost-fits = record { few-traps = omega arith; few-nested = omega arith; small-scope = λ s e. absurd e }
@@ -167,6 +174,7 @@ sound b g e =
     let end = ended-good b (header b) (read 64 b (header b) outermost begun) g (e₂ .1) in
     let t = tree b (header b) (header-fits b fault) outermost-fits (begun-counts (header b)) (parsed b (header b) 64 outermost begun _ _ (end .tree-is)) in
     let eh = end .header-is in
+    let next-is : h .inputs + h .outputs + 0 ≡ g .header .inputs + g .header .outputs = add-zero (h .inputs + h .outputs) ∙ sym (ap (λ (h : Header). h .inputs + h .outputs) eh) in
     record {
       size = ltb-false _ _ (e₁ .0);
       its-header = eh;
@@ -181,6 +189,12 @@ sound b g e =
       small = t .small;
       scoped = subst (λ (h : Header). Scoped (h .inputs) (h .outputs) empty (g .body)) (sym eh) (t .scoped);
       whole = sym (t .ends-at);
+      paths = t .path-fits;
+      traps-nested = omega (arith, t .traps-fit);
+      locals-nested = omega (arith, t .locals-fit);
+      locals-counted = ap (λ (h : Header). h .locals) eh ∙ t .declared ∙ zero-add (length (locals (g .body)));
+      locals-next = subst (λ (n : ℕ). Next n (g .body)) next-is (t .next);
+      locals-apart = next-apart empty _ (g .body) (λ s e. absurd e) (t .next);
     }
 
 -- A refusal's number is one of document 01's 1 to 8.

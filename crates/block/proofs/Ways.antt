@@ -152,12 +152,12 @@ module _ {b : List ℕ} {d : Declared} {c : Context} {r : Cursor} {k x : ℕ} {c
   unfolding past
   one-later = ap (λ (s : Sofar). s .statements) (w .next)
 
-  pub first-tree : {p : Stmt} {r₂ : Cursor} → first ≡ got p (sofar-of r₂) → Tree (length b) h (around-of c₁) (sofar-of r₁) p (sofar-of r₂)
+  pub first-tree : {p : Stmt} {r₂ : Cursor} → first ≡ got p (sofar-of r₂) → Tree (c₁ .room) (length b) h (around-of c₁) (sofar-of r₁) p (sofar-of r₂)
   first-tree {p} {r₂} e =
       tree b h (w .ready .signals) child-fits child-counts (parsed b h (c₁ .room) (around-of c₁) (sofar-of r₁) p (sofar-of r₂) e)
 
   pub second-tree : {p q : Stmt} {r₂ r₃ : Cursor} → first ≡ got p (sofar-of r₂) → second r₂ ≡ got q (sofar-of r₃)
-      → Tree (length b) h (around-of c₁) (sofar-of r₂) q (sofar-of r₃)
+      → Tree (c₁ .room) (length b) h (around-of c₁) (sofar-of r₂) q (sofar-of r₃)
   second-tree {p} {q} {r₂} {r₃} e f =
       tree b h (w .ready .signals) child-fits (first-tree e .counts) (parsed b h (c₁ .room) (around-of c₁) (sofar-of r₂) q (sofar-of r₃) f)
 
