@@ -5,10 +5,11 @@ use Prim.Native.Nat.{ℕ, _+_, _≤_, _<_}
 use native.Mathlib.Omega.{arith}
 use native.Mathlib.Nat.{eq-or-lt-of-le}
 use mathlib.Core.Bool.{Bool, true, false, cond}
+use mathlib.Core.Option.{none}
 use lib.Dec.{eqb}
 use borrow.Author.Tests.{ne-eqb}
 use Rattle.sets.specs.Numbers.{listed}
-use Rattle.block.specs.Format.{length-of, children-of}
+use Rattle.block.specs.Format.{shape, length-of, children-of}
 use Rattle.block.specs.Told.{kept-operand}
 
 -- What `shape_of` says of a kind.
@@ -34,11 +35,14 @@ nineteen-or-twenty lo hi = first-or-next 19 lo hi
 
 -- A number that is none of the eleven.
 pub no-kind : (k : ℕ) → (k ≡ 16 → ⊥) → (k ≡ 17 → ⊥) → ((k ≡ 22) ⊎ (k ≡ 24) → ⊥) → ((k ≡ 21) ⊎ (k ≡ 23) → ⊥)
-    → ((k ≡ 18) ⊎ (k ≡ 25) → ⊥) → ((k ≡ 20) ⊎ (k ≡ 26) → ⊥) → (k ≡ 19 → ⊥) → Shaped 0 2 0 k
-unfolding length-of children-of listed
+    → ((k ≡ 18) ⊎ (k ≡ 25) → ⊥) → ((k ≡ 20) ⊎ (k ≡ 26) → ⊥) → (k ≡ 19 → ⊥) → shape k ≡ none
+unfolding shape listed
 no-kind k a b c d e f g =
     simp (ne-eqb k 16 a, ne-eqb k 17 b, ne-eqb k 22 (λ h. c (inl h)), ne-eqb k 24 (λ h. c (inr h)), ne-eqb k 21 (λ h. d (inl h)), ne-eqb k 23 (λ h. d (inr h)), ne-eqb k 18 (λ h. e (inl h)), ne-eqb k 25 (λ h. e (inr h)), ne-eqb k 20 (λ h. f (inl h)), ne-eqb k 26 (λ h. f (inr h)), ne-eqb k 19 g)
-    (refl, refl, refl)
+
+pub not-shaped : (k : ℕ) → shape k ≡ none → Shaped 0 0 0 k
+unfolding length-of children-of
+not-shaped k e = simp e (refl, refl, refl)
 
 -- The operand that the table keeps.
 pub kept-at : (k x n : ℕ) → (k ≡ 17 → ⊥) → _≡_ {A = ℕ} (cond (eqb (length-of k) 6) 1 0) 1 → kept-operand k x n ≡ x

@@ -52,7 +52,7 @@ pub record Tree (room end : ℕ) (h : Header) (a : Around) (r : Sofar) (t : Stmt
   pub next : Next (h .inputs + h .outputs + r .locals) t
 
 -- A signal that may stand here is below 64.
-small-signal : (h : Header) (a : Around) (s : ℕ) → h .inputs + h .outputs + h .locals ≤ 64 → Around-fits a → T (declared-here h a s) → s < 64
+pub small-signal : (h : Header) (a : Around) (s : ℕ) → h .inputs + h .outputs + h .locals ≤ 64 → Around-fits a → T (declared-here h a s) → s < 64
 small-signal h a s fits f d = ⊎-elim (λ l. let w : s < h .inputs + h .outputs = ltb→lt s (h .inputs + h .outputs) l in omega arith) (λ m. f .small-scope s m) (or-out (ltb s (h .inputs + h .outputs)) (a .scope s) d)
 
 -- A count that a kind adds to keeps its limit.
@@ -156,13 +156,13 @@ leaf-pauses n a-pause = refl
 leaf-pauses n an-emit = refl
 leaf-pauses n an-exit = refl
 
-above-no-pause : {k : ℕ} → Above k → _≡_ {A = ℕ} (cond (eqb k 17) 1 0) 0
+pub above-no-pause : {k : ℕ} → Above k → _≡_ {A = ℕ} (cond (eqb k 17) 1 0) 0
 above-no-pause a-suspend = refl
 above-no-pause a-loop = refl
 above-no-pause a-trap = refl
 above-no-pause a-local = refl
 
-joined-no-pause : {k : ℕ} → Joined k → _≡_ {A = ℕ} (cond (eqb k 17) 1 0) 0
+pub joined-no-pause : {k : ℕ} → Joined k → _≡_ {A = ℕ} (cond (eqb k 17) 1 0) 0
 joined-no-pause a-present = refl
 joined-no-pause a-sequence = refl
 joined-no-pause a-parallel = refl
@@ -181,7 +181,7 @@ both-numbered : (i j : ℕ) (p q t : Stmt) → pauses t ≡ pauses p ++ pauses q
 unfolding Numbered
 both-numbered i j p q t e n m ej = e ∙ both-in-row i j (pauses p) (pauses q) n m ej ∙ ap (λ (l : List ℕ). from i (length l)) (sym e)
 
-leaf-numbered : {k : ℕ} (n : ℕ) (t : Stmt) → Leaf k → pauses t ≡ cond (eqb k 17) (n ∷ []) []
+pub leaf-numbered : {k : ℕ} (n : ℕ) (t : Stmt) → Leaf k → pauses t ≡ cond (eqb k 17) (n ∷ []) []
     → (length (pauses t) ≡ cond (eqb k 17) 1 0) × Numbered n t
 unfolding Numbered
 leaf-numbered {k} n t v e =
@@ -199,7 +199,7 @@ next-of {k = k} {x = x} {h = h} {r = r} {ls = ls} g m e =
     let f : ls ≡ from (n + one) (length ls) = e ∙ ap (λ (j : ℕ). from j (length ls)) (omega arith) in
     m .its-locals ∙ in-row (eqb k 26) ls (λ z. g .declaring (eqb-true k 26 z) .1) f ∙ ap (λ (l : List ℕ). from n (length l)) (sym (m .its-locals))
 
-locals-counted : {k x deep traps nested : ℕ} {ls : List ℕ} {t : Stmt} → Nests k x deep traps nested ls t → length (locals t) ≡ cond (eqb k 26) 1 0 + length ls
+pub locals-counted : {k x deep traps nested : ℕ} {ls : List ℕ} {t : Stmt} → Nests k x deep traps nested ls t → length (locals t) ≡ cond (eqb k 26) 1 0 + length ls
 locals-counted {k} {x} {ls = ls} m = ap (λ (l : List ℕ). length l) (m .its-locals) ∙ length-where (eqb k 26) x ls
 
 module _ (b : List ℕ) (h : Header) (fits : h .inputs + h .outputs + h .locals ≤ 64) where

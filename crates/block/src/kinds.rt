@@ -70,7 +70,7 @@ pub(crate) fn shape_of(kind: u16) -> Shape
         _ => Shape {
             length: 0,
             operands: 0,
-            children: 2,
+            children: 0,
         },
     }
 }

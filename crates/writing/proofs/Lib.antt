@@ -1,0 +1,4 @@
+pub mod Records
+pub mod Fits
+pub mod Back
+pub mod Same

@@ -1,0 +1,1 @@
+// The writing of a block: its header and its records.
