@@ -9,7 +9,7 @@ use native.Mathlib.Omega.{arith}
 use borrow.Author.Tests.{eqb-true, eqb-false}
 use Rattle.sets.specs.Numbers.{listed}
 use Rattle.block.specs.Format.{Shape, shape, short, long, of-shape, length-of, children-of}
-use Rattle.block.proofs.Shapes.{no-kind, not-shaped}
+use Rattle.block.proofs.Shapes.{no-kind, no-length}
 
 pub data Leaf : ℕ → Type 0 where
   a-nothing : Leaf 16
@@ -65,7 +65,7 @@ shape? k =
     (is? k 23)) (is? k 21)) (is? k 19)) (is? k 26)) (is? k 24)) (is? k 22)) (is? k 20)) (is? k 25)) (is? k 18)) (is? k 17)) (is? k 16)
 
 pub kind? : (k : ℕ) → (length-of k ≡ 0 → ⊥) → Kind k
-kind? k n = ⊎-elim (λ v. v) (λ e. absurd (n (sym (not-shaped k e .0)))) (shape? k)
+kind? k n = ⊎-elim (λ v. v) (λ e. absurd (n (no-length k e))) (shape? k)
 
 -- A record of an allowed kind has no operand or one.
 pub known : {k : ℕ} → Kind k → (shape k ≡ short (children-of k)) ⊎ (shape k ≡ long (children-of k))
