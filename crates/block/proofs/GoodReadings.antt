@@ -18,7 +18,9 @@ use Rattle.sets.proofs.Counts.{lowest-none, lowest-empty}
 use Rattle.rules.specs.Statements.{Stmt, nothing, pause, emit, present?_then_else_, suspend_on_, _⨾_, loop, _parallel_, trap, exit, local, pauses, Numbered, Trapped}
 use Rattle.rules.specs.Loops.{codes-of, loops-pass}
 use Rattle.block.specs.Table.{statements, Small}
-use Rattle.block.specs.Format.{LIMIT, length-of, over-limit, wrong-signal, wrong-exit, Header, Around, Sofar, Got, got, refused, and-then, Good, Reading, good, turned-down, reading, header, header-fault, is-broken, two-bytes, kind-at, length-at, operand-at, statement-fault, past, inside, read, ended, loops-checked, preorder, numbered, bytes, endless, lowest-endless, outermost, begun, leaf, above, joined}
+use Rattle.block.specs.Format.{LIMIT, length-of, over-limit, wrong-signal, wrong-exit, Header, Around, Sofar, Got, got, refused, and-then, Good, Reading, good, turned-down, reading, header}
+use Rattle.block.specs.Format.{header-fault, is-broken, two-bytes, kind-at, length-at, operand-at, statement-fault, past, inside, read, ended, loops-checked, preorder, numbered, bytes}
+use Rattle.block.specs.Format.{endless, lowest-endless, outermost, begun, leaf, above, joined}
 use Rattle.block.specs.Good.{Scoped, path, nested-traps, nested-locals, locals, Next, Apart}
 use Rattle.block.proofs.Views.{is?, Kind, leafs, aboves, joins, leaf-children, above-children, joined-children}
 use Rattle.block.proofs.Passes.{passes, none-of, broken-none}
@@ -97,7 +99,8 @@ pass-clean nothing e = clean-more nothing [] (λ x. x) (λ n x. x)
 pass-clean (pause n) e = clean-more (pause n) [] (λ x. x) (λ n x. x)
 pass-clean (emit s) e = clean-more (emit s) [] (λ x. x) (λ n x. x)
 pass-clean (present? s then p else q) e =
-    let f = both-are (loops-pass p) (loops-pass q) e in clean-more (present? s then p else q) (preorder p ++ preorder q) (λ x. x) (clean-both (preorder p) (preorder q) (pass-clean p (f .0)) (pass-clean q (f .1)))
+    let f = both-are (loops-pass p) (loops-pass q) e in clean-more (present? s then p else q) (preorder p ++ preorder q) (λ x. x)
+    (clean-both (preorder p) (preorder q) (pass-clean p (f .0)) (pass-clean q (f .1)))
 pass-clean (suspend p on s) e = clean-more (suspend p on s) (preorder p) (λ x. x) (pass-clean p e)
 pass-clean (p ⨾ q) e =
     let f = both-are (loops-pass p) (loops-pass q) e in clean-more (p ⨾ q) (preorder p ++ preorder q) (λ x. x) (clean-both (preorder p) (preorder q) (pass-clean p (f .0)) (pass-clean q (f .1)))
@@ -340,7 +343,8 @@ unfolding ended
 ended-range b h (refused m place) e f = same-turned e (f m place refl)
 ended-range b h (got p r) {n} {at} e f = go (eqb (r .place) (length b) && eqb (r .locals) (h .locals)) e
   where
-    go : (z : Bool) → cond z (loops-checked (record { header = h; body = p; statements = r .statements; pauses = r .pauses }) (lowest-endless p)) (turned-down 7 (r .place)) ≡ turned-down n at → In-range n
+    go : (z : Bool) → cond z (loops-checked (record { header = h; body = p; statements = r .statements; pauses = r .pauses }) (lowest-endless p)) (turned-down 7 (r .place)) ≡ turned-down n at
+        → In-range n
     go true q = checked-range _ (lowest-endless p) q
     go false q = same-turned q (lit≤ tt, lit≤ tt)
 

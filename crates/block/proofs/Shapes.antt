@@ -30,7 +30,20 @@ pub no-kind : (k : ℕ) → (k ≡ 16 → ⊥) → (k ≡ 17 → ⊥) → ((k �
     → ((k ≡ 18) ⊎ (k ≡ 25) → ⊥) → ((k ≡ 20) ⊎ (k ≡ 26) → ⊥) → (k ≡ 19 → ⊥) → shape k ≡ none
 unfolding shape listed
 no-kind k a b c d e f g =
-    simp (ne-eqb k 16 a, ne-eqb k 17 b, ne-eqb k 22 (λ h. c (inl h)), ne-eqb k 24 (λ h. c (inr h)), ne-eqb k 21 (λ h. d (inl h)), ne-eqb k 23 (λ h. d (inr h)), ne-eqb k 18 (λ h. e (inl h)), ne-eqb k 25 (λ h. e (inr h)), ne-eqb k 20 (λ h. f (inl h)), ne-eqb k 26 (λ h. f (inr h)), ne-eqb k 19 g)
+    simp (
+      ne-eqb k 16 a,
+      ne-eqb k 17 b,
+      ne-eqb k 22 (λ h. c (inl h)),
+      ne-eqb k 24 (λ h. c (inr h)),
+      ne-eqb k 21 (λ h. d (inl h)),
+      ne-eqb k 23 (λ h. d (inr h)),
+      ne-eqb k 18
+          (λ h. e (inl h)),
+      ne-eqb k 25 (λ h. e (inr h)),
+      ne-eqb k 20 (λ h. f (inl h)),
+      ne-eqb k 26 (λ h. f (inr h)),
+      ne-eqb k 19 g,
+    )
 
 -- The shapes by the ranges that the kinds fall into.
 either-is : (P : ℕ → Type 0) (m : ℕ) {k : ℕ} → m ≤ k → P m → (m < k → P k) → P k

@@ -53,7 +53,8 @@ pub record Tree (room end : ℕ) (h : Header) (a : Around) (r : Sofar) (t : Stmt
 
 -- A signal that may stand here is below 64.
 pub small-signal : (h : Header) (a : Around) (s : ℕ) → h .inputs + h .outputs + h .locals ≤ 64 → Around-fits a → T (declared-here h a s) → s < 64
-small-signal h a s fits f d = ⊎-elim (λ l. let w : s < h .inputs + h .outputs = ltb→lt s (h .inputs + h .outputs) l in omega arith) (λ m. f .small-scope s m) (or-out (ltb s (h .inputs + h .outputs)) (a .scope s) d)
+small-signal h a s fits f d = ⊎-elim (λ l. let w : s < h .inputs + h .outputs = ltb→lt s (h .inputs + h .outputs) l in omega arith) (λ m. f .small-scope s m)
+    (or-out (ltb s (h .inputs + h .outputs)) (a .scope s) d)
 
 -- A count that a kind adds to keeps its limit.
 one-more : (k m n limit : ℕ) → n ≤ limit → (k ≡ m → n < limit) → n + cond (eqb k m) 1 0 ≤ limit
@@ -271,7 +272,8 @@ module _ (b : List ℕ) (h : Header) (fits : h .inputs + h .outputs + h .locals 
         counts = z .counts;
         declared = omega (arith, w .declared, z .declared, locals-counted o, length-append (locals p) (locals q));
         trapped = joined-trapped h fits f g p q v (w .trapped) (z .trapped);
-        numbered = both-numbered (r .pauses) _ p q (joined k x p q) (m .its-pauses) (same-numbered p p refl (omega (arith, joined-no-pause v)) (w .numbered)) (z .numbered) (omega (arith, w .paused, joined-no-pause v));
+        numbered = both-numbered (r .pauses) _ p q (joined k x p q) (m .its-pauses) (same-numbered p p refl (omega (arith, joined-no-pause v)) (w .numbered)) (z .numbered)
+            (omega (arith, w .paused, joined-no-pause v));
         small = joined-small h fits f g p q v (w .small) (z .small);
         scoped = joined-scoped h fits f g p q v (w .scoped) (z .scoped);
         path-fits = omega (arith, o .its-path, w .path-fits, z .path-fits);

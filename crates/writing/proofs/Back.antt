@@ -14,9 +14,11 @@ use lib.Seq.{drop-at}
 use Rattle.sets.specs.Numbers.{listed}
 use Rattle.rules.specs.Statements.{depth, Stmt, nothing, pause, emit, present?_then_else_, suspend_on_, _⨾_, loop, _parallel_, trap, exit, local, pauses, from, Numbered, Trapped}
 use Rattle.block.specs.Table.{kind-of, operand-of, statements}
-use Rattle.block.specs.Format.{LIMIT, Header, header, header-fault, is-broken, Around, Sofar, Got, got, and-then, Good, good, turned-down, reading, kind-at, operand-at, two-bytes, statement-fault, shape, long, length-of, children-of, past, inside, leaf, above, joined, read, ended, loops-checked, lowest-endless, preorder, bytes, outermost, begun}
+use Rattle.block.specs.Format.{LIMIT, Header, header, header-fault, is-broken, Around, Sofar, Got, got, and-then, Good, good, turned-down, reading, kind-at, operand-at, two-bytes, statement-fault}
+use Rattle.block.specs.Format.{shape, long, length-of, children-of, past, inside, leaf, above, joined, read, ended, loops-checked, lowest-endless, preorder, bytes, outermost, begun}
 use Rattle.block.specs.Good.{Scoped, path, locals, Next}
-use Rattle.block.proofs.Views.{Leaf, Above, Joined, Kind, leafs, aboves, joins, a-nothing, a-pause, an-emit, an-exit, a-suspend, a-loop, a-trap, a-local, a-present, a-sequence, a-parallel, leaf-children, above-children, joined-children}
+use Rattle.block.proofs.Views.{Leaf, Above, Joined, Kind, leafs, aboves, joins, a-nothing, a-pause, an-emit, an-exit, a-suspend, a-loop, a-trap, a-local, a-present, a-sequence, a-parallel}
+use Rattle.block.proofs.Views.{leaf-children, above-children, joined-children}
 use Rattle.block.proofs.Passes.{Passes, no-fault, is-whole}
 use Rattle.block.proofs.Parse.{read-leaf, read-above, read-joined}
 use Rattle.block.proofs.Built.{leaf-builds, above-builds, joined-builds}

@@ -53,7 +53,8 @@ two-small b at s = omega (arith, s .byte at, s .byte (at + 1))
 pub records-append : (ps qs : List Stmt) → records (ps ++ qs) ≡ records ps ++ records qs
 unfolding records
 records-append [] qs = refl
-records-append (p ∷ ps) qs = ap (λ (l : List ℕ). record-bytes (kind-of p) (operand-of p) ++ l) (records-append ps qs) ∙ sym (append-assoc (record-bytes (kind-of p) (operand-of p)) (records ps) (records qs))
+records-append (p ∷ ps) qs = ap (λ (l : List ℕ). record-bytes (kind-of p) (operand-of p) ++ l) (records-append ps qs) ∙ sym
+    (append-assoc (record-bytes (kind-of p) (operand-of p)) (records ps) (records qs))
 
 pub leaf-records : {k : ℕ} (x n : ℕ) → Leaf k → records (preorder (leaf k x n)) ≡ record-bytes k x ++ []
 unfolding records shaped-bytes shape listed preorder leaf kind-of operand-of

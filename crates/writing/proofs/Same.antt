@@ -8,7 +8,8 @@ use lib.ListN.{length, drop}
 use lib.Seq.{drop-length}
 use Rattle.rules.specs.Statements.{Stmt, pauses}
 use Rattle.block.specs.Table.{statements}
-use Rattle.block.specs.Format.{Header, header, header-fault, Around, Sofar, Good, good, reading, two-bytes, kind-at, operand-at, statement-fault, length-of, past, leaf, above, joined, preorder, outermost, begun}
+use Rattle.block.specs.Format.{Header, header, header-fault, Around, Sofar, Good, good, reading, two-bytes, kind-at, operand-at, statement-fault, length-of, past, leaf, above, joined, preorder}
+use Rattle.block.specs.Format.{outermost, begun}
 use Rattle.block.proofs.Views.{Kind, leafs, aboves, joins}
 use Rattle.block.proofs.Passes.{passes, right-length}
 use Rattle.block.proofs.Parse.{Parsed, at-leaf, at-above, at-joined, parsed}

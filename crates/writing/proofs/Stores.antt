@@ -88,7 +88,8 @@ two-then : (s vs ws : List ℕ) (at : ℕ) {s1 s2 : List ℕ} → length vs ≡ 
 two-then s vs ws at l e f =
     f ∙ ap (λ (x : List ℕ). sets x (at + 2) ws) e ∙ ap (λ (n : ℕ). sets (sets s at vs) (at + n) ws) (sym l) ∙ sym (sets-append vs ws s at)
 
-module _ (s : List ℕ) (at k x : ℕ) {t : Coded} (e : wire-of (shape k) ≡ Allowed t) {s1 s2 : List ℕ} (first : s1 ≡ sets s at (in-bytes 2 (t .length))) (second : s2 ≡ sets s1 (at + 2) (in-bytes 2 k)) where
+module _ (s : List ℕ) (at k x : ℕ) {t : Coded} (e : wire-of (shape k) ≡ Allowed t) {s1 s2 : List ℕ} (first : s1 ≡ sets s at (in-bytes 2 (t .length)))
+    (second : s2 ≡ sets s1 (at + 2) (in-bytes 2 k)) where
   pub stored-plain : (t .operands ≡ 1 → ⊥) → s2 ≡ sets s at (record-bytes k x)
   unfolding in-bytes
   stored-plain other = ⊎-elim plain (λ o. absurd (other (o .its-operands))) (allowed k e)

@@ -43,13 +43,61 @@ cast-put-number-4 : tie.Need-cast-put-number-4
 cast-put-number-4 c = search needs
 
 put-number-requires-7 : tie.Need-put-number-requires-7
-put-number-requires-7 c κs = omega (arith, c .before .before .before .before .before .before .before .before .before .before .before .before .before .before .before .before .before .before .before .before .before .before .before .before .before .before .before .before .before .before .pre, simp length-sets at (ap length (c .before .before .before .before .before .before .before .before .before .before .before .before .before .before .before .before .before .before .before .before .before .before .before .before .before .before .before .put-number .ensures)), simp length-sets at (ap length (c .before .before .before .before .before .before .before .before .before .before .before .before .before .before .before .before .before .before .before .before .before .before .before .put-number2 .ensures)), simp length-sets at (ap length (c .before .before .before .before .before .before .before .before .before .before .before .before .before .before .before .before .before .before .before .put-number3 .ensures)), simp length-sets at (ap length (c .before .before .before .before .before .before .before .before .before .before .before .before .before .before .put-number4 .ensures)), simp length-sets at (ap length (c .before .before .before .before .before .before .before .before .before .put-number5 .ensures)), simp length-sets at (ap length (c .before .before .before .before .put-number6 .ensures)))
+put-number-requires-7 c κs =
+    let p1 = c .before .before .before .before in
+    let p2 = p1 .before .before .before .before .before in
+    let p3 = p2 .before .before .before .before .before in
+    let p4 = p3 .before .before .before .before .before in
+    let p5 = p4 .before .before .before .before in
+    let p6 = p5 .before .before .before .before in
+    let p7 = p6 .before .before .before in
+    omega (
+      arith,
+      p7 .pre,
+      simp length-sets at (ap length (p6 .put-number .ensures)),
+      simp length-sets at (ap length (p5 .put-number2 .ensures)),
+      simp length-sets at
+          (ap length (p4 .put-number3 .ensures)),
+      simp length-sets at (ap length (p3 .put-number4 .ensures)),
+      simp length-sets at (ap length (p2 .put-number5 .ensures)),
+      simp length-sets at
+          (ap length (p1 .put-number6 .ensures)),
+    )
 
 same-length : tie.Need-same-length
-same-length c = omega (arith, simp length-sets at (ap length (c .before .before .before .before .before .before .before .before .before .before .before .before .before .before .before .before .before .before .before .before .before .before .before .before .before .before .before .before .before .before .put-number .ensures)), simp length-sets at (ap length (c .before .before .before .before .before .before .before .before .before .before .before .before .before .before .before .before .before .before .before .before .before .before .before .before .before .before .put-number2 .ensures)), simp length-sets at (ap length (c .before .before .before .before .before .before .before .before .before .before .before .before .before .before .before .before .before .before .before .before .before .before .put-number3 .ensures)), simp length-sets at (ap length (c .before .before .before .before .before .before .before .before .before .before .before .before .before .before .before .before .before .put-number4 .ensures)), simp length-sets at (ap length (c .before .before .before .before .before .before .before .before .before .before .before .before .put-number5 .ensures)), simp length-sets at (ap length (c .before .before .before .before .before .before .before .put-number6 .ensures)), simp length-sets at (ap length (c .before .before .put-number7 .ensures)))
+same-length c =
+    let p1 = c .before .before in
+    let p2 = p1 .before .before .before .before .before in
+    let p3 = p2 .before .before .before .before .before in
+    let p4 = p3 .before .before .before .before .before in
+    let p5 = p4 .before .before .before .before .before in
+    let p6 = p5 .before .before .before .before in
+    let p7 = p6 .before .before .before .before in
+    omega (
+      arith,
+      simp length-sets at (ap length (p7 .put-number .ensures)),
+      simp length-sets at (ap length (p6 .put-number2 .ensures)),
+      simp length-sets at
+          (ap length (p5 .put-number3 .ensures)),
+      simp length-sets at (ap length (p4 .put-number4 .ensures)),
+      simp length-sets at (ap length (p3 .put-number5 .ensures)),
+      simp length-sets at
+          (ap length (p2 .put-number6 .ensures)),
+      simp length-sets at (ap length (p1 .put-number7 .ensures)),
+    )
 
 returns : tie.Need-returns
-returns c = header-stored _ (header-of (c .before .before .before .before .before .before .before .before .before .before .before .before .before .before .before .before .before .before .before .before .before .before .before .before .before .before .before .before .before .before .before .before .before .args .d)) (c .before .before .before .before .before .before .before .before .before .before .before .before .before .before .before .before .before .before .before .before .before .before .before .before .before .before .before .before .before .before .put-number .ensures) (c .before .before .before .before .before .before .before .before .before .before .before .before .before .before .before .before .before .before .before .before .before .before .before .before .before .before .put-number2 .ensures) (c .before .before .before .before .before .before .before .before .before .before .before .before .before .before .before .before .before .before .before .before .before .before .put-number3 .ensures) (c .before .before .before .before .before .before .before .before .before .before .before .before .before .before .before .before .before .put-number4 .ensures) (c .before .before .before .before .before .before .before .before .before .before .before .before .put-number5 .ensures) (c .before .before .before .before .before .before .before .put-number6 .ensures) (c .before .before .put-number7 .ensures)
+returns c =
+    let p1 = c .before .before in
+    let p2 = p1 .before .before .before .before .before in
+    let p3 = p2 .before .before .before .before .before in
+    let p4 = p3 .before .before .before .before .before in
+    let p5 = p4 .before .before .before .before .before in
+    let p6 = p5 .before .before .before .before in
+    let p7 = p6 .before .before .before .before in
+    let p8 = p7 .before .before .before in
+    header-stored _ (header-of (p8 .args .d)) (p7 .put-number .ensures) (p6 .put-number2 .ensures) (p5 .put-number3 .ensures) (p4 .put-number4 .ensures) (p3 .put-number5 .ensures)
+    (p2 .put-number6 .ensures) (p1 .put-number7 .ensures)
 
 pub put-header-spec : {M : Type 1} → statement M
 put-header-spec =

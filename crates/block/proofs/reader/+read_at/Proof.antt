@@ -141,19 +141,44 @@ read-at-element-write-sizes t c = omega (arith, (passed-test t (c .before .befor
 
 read-at-passed-requires : (t : ℕ) → read-at-lts.Need-passed-requires (read-at-claims t) (read-at-at t) read-at.Post
 read-at-passed-requires t c κs =
-    let y = c .before .before .before .before .before .before .before .before .before .before .before .before .pre .1 .0 in
-    (its-shape t (c .before .before .before .before) .its-length, omega (arith, (passed-test t (c .before .before .before .before .before .before .before .before .before)) .ends, y .fits), omega (arith, (passed-test t (c .before .before .before .before .before .before .before .before .before)) .counted), omega (arith, y .few-pauses), omega (arith, y .few-locals, y .signals))
+    let y = c .before .before .before .before .before .before .before .before .before .before .before .before .pre .1 .0 in (
+      its-shape t (c .before .before .before .before) .its-length,
+      omega (arith, (passed-test t (c .before .before .before .before .before .before .before .before .before)) .ends, y .fits),
+      omega
+          (arith, (passed-test t (c .before .before .before .before .before .before .before .before .before)) .counted),
+      omega (arith, y .few-pauses),
+      omega (arith, y .few-locals, y .signals),
+    )
 
 read-at-returns-3 : (t : ℕ) → read-at-lts.Need-returns-3 (read-at-claims t) (read-at-at t) read-at.Post
-read-at-returns-3 t c = end-leaf (hand t (c .before .before) (c .passed .ensures)) (c .before .before .before .before .before .before .before .before .before .before .before .before .before .pre .1 .1) (c .before .before .before .kept .ensures) (sym (its-shape t (c .before .before .before .before .before) .its-children) ∙ c .before .if2 .taken)
+read-at-returns-3 t c =
+    let p1 = c .before in
+    let p2 = p1 .before in
+    let p3 = p2 .before in
+    let p4 = p3 .before .before in
+    let p5 = p4 .before .before .before .before .before .before .before .before in
+    end-leaf (hand t (p2) (c .passed .ensures)) (p5 .pre .1 .1) (p3 .kept .ensures) (sym (its-shape t (p4) .its-children) ∙ p1 .if2 .taken)
 
 read-at-passed-requires-2 : (t : ℕ) → read-at-lts.Need-passed-requires-2 (read-at-claims t) (read-at-at t) read-at.Post
 read-at-passed-requires-2 t c κs =
-    let y = c .before .before .before .before .before .before .before .before .before .before .before .before .pre .1 .0 in
-    (its-shape t (c .before .before .before .before) .its-length, omega (arith, (passed-test t (c .before .before .before .before .before .before .before .before .before)) .ends, y .fits), omega (arith, (passed-test t (c .before .before .before .before .before .before .before .before .before)) .counted), omega (arith, y .few-pauses), omega (arith, y .few-locals, y .signals))
+    let y = c .before .before .before .before .before .before .before .before .before .before .before .before .pre .1 .0 in (
+      its-shape t (c .before .before .before .before) .its-length,
+      omega (arith, (passed-test t (c .before .before .before .before .before .before .before .before .before)) .ends, y .fits),
+      omega
+          (arith, (passed-test t (c .before .before .before .before .before .before .before .before .before)) .counted),
+      omega (arith, y .few-pauses),
+      omega (arith, y .few-locals, y .signals),
+    )
 
 read-at-read-at-requires : (t : ℕ) → read-at-lts.Need-read-at-requires (read-at-claims t) (read-at-at t) read-at.Post
-read-at-read-at-requires t c κs = (omega (arith, (hand t (c .before .before .before .before .before) (c .before .before .before .passed2 .ensures)) .room, c .before .before .before .before .before .before .before .before .before .before .before .before .before .before .before .before .pre .0), (ready-first (hand t (c .before .before .before .before .before) (c .before .before .before .passed2 .ensures)), begun-full (hand t (c .before .before .before .before .before) (c .before .before .before .passed2 .ensures)) (c .before .before .before .before .before .before .before .before .before .before .before .before .before .before .before .before .pre .1 .1) (c .before .before .before .before .before .before .kept .ensures)))
+read-at-read-at-requires t c κs =
+    let p1 = c .before .before .before in
+    let p2 = p1 .before .before in
+    let p3 = p2 .before in
+    let p4 = p3 .before .before .before .before .before .before .before .before .before .before in (
+      omega (arith, (hand t (p2) (p1 .passed2 .ensures)) .room, p4 .pre .0),
+      (ready-first (hand t (p2) (p1 .passed2 .ensures)), begun-full (hand t (p2) (p1 .passed2 .ensures)) (p4 .pre .1 .1) (p3 .kept .ensures)),
+    )
 
 read-at-enum-known-first : (t : ℕ) → read-at-lts.Need-enum-known-first (read-at-claims t) (read-at-at t) read-at.Post
 read-at-enum-known-first t c = search needs
@@ -162,22 +187,62 @@ read-at-enum-known-first-2 : (t : ℕ) → read-at-lts.Need-enum-known-first-2 (
 read-at-enum-known-first-2 t c = search needs
 
 read-at-sub-sizes : (t : ℕ) → read-at-lts.Need-sub-sizes (read-at-claims t) (read-at-at t) read-at.Post
-read-at-sub-sizes t c = omega (arith, size₁ (hand t (c .before .before .before .before .before .before .before .before .before .before .before) (c .before .before .before .before .before .before .before .before .before .passed2 .ensures)) (c .before .before .before .before .before .before .before .before .before .before .before .before .before .before .before .before .before .before .before .before .before .before .pre .1 .1) (c .before .before .before .before .before .before .before .before .before .before .before .before .kept .ensures) (c .before .before .before .before .before .read-at .ensures) (c .before .before .before .first2 .given .1))
+read-at-sub-sizes t c =
+    let p1 = c .before .before .before in
+    let p2 = p1 .before .before in
+    let p3 = p2 .before .before .before .before in
+    let p4 = p3 .before .before in
+    let p5 = p4 .before in
+    let p6 = p5 .before .before .before .before .before .before .before .before .before .before in
+    omega (arith, size₁ (hand t (p4) (p3 .passed2 .ensures)) (p6 .pre .1 .1) (p5 .kept .ensures) (p2 .read-at .ensures) (p1 .first2 .given .1))
 
 read-at-cast-sizes : (t : ℕ) → read-at-lts.Need-cast-sizes (read-at-claims t) (read-at-at t) read-at.Post
-read-at-cast-sizes t c = omega (arith, few₁ (hand t (c .before .before .before .before .before .before .before .before .before .before .before) (c .before .before .before .before .before .before .before .before .before .passed2 .ensures)) (c .before .before .before .before .before .before .before .before .before .before .before .before .before .before .before .before .before .before .before .before .before .before .pre .1 .1) (c .before .before .before .before .before .before .before .before .before .before .before .before .kept .ensures) (c .before .before .before .before .before .read-at .ensures) (c .before .before .before .first2 .given .1))
+read-at-cast-sizes t c =
+    let p1 = c .before .before .before in
+    let p2 = p1 .before .before in
+    let p3 = p2 .before .before .before .before in
+    let p4 = p3 .before .before in
+    let p5 = p4 .before in
+    let p6 = p5 .before .before .before .before .before .before .before .before .before .before in
+    omega (arith, few₁ (hand t (p4) (p3 .passed2 .ensures)) (p6 .pre .1 .1) (p5 .kept .ensures) (p2 .read-at .ensures) (p1 .first2 .given .1))
 
 read-at-mul-sizes-2 : (t : ℕ) → read-at-lts.Need-mul-sizes-2 (read-at-claims t) (read-at-at t) read-at.Post
-read-at-mul-sizes-2 t c = omega (arith, (passed-test t (c .before .before .before .before .before .before .before .before .before .before .before .before .before .before .before .before .before .before .before)) .counted)
+read-at-mul-sizes-2 t c =
+    let p1 = c .before .before .before .before .before .before .before .before .before .before .before .before .before .before .before .before .before .before .before in
+    omega (arith, (passed-test t (p1)) .counted)
 
 read-at-element-write-sizes-2 : (t : ℕ) → read-at-lts.Need-element-write-sizes-2 (read-at-claims t) (read-at-at t) read-at.Post
-read-at-element-write-sizes-2 t c = omega (arith, (passed-test t (c .before .before .before .before .before .before .before .before .before .before .before .before .before .before .before .before .before .before .before)) .counted)
+read-at-element-write-sizes-2 t c =
+    let p1 = c .before .before .before .before .before .before .before .before .before .before .before .before .before .before .before .before .before .before .before in
+    omega (arith, (passed-test t (p1)) .counted)
 
 read-at-returns-4 : (t : ℕ) → read-at-lts.Need-returns-4 (read-at-claims t) (read-at-at t) read-at.Post
-read-at-returns-4 t c = end-above (hand t (c .before .before .before .before .before .before .before .before .before .before .before) (c .before .before .before .before .before .before .before .before .before .passed2 .ensures)) (c .before .before .before .before .before .before .before .before .before .before .before .before .before .before .before .before .before .before .before .before .before .before .pre .1 .1) (c .before .before .before .before .before .before .before .before .before .before .before .before .kept .ensures) (c .before .before .before .before .before .read-at .ensures) (c .before .before .before .first2 .given .1) (sym (its-shape t (c .before .before .before .before .before .before .before .before .before .before .before .before .before .before) .its-children) ∙ c .before .if3 .taken)
+read-at-returns-4 t c =
+    let p1 = c .before in
+    let p2 = p1 .before .before in
+    let p3 = p2 .before .before in
+    let p4 = p3 .before .before .before .before in
+    let p5 = p4 .before .before in
+    let p6 = p5 .before in
+    let p7 = p6 .before .before in
+    let p8 = p7 .before .before .before .before .before .before .before .before in
+    end-above (hand t (p5) (p4 .passed2 .ensures)) (p8 .pre .1 .1) (p6 .kept .ensures) (p3 .read-at .ensures) (p2 .first2 .given .1) (sym (its-shape t (p7) .its-children) ∙ p1 .if3 .taken)
 
 read-at-read-at-requires-2 : (t : ℕ) → read-at-lts.Need-read-at-requires-2 (read-at-claims t) (read-at-at t) read-at.Post
-read-at-read-at-requires-2 t c κs = (omega (arith, (hand t (c .before .before .before .before .before .before .before .before .before .before .before .before .before) (c .before .before .before .before .before .before .before .before .before .before .before .passed2 .ensures)) .room, c .before .before .before .before .before .before .before .before .before .before .before .before .before .before .before .before .before .before .before .before .before .before .before .before .pre .0), (ready-second (hand t (c .before .before .before .before .before .before .before .before .before .before .before .before .before) (c .before .before .before .before .before .before .before .before .before .before .before .passed2 .ensures)) (first-got (hand t (c .before .before .before .before .before .before .before .before .before .before .before .before .before) (c .before .before .before .before .before .before .before .before .before .before .before .passed2 .ensures)) (c .before .before .before .before .before .before .before .before .before .before .before .before .before .before .before .before .before .before .before .before .before .before .before .before .pre .1 .1) (c .before .before .before .before .before .before .before .before .before .before .before .before .before .before .kept .ensures) (c .before .before .before .before .before .before .before .read-at .ensures) (c .before .before .before .before .before .first2 .given .1) .1), c .before .before .before .before .before .before .before .read-at .ensures .full))
+read-at-read-at-requires-2 t c κs =
+    let p1 = c .before .before .before .before .before in
+    let p2 = p1 .before .before in
+    let p3 = p2 .before .before .before .before in
+    let p4 = p3 .before .before in
+    let p5 = p4 .before in
+    let p6 = p5 .before .before .before .before .before .before .before .before .before .before in (
+      omega (arith, (hand t (p4) (p3 .passed2 .ensures)) .room, p6 .pre .0),
+      (
+        ready-second (hand t (p4) (p3 .passed2 .ensures))
+            (first-got (hand t (p4) (p3 .passed2 .ensures)) (p6 .pre .1 .1) (p5 .kept .ensures) (p2 .read-at .ensures) (p1 .first2 .given .1) .1),
+        p2 .read-at .ensures .full,
+      ),
+    )
 
 read-at-enum-known-second : (t : ℕ) → read-at-lts.Need-enum-known-second (read-at-claims t) (read-at-at t) read-at.Post
 read-at-enum-known-second t c = search needs
@@ -186,25 +251,96 @@ read-at-enum-known-second-2 : (t : ℕ) → read-at-lts.Need-enum-known-second-2
 read-at-enum-known-second-2 t c = search needs
 
 read-at-sub-sizes-2 : (t : ℕ) → read-at-lts.Need-sub-sizes-2 (read-at-claims t) (read-at-at t) read-at.Post
-read-at-sub-sizes-2 t c = omega (arith, size₂ (hand t (c .before .before .before .before .before .before .before .before .before .before .before .before .before .before .before .before .before .before) (c .before .before .before .before .before .before .before .before .before .before .before .before .before .before .before .before .passed2 .ensures)) (c .before .before .before .before .before .before .before .before .before .before .before .before .before .before .before .before .before .before .before .before .before .before .before .before .before .before .before .before .before .pre .1 .1) (c .before .before .before .before .before .before .before .before .before .before .before .before .before .before .before .before .before .before .before .kept .ensures) (c .before .before .before .before .before .before .before .before .before .before .before .before .read-at .ensures) (c .before .before .before .before .before .before .before .before .before .before .first2 .given .1) (λ e. c .before .before .before .before .before .before .before .before .before .before .before .before .before .before .before .before .before .if2 .left (its-shape t (c .before .before .before .before .before .before .before .before .before .before .before .before .before .before .before .before .before .before .before .before .before) .its-children ∙ e)) (λ e. c .before .before .before .before .before .before .before .before .if3 .left (its-shape t (c .before .before .before .before .before .before .before .before .before .before .before .before .before .before .before .before .before .before .before .before .before) .its-children ∙ e)) (c .before .before .before .before .read-at2 .ensures) (c .before .before .second2 .given .1))
+read-at-sub-sizes-2 t c =
+    let p1 = c .before .before in
+    let p2 = p1 .before .before in
+    let p3 = p2 .before .before .before .before in
+    let p4 = p3 .before .before in
+    let p5 = p4 .before .before in
+    let p6 = p5 .before .before .before .before in
+    let p7 = p6 .before in
+    let p8 = p7 .before in
+    let p9 = p8 .before in
+    let p10 = p9 .before .before in
+    let p11 = p10 .before .before .before .before .before .before .before .before in
+    omega (
+      arith,
+      size₂ (hand t (p8) (p6 .passed2 .ensures)) (p11 .pre .1 .1) (p9 .kept .ensures) (p5 .read-at .ensures) (p4 .first2 .given .1)
+          (λ e. p7 .if2 .left (its-shape t (p10) .its-children ∙ e)) (λ e. p3 .if3 .left (its-shape t (p10) .its-children ∙ e)) (p2 .read-at2 .ensures) (p1 .second2 .given .1),
+    )
 
 read-at-cast-sizes-2 : (t : ℕ) → read-at-lts.Need-cast-sizes-2 (read-at-claims t) (read-at-at t) read-at.Post
-read-at-cast-sizes-2 t c = omega (arith, few₂ (hand t (c .before .before .before .before .before .before .before .before .before .before .before .before .before .before .before .before .before .before) (c .before .before .before .before .before .before .before .before .before .before .before .before .before .before .before .before .passed2 .ensures)) (c .before .before .before .before .before .before .before .before .before .before .before .before .before .before .before .before .before .before .before .before .before .before .before .before .before .before .before .before .before .pre .1 .1) (c .before .before .before .before .before .before .before .before .before .before .before .before .before .before .before .before .before .before .before .kept .ensures) (c .before .before .before .before .before .before .before .before .before .before .before .before .read-at .ensures) (c .before .before .before .before .before .before .before .before .before .before .first2 .given .1) (λ e. c .before .before .before .before .before .before .before .before .before .before .before .before .before .before .before .before .before .if2 .left (its-shape t (c .before .before .before .before .before .before .before .before .before .before .before .before .before .before .before .before .before .before .before .before .before) .its-children ∙ e)) (λ e. c .before .before .before .before .before .before .before .before .if3 .left (its-shape t (c .before .before .before .before .before .before .before .before .before .before .before .before .before .before .before .before .before .before .before .before .before) .its-children ∙ e)) (c .before .before .before .before .read-at2 .ensures) (c .before .before .second2 .given .1))
+read-at-cast-sizes-2 t c =
+    let p1 = c .before .before in
+    let p2 = p1 .before .before in
+    let p3 = p2 .before .before .before .before in
+    let p4 = p3 .before .before in
+    let p5 = p4 .before .before in
+    let p6 = p5 .before .before .before .before in
+    let p7 = p6 .before in
+    let p8 = p7 .before in
+    let p9 = p8 .before in
+    let p10 = p9 .before .before in
+    let p11 = p10 .before .before .before .before .before .before .before .before in
+    omega (
+      arith,
+      few₂ (hand t (p8) (p6 .passed2 .ensures)) (p11 .pre .1 .1) (p9 .kept .ensures) (p5 .read-at .ensures) (p4 .first2 .given .1)
+          (λ e. p7 .if2 .left (its-shape t (p10) .its-children ∙ e)) (λ e. p3 .if3 .left (its-shape t (p10) .its-children ∙ e)) (p2 .read-at2 .ensures) (p1 .second2 .given .1),
+    )
 
 read-at-mul-sizes-3 : (t : ℕ) → read-at-lts.Need-mul-sizes-3 (read-at-claims t) (read-at-at t) read-at.Post
-read-at-mul-sizes-3 t c = omega (arith, (passed-test t (c .before .before .before .before .before .before .before .before .before .before .before .before .before .before .before .before .before .before .before .before .before .before .before .before .before .before)) .counted)
+read-at-mul-sizes-3 t c =
+    let p1 = c .before .before .before .before .before .before .before .before .before .before .before .before .before .before .before .before .before .before .before .before .before .before .before .before .before .before in
+    omega (arith, (passed-test t (p1)) .counted)
 
 read-at-element-write-sizes-3 : (t : ℕ) → read-at-lts.Need-element-write-sizes-3 (read-at-claims t) (read-at-at t) read-at.Post
-read-at-element-write-sizes-3 t c = omega (arith, (passed-test t (c .before .before .before .before .before .before .before .before .before .before .before .before .before .before .before .before .before .before .before .before .before .before .before .before .before .before)) .counted)
+read-at-element-write-sizes-3 t c =
+    let p1 = c .before .before .before .before .before .before .before .before .before .before .before .before .before .before .before .before .before .before .before .before .before .before .before .before .before .before in
+    omega (arith, (passed-test t (p1)) .counted)
 
 read-at-returns-5 : (t : ℕ) → read-at-lts.Need-returns-5 (read-at-claims t) (read-at-at t) read-at.Post
-read-at-returns-5 t c = end-first (hand t (c .before .before .before .before .before .before .before .before .before) (c .before .before .before .before .before .before .before .passed2 .ensures)) (c .before .before .before .before .before .before .before .before .before .before .before .before .before .before .before .before .before .before .before .before .pre .1 .1) (c .before .before .before .before .before .before .before .before .before .before .kept .ensures) (c .before .before .before .read-at .ensures) (λ e. c .before .before .before .before .before .before .before .before .if2 .left (its-shape t (c .before .before .before .before .before .before .before .before .before .before .before .before) .its-children ∙ e)) (c .before .first .given .1)
+read-at-returns-5 t c =
+    let p1 = c .before in
+    let p2 = p1 .before .before in
+    let p3 = p2 .before .before .before .before in
+    let p4 = p3 .before in
+    let p5 = p4 .before in
+    let p6 = p5 .before in
+    let p7 = p6 .before .before in
+    let p8 = p7 .before .before .before .before .before .before .before .before in
+    end-first (hand t (p5) (p3 .passed2 .ensures)) (p8 .pre .1 .1) (p6 .kept .ensures) (p2 .read-at .ensures) (λ e. p4 .if2 .left (its-shape t (p7) .its-children ∙ e)) (p1 .first .given .1)
 
 read-at-returns-6 : (t : ℕ) → read-at-lts.Need-returns-6 (read-at-claims t) (read-at-at t) read-at.Post
-read-at-returns-6 t c = end-second (hand t (c .before .before .before .before .before .before .before .before .before .before .before .before .before .before .before .before .before) (c .before .before .before .before .before .before .before .before .before .before .before .before .before .before .before .passed2 .ensures)) (c .before .before .before .before .before .before .before .before .before .before .before .before .before .before .before .before .before .before .before .before .before .before .before .before .before .before .before .before .pre .1 .1) (c .before .before .before .before .before .before .before .before .before .before .before .before .before .before .before .before .before .before .kept .ensures) (c .before .before .before .before .before .before .before .before .before .before .before .read-at .ensures) (c .before .before .before .before .before .before .before .before .before .first2 .given .1) (λ e. c .before .before .before .before .before .before .before .before .before .before .before .before .before .before .before .before .if2 .left (its-shape t (c .before .before .before .before .before .before .before .before .before .before .before .before .before .before .before .before .before .before .before .before) .its-children ∙ e)) (λ e. c .before .before .before .before .before .before .before .if3 .left (its-shape t (c .before .before .before .before .before .before .before .before .before .before .before .before .before .before .before .before .before .before .before .before) .its-children ∙ e)) (c .before .before .before .read-at2 .ensures) (c .before .second .given .1)
+read-at-returns-6 t c =
+    let p1 = c .before in
+    let p2 = p1 .before .before in
+    let p3 = p2 .before .before .before .before in
+    let p4 = p3 .before .before in
+    let p5 = p4 .before .before in
+    let p6 = p5 .before .before .before .before in
+    let p7 = p6 .before in
+    let p8 = p7 .before in
+    let p9 = p8 .before in
+    let p10 = p9 .before .before in
+    let p11 = p10 .before .before .before .before .before .before .before .before in
+    end-second (hand t (p8) (p6 .passed2 .ensures)) (p11 .pre .1 .1) (p9 .kept .ensures) (p5 .read-at .ensures) (p4 .first2 .given .1) (λ e. p7 .if2 .left (its-shape t (p10) .its-children ∙ e))
+    (λ e. p3 .if3 .left (its-shape t (p10) .its-children ∙ e)) (p2 .read-at2 .ensures) (p1 .second .given .1)
 
 read-at-returns-7 : (t : ℕ) → read-at-lts.Need-returns-7 (read-at-claims t) (read-at-at t) read-at.Post
-read-at-returns-7 t c = end-joined (hand t (c .before .before .before .before .before .before .before .before .before .before .before .before .before .before .before .before .before .before) (c .before .before .before .before .before .before .before .before .before .before .before .before .before .before .before .before .passed2 .ensures)) (c .before .before .before .before .before .before .before .before .before .before .before .before .before .before .before .before .before .before .before .before .before .before .before .before .before .before .before .before .before .pre .1 .1) (c .before .before .before .before .before .before .before .before .before .before .before .before .before .before .before .before .before .before .before .kept .ensures) (c .before .before .before .before .before .before .before .before .before .before .before .before .read-at .ensures) (c .before .before .before .before .before .before .before .before .before .before .first2 .given .1) (λ e. c .before .before .before .before .before .before .before .before .before .before .before .before .before .before .before .before .before .if2 .left (its-shape t (c .before .before .before .before .before .before .before .before .before .before .before .before .before .before .before .before .before .before .before .before .before) .its-children ∙ e)) (λ e. c .before .before .before .before .before .before .before .before .if3 .left (its-shape t (c .before .before .before .before .before .before .before .before .before .before .before .before .before .before .before .before .before .before .before .before .before) .its-children ∙ e)) (c .before .before .before .before .read-at2 .ensures) (c .before .before .second2 .given .1)
+read-at-returns-7 t c =
+    let p1 = c .before .before in
+    let p2 = p1 .before .before in
+    let p3 = p2 .before .before .before .before in
+    let p4 = p3 .before .before in
+    let p5 = p4 .before .before in
+    let p6 = p5 .before .before .before .before in
+    let p7 = p6 .before in
+    let p8 = p7 .before in
+    let p9 = p8 .before in
+    let p10 = p9 .before .before in
+    let p11 = p10 .before .before .before .before .before .before .before .before in
+    end-joined (hand t (p8) (p6 .passed2 .ensures)) (p11 .pre .1 .1) (p9 .kept .ensures) (p5 .read-at .ensures) (p4 .first2 .given .1) (λ e. p7 .if2 .left (its-shape t (p10) .its-children ∙ e))
+    (λ e. p3 .if3 .left (its-shape t (p10) .its-children ∙ e)) (p2 .read-at2 .ensures) (p1 .second2 .given .1)
 
 pub +read-at-spec : {M : Type 1} → statement M
 +read-at-spec = close μ-read-at λ t. read-at-lts.spec (read-at-claims t)
