@@ -4,17 +4,18 @@ use mathlib.Core.Path.{refl, _∙_}
 use Rattle.sets.specs.Words.{bits}
 use Rattle.sets.proofs.Words.{is-set, is-single}
 use Rattle.block.specs.Codes.{codes-for}
-use Rattle.block.proofs.CodeLaws.{union-is, code-at, code-at-either, code-zero}
+use Rattle.code_sets.proofs.Laws.{union-is}
+use Rattle.block.proofs.CodeLaws.{code-at, code-at-either, code-zero}
 use borrow.Author.Needs.{needs}
 use Rattle.block.proofs.codes.codes_for.Statement.{statement}
 use Rattle.block.proofs.codes.codes_for.Tie as tie
 use Rattle.block.proofs.codes.codes_for.Reads as reads
 use Rattle.block.proofs.codes.codes_for.Lts as lts
 use Rattle.block.proofs.codes.exit_codes.Reads as exit-codes-reads
-use Rattle.block.proofs.codes.followed_codes.Reads as followed-codes-reads
-use Rattle.block.proofs.codes.larger.Reads as larger-reads
-use Rattle.block.proofs.codes.lowered.Reads as lowered-reads
-use Rattle.block.proofs.codes.without_zero.Reads as without-zero-reads
+use Rattle.code_sets.proofs.followed_codes.Reads as followed-codes-reads
+use Rattle.code_sets.proofs.larger.Reads as larger-reads
+use Rattle.code_sets.proofs.lowered.Reads as lowered-reads
+use Rattle.code_sets.proofs.without_zero.Reads as without-zero-reads
 
 followed-codes-requires : tie.Need-followed-codes-requires
 followed-codes-requires c κs = search needs

@@ -1,9 +1,9 @@
--- `codes::larger` meets its contract: a code with one at or below it on the other side.
+-- `code_sets::larger` meets its contract: a code with one at or below it on the other side.
 -- Assumes nothing.
 use Rattle.sets.proofs.Words.{maxima-is}
 use borrow.Author.Needs.{needs}
-use Rattle.block.proofs.codes.larger.Statement.{statement}
-use Rattle.block.proofs.codes.larger.Tie as tie
+use Rattle.code_sets.proofs.larger.Statement.{statement}
+use Rattle.code_sets.proofs.larger.Tie as tie
 
 from-lowest-requires : tie.Need-from-lowest-requires
 from-lowest-requires c κs = search needs

@@ -1,12 +1,12 @@
--- `codes::from_lowest` meets its contract: the trailing zeros are the lowest code; an empty set has none.
+-- `code_sets::from_lowest` meets its contract: the trailing zeros are the lowest code; an empty set has none.
 -- Assumes nothing.
 use native.Mathlib.Omega.{arith}
 use lib.Pow.{pow-pos}
 use lib.Count.{trailingZeros}
 use Rattle.sets.proofs.Words.{shift-one, none-from, trailing-lt, all-from}
 use borrow.Author.Needs.{needs}
-use Rattle.block.proofs.codes.from_lowest.Statement.{statement}
-use Rattle.block.proofs.codes.from_lowest.Tie as tie
+use Rattle.code_sets.proofs.from_lowest.Statement.{statement}
+use Rattle.code_sets.proofs.from_lowest.Tie as tie
 
 returns : tie.Need-returns
 returns c = none-from 32 (c .if1 .taken)
