@@ -44,6 +44,27 @@ above-builds x n p a-local = record { its-kind = refl; its-operand = refl; its-s
 pub joined-builds : {k : ℕ} (x n : ℕ) (p q : Stmt) → Joined k
     → Builds k x n (statements p + statements q) (bytes (preorder p) + bytes (preorder q)) (pauses p ++ pauses q) (joined k x p q)
 unfolding kind-of operand-of statements bytes preorder pauses joined kept-operand shape length-of operands-of listed
-joined-builds x n p q a-present = record { its-kind = refl; its-operand = refl; its-statements = add-assoc 1 (statements p) (statements q); its-bytes = ap (λ (m : ℕ). 6 + m) (bytes-append (preorder p) (preorder q)); its-pauses = refl }
-joined-builds x n p q a-sequence = record { its-kind = refl; its-operand = refl; its-statements = add-assoc 1 (statements p) (statements q); its-bytes = ap (λ (m : ℕ). 4 + m) (bytes-append (preorder p) (preorder q)); its-pauses = refl }
-joined-builds x n p q a-parallel = record { its-kind = refl; its-operand = refl; its-statements = add-assoc 1 (statements p) (statements q); its-bytes = ap (λ (m : ℕ). 4 + m) (bytes-append (preorder p) (preorder q)); its-pauses = refl }
+joined-builds x n p q a-present = record {
+  its-kind = refl;
+  its-operand = refl;
+  its-statements = add-assoc 1 (statements p) (statements q);
+  its-bytes = ap (λ (m : ℕ). 6 + m)
+      (bytes-append (preorder p) (preorder q));
+  its-pauses = refl;
+}
+joined-builds x n p q a-sequence = record {
+  its-kind = refl;
+  its-operand = refl;
+  its-statements = add-assoc 1 (statements p) (statements q);
+  its-bytes = ap (λ (m : ℕ). 4 + m)
+      (bytes-append (preorder p) (preorder q));
+  its-pauses = refl;
+}
+joined-builds x n p q a-parallel = record {
+  its-kind = refl;
+  its-operand = refl;
+  its-statements = add-assoc 1 (statements p) (statements q);
+  its-bytes = ap (λ (m : ℕ). 4 + m)
+      (bytes-append (preorder p) (preorder q));
+  its-pauses = refl;
+}

@@ -6,7 +6,8 @@ use Rattle.sets.specs.Numbers.{listed, lowest, some-to, maxima, downs}
 use Rattle.rules.specs.Statements.{depth, code, Stmt, nothing, pause, emit, present?_then_else_, suspend_on_, _⨾_, loop, _parallel_, trap, exit, local}
 use Rattle.rules.specs.Loops.{codes-of}
 use Rattle.block.specs.Table.{kind-of, statements}
-use Rattle.block.specs.Format.{Reading, good, turned-down, reading, is-broken, header, header-fault, shape, length-of, children-of, over-limit, wrong-signal, wrong-exit, statement-fault, past, inside, leaf, above, joined, read, preorder, bytes, offset, endless, lowest-endless, loops-checked, ended}
+use Rattle.block.specs.Format.{Reading, good, turned-down, reading, is-broken, header, header-fault, shape, length-of, children-of, over-limit, wrong-signal, wrong-exit}
+use Rattle.block.specs.Format.{statement-fault, past, inside, leaf, above, joined, read, preorder, bytes, offset, endless, lowest-endless, loops-checked, ended}
 
 abbrev head : ℕ → ℕ → ℕ → List ℕ
 head i o l = 14 ∷ 0 ∷ 1 ∷ 0 ∷ 1 ∷ 0 ∷ 7 ∷ 0 ∷ i ∷ 0 ∷ o ∷ 0 ∷ l ∷ 0 ∷ []

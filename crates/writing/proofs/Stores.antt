@@ -2,15 +2,17 @@
 use mathlib.Core.Path.{_≡_, refl, sym, ap, ap₂, _∙_}
 use mathlib.Core.Logic.{_⊎_, inl, inr, ⊎-elim}
 use mathlib.Core.Bool.{Bool, cond}
-use mathlib.Core.List.{List, [], _∷_, _++_}
+use mathlib.Core.List.{List, [], _∷_, _++_, append-nil}
 use mathlib.Core.Option.{Option, none, some}
 use Prim.Native.Nat.{ℕ, _+_, _≤_, _<_}
 use native.Mathlib.Nat.{add-assoc}
 use native.Mathlib.Omega.{arith}
 use borrow.Author.Tests.{lt-ltb, le-ltb}
-use lib.ListN.{length}
+use lib.ListN.{length, length-append}
 use lib.Seq.{sets}
-use Rattle.block.specs.Format.{Header, Shape, shape, short, long, of-shape, length-of, operands-of}
+use Rattle.rules.specs.Statements.{Stmt}
+use Rattle.block.specs.Table.{kind-of, operand-of}
+use Rattle.block.specs.Format.{preorder, bytes, Header, Shape, shape, short, long, of-shape, length-of, operands-of}
 use Rattle.block.specs.Told.{wire-of}
 use Rattle.block.specs.declared.kinds.Shape.{Shape as Coded}
 use Rattle.block.specs.declared.kinds.Wire.{Wire}
@@ -18,9 +20,11 @@ use Rattle.block.specs.declared.kinds.Wire.the-variants.{Allowed, Unknown}
 use Rattle.block.proofs.Shapes.{Shaped, shaped, not-known}
 use Rattle.block.proofs.Views.{Kind, shape?, known}
 use Rattle.records.specs.Numerals.{in-bytes}
-use Rattle.records.proofs.Bytes.{sets-append}
-use Rattle.writing.specs.Answers.{writes, refuses, roomed}
-use Rattle.writing.specs.Written.{shaped-bytes, record-bytes, header-bytes}
+use Rattle.records.proofs.Bytes.{sets-append, sets-front}
+use Rattle.writing.specs.Answers.{writes, refuses, roomed, out-owed}
+use Rattle.writing.specs.Written.{shaped-bytes, record-bytes, records, header-bytes, block-bytes}
+use Rattle.writing.proofs.Records.{records-append}
+use Rattle.writing.proofs.Back.{length-records}
 
 -- The header's seven numbers.
 pub header-stored : (s : List ℕ) (h : Header) {s1 s2 s3 s4 s5 s6 s7 : List ℕ} → s1 ≡ sets s 0 (in-bytes 2 14) → s2 ≡ sets s1 2 (in-bytes 2 1) → s3 ≡ sets s2 4 (in-bytes 2 1)
@@ -126,3 +130,26 @@ too-few bs lent l = ap (λ (z : Bool). cond z (refuses 12 0) (writes bs)) (lt-lt
 pub enough : (bs : List ℕ) (lent : ℕ) → length bs ≤ lent → roomed (writes bs) lent ≡ writes bs
 unfolding roomed
 enough bs lent l = ap (λ (z : Bool). cond z (refuses 12 0) (writes bs)) (le-ltb lent (length bs) l)
+
+-- For who writes a block record by record: one record more behind those of some statements; the records behind the header; and what
+-- the lent bytes then are.
+pub records-stored : (out : List ℕ) (to : ℕ) (ps : List Stmt) (p : Stmt)
+    → sets (sets out to (records ps)) (to + bytes ps) (record-bytes (kind-of p) (operand-of p)) ≡ sets out to (records (ps ++ (p ∷ [])))
+unfolding records
+records-stored out to ps p =
+    let one = record-bytes (kind-of p) (operand-of p) in
+    ap (λ (n : ℕ). sets (sets out to (records ps)) (to + n) one) (sym (length-records ps)) ∙ sym (sets-append (records ps) one out to)
+    ∙ ap (λ (l : List ℕ). sets out to l) (sym (records-append ps (p ∷ []) ∙ ap (λ (l : List ℕ). records ps ++ l) (append-nil one)))
+
+pub block-stored : (out : List ℕ) (h : Header) (t : Stmt) → sets (sets out 0 (header-bytes h)) 14 (records (preorder t)) ≡ sets out 0 (block-bytes h t)
+unfolding block-bytes header-bytes in-bytes
+block-stored out h t = sym (sets-append (header-bytes h) (records (preorder t)) out 0)
+
+pub block-length : (h : Header) (t : Stmt) → length (block-bytes h t) ≡ 14 + bytes (preorder t)
+unfolding block-bytes header-bytes in-bytes
+block-length h t = length-append (header-bytes h) (records (preorder t)) ∙ ap (λ (n : ℕ). 14 + n) (length-records (preorder t))
+
+pub out-written : (out : List ℕ) (h : Header) (t : Stmt) → 14 + bytes (preorder t) ≤ length out
+    → sets out 0 (block-bytes h t) ≡ out-owed (writes (block-bytes h t)) out
+unfolding out-owed
+out-written out h t l = sets-front (block-bytes h t) out (omega (arith, block-length h t))

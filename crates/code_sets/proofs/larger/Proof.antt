@@ -12,7 +12,10 @@ from-lowest-requires-2 : tie.Need-from-lowest-requires-2
 from-lowest-requires-2 c κs = search needs
 
 returns : tie.Need-returns
-returns c = maxima-is 32 (c .before .before .args .a) (c .before .before .args .b) (c .before .from-lowest .result) (c .from-lowest2 .result) (c .before .before .fits .a .fits) (c .before .before .fits .b .fits) (c .before .from-lowest .ensures) (c .from-lowest2 .ensures)
+returns c =
+    let p1 = c .before in
+    let p2 = p1 .before in
+    maxima-is 32 (p2 .args .a) (p2 .args .b) (p1 .from-lowest .result) (c .from-lowest2 .result) (p2 .fits .a .fits) (p2 .fits .b .fits) (p1 .from-lowest .ensures) (c .from-lowest2 .ensures)
 
 pub larger-spec : {M : Type 1} → statement M
 larger-spec = tie.close (tie.spec from-lowest-requires from-lowest-requires-2 returns)

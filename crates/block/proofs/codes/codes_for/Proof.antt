@@ -62,13 +62,17 @@ returns-7 c = λ h. code-at 24 (c .before .before .args .operand) (bits (c .befo
 
 returns-8 : tie.Need-returns-8
 unfolding codes-for
-returns-8 c = λ h. code-at 25 (c .before .before .args .operand) (bits (c .before .before .args .first)) (bits (c .before .before .args .second)) (c .before .match .keys8) (c .exit-codes .ensures (h (c .before .match .keys8)))
+returns-8 c =
+    let p1 = c .before in
+    let p2 = p1 .before in
+    λ h. code-at 25 (p2 .args .operand) (bits (p2 .args .first)) (bits (p2 .args .second)) (p1 .match .keys8) (c .exit-codes .ensures (h (p1 .match .keys8)))
 
 returns-9 : tie.Need-returns-9
 unfolding codes-for
 returns-9 c = λ h.
     let m = c .match .rest in
-    is-set (is-single 0) ∙ code-zero (c .before .args .kind) (c .before .args .operand) (bits (c .before .args .first)) (bits (c .before .args .second)) (m .0 .0 .0 .0 .0 .0 .0 .1) (m .0 .0 .0 .0 .0 .0 .1) (m .0 .0 .0 .0 .0 .1) (m .0 .0 .0 .0 .1) (m .0 .0 .0 .1) (m .0 .0 .1) (m .0 .1) (m .1)
+    is-set (is-single 0) ∙ code-zero (c .before .args .kind) (c .before .args .operand) (bits (c .before .args .first)) (bits (c .before .args .second)) (m .0 .0 .0 .0 .0 .0 .0 .1)
+    (m .0 .0 .0 .0 .0 .0 .1) (m .0 .0 .0 .0 .0 .1) (m .0 .0 .0 .0 .1) (m .0 .0 .0 .1) (m .0 .0 .1) (m .0 .1) (m .1)
 
 pub codes-for-spec : {M : Type 1} → statement M
 codes-for-spec =

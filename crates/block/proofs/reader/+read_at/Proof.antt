@@ -39,7 +39,22 @@ abbrev read-at-below : ℕ → In 4 read-at-kinds.ps
 read-at-below t = and 4 read-at-kinds.ps (falls 4 read-at-kinds.ps _<_ μ-read-at t) read-at.Pre
 
 abbrev read-at-claims : ℕ → read-at-lts.Claims
-read-at-claims t = (statement-fault-reads.Asked, statement-fault-reads.Learnt, two-bytes-reads.Asked, two-bytes-reads.Learnt, shape-of-reads.Asked, shape-of-reads.Learnt, kept-reads.Asked, kept-reads.Learnt, inner-reads.Asked, inner-reads.Learnt, passed-reads.Asked, passed-reads.Learnt, read-at-below t, read-at.Post)
+read-at-claims t = (
+  statement-fault-reads.Asked,
+  statement-fault-reads.Learnt,
+  two-bytes-reads.Asked,
+  two-bytes-reads.Learnt,
+  shape-of-reads.Asked,
+  shape-of-reads.Learnt,
+  kept-reads.Asked,
+  kept-reads.Learnt,
+  inner-reads.Asked,
+  inner-reads.Learnt,
+  passed-reads.Asked,
+  passed-reads.Learnt,
+  read-at-below t,
+  read-at.Post,
+)
 
 -- What the tests showed of the record, by the block's own kind and operand, and by the code's.
 passed-test : (t : ℕ) (c : read-at-lts.Else1 (read-at-claims t) (read-at-at t) read-at.Post)
@@ -290,12 +305,18 @@ read-at-cast-sizes-2 t c =
 
 read-at-mul-sizes-3 : (t : ℕ) → read-at-lts.Need-mul-sizes-3 (read-at-claims t) (read-at-at t) read-at.Post
 read-at-mul-sizes-3 t c =
-    let p1 = c .before .before .before .before .before .before .before .before .before .before .before .before .before .before .before .before .before .before .before .before .before .before .before .before .before .before in
+    let p1 =
+    let half = c .before .before .before .before .before .before .before .before .before .before .before .before .before in
+    let p1 = half .before .before .before .before .before .before .before .before .before .before .before .before .before in
+    p1 in
     omega (arith, (passed-test t (p1)) .counted)
 
 read-at-element-write-sizes-3 : (t : ℕ) → read-at-lts.Need-element-write-sizes-3 (read-at-claims t) (read-at-at t) read-at.Post
 read-at-element-write-sizes-3 t c =
-    let p1 = c .before .before .before .before .before .before .before .before .before .before .before .before .before .before .before .before .before .before .before .before .before .before .before .before .before .before in
+    let p1 =
+    let half = c .before .before .before .before .before .before .before .before .before .before .before .before .before in
+    let p1 = half .before .before .before .before .before .before .before .before .before .before .before .before .before in
+    p1 in
     omega (arith, (passed-test t (p1)) .counted)
 
 read-at-returns-5 : (t : ℕ) → read-at-lts.Need-returns-5 (read-at-claims t) (read-at-at t) read-at.Post

@@ -34,7 +34,11 @@ cast-at : tie.Need-cast-at Inv-loop μ-loop
 cast-at c = search needs
 
 add-at : tie.Need-add-at Inv-loop μ-loop
-add-at c = omega (arith, c .before .before .before .loop .inv .bound, c .before .before .loop-test .taken, c .before .before .before .before .pre, c .record-length .ensures, length-small (getD (now (c .before .before .before .before .args .kinds)) (c .before .before .before .loop .i) 0))
+add-at c =
+    let p1 = c .before .before in
+    let p2 = p1 .before in
+    let p3 = p2 .before in
+    omega (arith, p2 .loop .inv .bound, p1 .loop-test .taken, p3 .pre, c .record-length .ensures, length-small (getD (now (p3 .args .kinds)) (p2 .loop .i) 0))
 
 add-i : tie.Need-add-i Inv-loop μ-loop
 add-i c = omega (arith, c .before .before .before .loop .inv .within, c .before .before .loop-test .taken, c .before .before .before .before .pre)
