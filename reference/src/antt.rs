@@ -4,8 +4,9 @@ use std::collections::HashSet;
 
 use crate::block::{decode, encode_tokens, Block};
 use crate::chance::Chance;
+use crate::coherence::{reactions, Outcome, Slip, SLIPS};
 use crate::fault::{Fault, RULES};
-use crate::generate::{some_inputs, some_phase};
+use crate::generate::{phases, some_inputs, some_phase};
 use crate::mutate::some_mixed_block;
 use crate::reaction::Phase;
 use crate::row::{header_of, Row};
@@ -58,6 +59,29 @@ fn some_row(wanted: Option<Fault>, chance: &mut Chance) -> Row {
         }
         tries += 1;
     }
+}
+
+/// So many rows, each of which tells some wrong version of the coherence law; a version that none is met for in time is passed over.
+pub fn law_rows(count: usize, seed: u64) -> Vec<Row> {
+    let mut chance = Chance::new(seed);
+    let mut rows = Vec::new();
+    for n in 0..count {
+        let slip = SLIPS[n % SLIPS.len()];
+        rows.extend((0..2000).find_map(|_| slipped(&some_small_block(&mut chance), slip)));
+    }
+    rows
+}
+
+/// The first instant of a block at which a wrong version of the law finds other coherent reactions.
+fn slipped(block: &Block, slip: Slip) -> Option<Row> {
+    let (inputs, outputs) = (block.header.inputs, block.header.outputs);
+    let shown = |slip: Slip, phase: Phase, given: u64| -> Vec<Outcome> {
+        reactions(slip, block, phase, given).into_iter().map(|outcome| outcome.shown()).collect()
+    };
+    let mut instants = phases(block, 32).into_iter().flat_map(|phase| (0..1 << inputs).map(move |given| (phase, given)));
+    instants
+        .find(|&(phase, given)| shown(Slip::None, phase, given) != shown(slip, phase, given))
+        .map(|(phase, given)| Row { inputs, outputs, tokens: block.root.tokens(), phase, given })
 }
 
 /// A block of 3 to 12 statements that declares, three times in four, only the signals it names.

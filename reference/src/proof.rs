@@ -1,7 +1,8 @@
 //! Rows as a module of the proof language, so that the product's definitions are computed on them and compared.
 
-use crate::antt::some_rows;
+use crate::antt::{law_rows, some_rows};
 use crate::block::{Form, Token};
+use crate::coherence::{reactions, Outcome, Slip};
 use crate::fault::Fault;
 use crate::reaction::{active_of, Phase, Reaction};
 use crate::row::Row;
@@ -9,8 +10,9 @@ use crate::rules::Rules;
 use crate::values::signal_bit;
 
 /// What every such module begins with: the definitions that the rows are written in.
-const HEAD: &str = "-- Random blocks with the answers of the reference evaluator. Assumes nothing.
+const HEAD: &str = "-- Random blocks with the answers of the reference evaluator, and with all their coherent reactions. Assumes nothing.
 use mathlib.Core.Path.{_≡_, refl}
+use mathlib.Core.Bool.{true, false}
 use mathlib.Core.List.{List, [], _∷_, map}
 use Rattle.sets.specs.Numbers.{members, listed, some-to, maxima, down, downs, lowest}
 use Rattle.rules.specs.Statements.{depth, code, nothing, pause, emit, present?_then_else_, suspend_on_, _⨾_, loop, _parallel_, trap, exit, local, pauses}
@@ -19,22 +21,36 @@ use Rattle.rules.specs.Instant.{any, active, held, started, resumed}
 use Rattle.rules.specs.MustCan.{gives}
 use Rattle.rules.specs.States.{fresh, finished, phase-of, active-of, step, kept, next}
 use Rattle.rules.specs.Rounds.{marks, round, begin, undecided, all-same, settle, final-of, answer, react}
+use Rattle.rules.specs.Coherence.{execute, world}
 use Rattle.rules.proofs.Cases.{Row, row, active-on, ends, waits, stuck, answers}
+use Rattle.rules.proofs.AllRuns.{assigned, runs, all-outs, outs-agree, reactions}
+use Rattle.rules.proofs.CoherentTable.{LawRow, law, finishes, stays-on, coherent-of}
 ";
 
 /// All that has to be opened for an answer to be computed.
 const OPENED: &str = "unfolding react listed members pauses phase-of active-of undecided gives kept started resumed any active held code marks round begin all-same settle final-of answer some-to maxima down downs lowest step next event";
 
+/// All that has to be opened for the coherent reactions to be computed.
+const LAW_OPENED: &str = "unfolding reactions listed members pauses phase-of active-of runs assigned execute all-outs outs-agree started resumed any active held code down step next world";
+
 /// How many rows one statement of equality takes.
 const TOGETHER: usize = 20;
 
-/// Prints a module that is accepted exactly if the definitions give every row's answer.
+/// Prints a module that is accepted exactly if the definitions give every row's answer and coherent reactions. A quarter as many rows
+/// are added that tell wrong versions of the coherence law.
 pub fn print_module(count: usize, seed: u64) {
     println!("{HEAD}");
-    for (n, rows) in some_rows(count, seed).chunks(TOGETHER).enumerate() {
-        let lines: Vec<String> = rows.iter().map(in_proof).collect();
-        println!("abbrev rows{n} : List Row\nrows{n} = {} ∷ []\n", lines.join("\n    ∷ "));
-        println!("agree{n} : map answers rows{n} ≡ map (λ r. r .told) rows{n}\n{OPENED}\nagree{n} = refl\n");
+    let rows = some_rows(count, seed);
+    print_equal("rows", "Row", "answers", "told", OPENED, &rows.iter().map(in_proof).collect::<Vec<String>>());
+    let laws: Vec<String> = rows.iter().chain(&law_rows((count + 3) / 4, seed)).map(law).collect();
+    print_equal("laws", "LawRow", "coherent-of", "coherent", LAW_OPENED, &laws);
+}
+
+/// Prints lists of rows, and of each that what is computed is what the rows tell.
+fn print_equal(name: &str, of: &str, computed: &str, told: &str, opened: &str, rows: &[String]) {
+    for (n, lines) in rows.chunks(TOGETHER).enumerate() {
+        println!("abbrev {name}{n} : List {of}\n{name}{n} = {} ∷ []\n", lines.join("\n    ∷ "));
+        println!("{name}-agree{n} : map {computed} {name}{n} ≡ map (λ r. r .{told}) {name}{n}\n{opened}\n{name}-agree{n} = refl\n");
     }
 }
 
@@ -42,6 +58,33 @@ pub fn print_module(count: usize, seed: u64) {
 fn in_proof(row: &Row) -> String {
     let block = row.block().expect("a row holds a good block");
     let reaction = Rules { fault: Fault::None }.react(&block, row.phase, row.given);
+    format!("row {} ({})", instant(row), told(row, &reaction))
+}
+
+/// A row with every coherent reaction, one for each coherent assignment: those with the first output present first, and so on.
+fn law(row: &Row) -> String {
+    let block = row.block().expect("a row holds a good block");
+    let mut found = reactions(Slip::None, &block, row.phase, row.given);
+    found.sort_by_key(|outcome| present(row, outcome).map(|present| !present).collect::<Vec<bool>>());
+    let all = list(found.iter().map(|outcome| lawful(row, outcome)));
+    format!("law {} {all}", instant(row))
+}
+
+fn lawful(row: &Row, outcome: &Outcome) -> String {
+    let outs = list(present(row, outcome).map(|present| present.to_string()));
+    match outcome.code {
+        1 => format!("stays-on {outs} {}", list_of(outcome.kept)),
+        _ => format!("finishes {outs}"),
+    }
+}
+
+/// Whether each output is present, in signal order.
+fn present<'a>(row: &Row, outcome: &'a Outcome) -> impl Iterator<Item = bool> + 'a {
+    (row.inputs..row.inputs + row.outputs).map(move |signal| outcome.signals & signal_bit(signal) != 0)
+}
+
+/// The counts, the statement, the state and the given inputs.
+fn instant(row: &Row) -> String {
     let state = match row.phase {
         Phase::Fresh => "fresh".to_string(),
         Phase::Finished => "finished".to_string(),
@@ -50,9 +93,7 @@ fn in_proof(row: &Row) -> String {
     let mut pauses = 0;
     let mut statement = String::new();
     statement_from(&row.tokens, 0, &mut pauses, &mut statement);
-    let given = list_of(row.given as u128);
-    let told = told(row, &reaction);
-    format!("row {} {} {statement} {state} {given} ({told})", row.inputs, row.outputs)
+    format!("{} {} {statement} {state} {}", row.inputs, row.outputs, list_of(row.given as u128))
 }
 
 fn told(row: &Row, reaction: &Reaction) -> String {

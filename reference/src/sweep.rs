@@ -2,7 +2,7 @@
 
 use crate::all::{active_sets, All, Alphabet};
 use crate::block::{decode, encode_tokens, Block, FORMS};
-use crate::coherence::{only_coherent, reactions};
+use crate::coherence::{only_coherent, reactions, Slip};
 use crate::fault::Fault;
 use crate::reaction::Phase;
 use crate::row::{header_of, Row};
@@ -23,7 +23,7 @@ impl Counts {
     /// Counts one instant and checks it if it was answered.
     pub fn instant(&mut self, block: &Block, phase: Phase, given: u64) {
         let reaction = Rules { fault: Fault::None }.react(block, phase, given);
-        let found = reactions(block, phase, given);
+        let found = reactions(Slip::None, block, phase, given);
         self.instants += 1;
         let rounds_good = 1 <= reaction.rounds && reaction.rounds <= block.header.outputs as u32 + 1;
         let good = match reaction.code {

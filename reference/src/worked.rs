@@ -1,7 +1,7 @@
 //! Every worked instant, check, state case and the run example, against what the document says.
 
 use crate::block::{decode, encode_tokens, EXIT, LIMIT, LOOP};
-use crate::coherence::reactions;
+use crate::coherence::{reactions, Slip};
 use crate::fault::Fault;
 use crate::reaction::Phase;
 use crate::row::{agrees, header_of, Row};
@@ -69,7 +69,7 @@ pub fn worked_cases() -> Vec<(String, bool)> {
 fn one_reaction(text: &str) -> bool {
     let (row, _) = Row::read(text);
     let block = row.block().expect("a good block");
-    reactions(&block, row.phase, row.given).len() == 1
+    reactions(Slip::None, &block, row.phase, row.given).len() == 1
 }
 
 /// pause; pause with both active.

@@ -111,7 +111,7 @@ fn numbers(answer: Instant, end: u64) -> [u64; 11] {
 fn answered(r: Reaction, end: u64) -> [u64; 11] {
     let mut n = [0u64; 11];
     n[PRESENT] = r.present;
-    n[CODE] = r.code as u64;
+    n[CODE] = r.code.0 as u64;
     n[ROUNDS] = r.rounds as u64;
     n[ACTIVE] = r.active as u64;
     n[END] = end;

@@ -58,7 +58,7 @@ fn told_values(answer: Instant, end: usize) -> [u64; 11]
             0,
             0,
             a.rounds as u64,
-            a.code as u64,
+            a.code.0 as u64,
             a.active as u64,
             end,
         ],

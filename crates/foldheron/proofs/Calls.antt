@@ -80,7 +80,7 @@ pub record Answers (v : Verdict) (s : List ℕ) (roomless : Bool) (o : Outcome) 
   pub room : roomless ≡ false
   pub state-is : state-after s v ≡ state-bytes (o .phase) (o .kept)
   pub log-is : (log : List ℕ) (end given : ℕ)
-      → log-after log end given v ≡ logged-at log end (record { inputs = given; present = r .present; code = r .code; rounds = r .rounds })
+      → log-after log end given v ≡ logged-at log end (record { inputs = given; present = r .present; code = r .code .0; rounds = r .rounds })
   pub end-is : (end : ℕ) → end-after end v ≡ end + 24
 
 pub answers : (v : Verdict) (s : List ℕ) (roomless : Bool) (o : Outcome) (r : Reaction) → Leaves v s roomless → Comes v o → o .reply ≡ Answered r → Answers v s roomless o r

@@ -5,7 +5,8 @@ use mathlib.Core.List.{List, [], _∷_}
 use Prim.Native.Nat.{ℕ, suc, _+_, _-_, _≤_, _<_}
 use native.Mathlib.Nat.{zero-add}
 use native.Mathlib.Omega.{arith}
-use lib.ListN.{length, getD, take, drop}
+use lib.ListN.{length, getD}
+use denote.Ref.{RefT}
 use borrow.Author.Tests.{eq-eqb, ne-eqb, lt-ltb, le-ltb}
 use Rattle.rules.specs.Statements.{Stmt}
 use Rattle.rules.specs.States.{fresh}
@@ -23,7 +24,8 @@ use Rattle.block.proofs.Answered.{was-good, was-turned-down, has-body}
 use Rattle.block.proofs.GoodReadings.{Sound, sound, numbers}
 use Rattle.block.proofs.Places.{At, at-number, has-row}
 use Rattle.block.proofs.Offsets.{tabled-listed, offset-below, offset-most}
-use Rattle.foldheron.specs.Answers.{number, check-values, check-owed, begun-values, begun-owed, state-owed, absent-part, part-owed, part-in}
+use Rattle.foldheron.specs.Answers.{number, check-values, check-owed, begun-values, begun-owed, state-owed, absent-part, part-owed, part-lies}
+use Rattle.foldheron.specs.Parts.{LiesAt}
 use Rattle.foldheron.specs.declared.Why.{Why}
 use Rattle.foldheron.specs.declared.Why.the-variants.{Broken, Kind, Edition, Limit, Signal, Exit, Shape, Loop, State, Clash, Input, Room, NotConstructive, Index}
 use Rattle.foldheron.specs.declared.Checked.{Checked}
@@ -156,10 +158,10 @@ pub no-part-within : (b : List ℕ) {p : Part} {n at : ℕ} → p ≡ absent-par
 no-part-within b {p} e = let o : p .offset ≡ 0 = ap (λ (q : Part). q .offset) e in let s : p .size ≡ 0 = ap (λ (q : Part). q .size) e in omega arith
 
 -- The part as it is cut out of the block.
-pub part-cut : (b : List ℕ) {p q : Part} → p ≡ q → take (p .offset + p .size - p .offset) (drop (p .offset) b) ≡ part-in b q
-part-cut b {p} {q} e =
+pub part-cut : (r b : RefT (List ℕ)) {p q : Part} → p ≡ q → LiesAt r b (p .offset) (p .offset + p .size - p .offset) → part-lies r b q
+part-cut r b {p} {q} e l =
     let d : p .offset + p .size - p .offset ≡ p .size = omega arith in
-    ap (λ (n : ℕ). take n (drop (p .offset) b)) d ∙ ap (part-in b) e
+    subst (part-lies r b) e (subst (LiesAt r b (p .offset)) d l)
 
 -- Different answers have different values: an answer's number and values give the answer back.
 why-of : ℕ → Why

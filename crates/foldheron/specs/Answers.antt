@@ -3,7 +3,8 @@ use mathlib.Core.Bool.{cond}
 use mathlib.Core.List.{List, [], _∷_}
 use Prim.Native.Nat.{ℕ}
 use lib.Dec.{eqb, ltb}
-use lib.ListN.{length, take, drop}
+use lib.ListN.{length}
+use denote.Ref.{RefT}
 use Rattle.rules.specs.States.{fresh}
 use Rattle.block.specs.Format.{Reading, good, turned-down, preorder, numbered, bytes, offset}
 use Rattle.records.specs.StateRecord.{state-record}
@@ -14,6 +15,7 @@ use Rattle.foldheron.specs.declared.Checked.the-variants.{Good, Refused}
 use Rattle.foldheron.specs.declared.Begun.{Begun}
 use Rattle.foldheron.specs.declared.Begun.the-variants.{Fresh, TurnedDown}
 use Rattle.foldheron.specs.declared.Part.{Part}
+use Rattle.foldheron.specs.Parts.{LiesAt}
 
 -- The numbers given back when a call is turned down.
 unfoldable pub number : Why → ℕ
@@ -68,9 +70,10 @@ part-owed (good g) n =
     (absent-part 14 0)
 part-owed (turned-down k at) n = absent-part k at
 
--- The bytes of a part, and its values.
-abbrev pub part-in : List ℕ → Part → List ℕ
-part-in block p = take (p .size) (drop (p .offset) block)
+-- What is handed back lies in the lent block where the part is owed; a refusal's, which is empty, at the block's first byte.
+abbrev pub part-lies : RefT (List ℕ) → RefT (List ℕ) → Part → Type 0
+part-lies r block p = LiesAt r block (p .offset) (p .size)
 
+-- The values of a part.
 abbrev pub part-values : Part → List ℕ
 part-values p = p .number ∷ p .place ∷ p .offset ∷ p .size ∷ []

@@ -14,7 +14,7 @@ instant-told (Answered r) = record {
   absent-outputs = 0;
   undecided-outputs = 0;
   rounds = r .rounds;
-  code = r .code;
+  code = r .code .0;
   active = r .active;
 }
 instant-told (NotConstructive d) = record {

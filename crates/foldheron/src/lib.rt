@@ -3,6 +3,7 @@ mod instants;
 
 pub use crate::instants::Instant;
 pub use crate::instants::Logged;
+pub use block::kinds::Code;
 use block::kinds::wide;
 use block::whole::Answer;
 pub use block::whole::Summary;
@@ -16,12 +17,13 @@ use records::log::no_room;
 use records::log::write_at_end;
 use records::state::write_state;
 ghost use mathlib.Core.Path.{_≡_};
-ghost use Prim.Native.Nat.{_+_, _≤_, _<_};
+ghost use Prim.Native.Nat.{_+_, _-_, _≤_, _<_};
 ghost use lib.ListN.{length, getD};
 ghost use Rattle.block.specs.Format.{reading};
 ghost use Rattle.reaction.specs.Instants.{told, state-after, log-after, end-after, instant-verdict, logged-verdict};
 ghost use Rattle.foldheron.specs.InstantAnswers.{instant-told};
-ghost use Rattle.foldheron.specs.Answers.{number, check-values, check-owed, begun-values, begun-owed, state-owed, absent-part, part-owed, part-in};
+ghost use Rattle.foldheron.specs.Answers.{number, check-values, check-owed, begun-values, begun-owed, state-owed, absent-part, part-owed, part-lies};
+ghost use Rattle.foldheron.specs.Parts.{LiesAt};
 
 // Why a call is turned down.
 pub enum Why {
@@ -187,9 +189,17 @@ pub fn part_of(block: &[u8], n: usize) -> Part
     }
 }
 
+// The lent bytes from start to end themselves, no copy of them.
+fn cut<'a>(lent: &'a [u8], start: usize, end: usize) -> &'a [u8]
+    requires { ⌜ (start ≤ end) × (end ≤ length (now lent)) ⌝ }
+    ensures { λ r. ⌜ LiesAt r (lent .entry) start (end - start) ⌝ }
+{
+    &lent[start..end]
+}
+
 // The part of the block that holds statement n and all below it: numbers 1 to 8, then 14; refused, an empty part.
 pub fn excerpt<'a>(block: &'a [u8], n: usize, number: &mut u16, place: &mut usize) -> &'a [u8]
-    ensures { λ r. ⌜ now r ≡ part-in (now (block .entry)) (part-owed (reading (now (block .entry))) n) ⌝ }
+    ensures { λ r. ⌜ part-lies r (block .entry) (part-owed (reading (now (block .entry))) n) ⌝ }
     ensures { λ _. ⌜ now (number .exit) ≡ part-owed (reading (now (block .entry))) n .number ⌝ }
     ensures { λ _. ⌜ now (place .exit) ≡ part-owed (reading (now (block .entry))) n .place ⌝ }
 {
@@ -198,7 +208,7 @@ pub fn excerpt<'a>(block: &'a [u8], n: usize, number: &mut u16, place: &mut usiz
     *place = part.place;
     let start = part.offset;
     let end = start + part.size;
-    &block[start..end]
+    cut(block, start, end)
 }
 
 // Runs one instant: numbers 1 to 8, then 9, 10 with the pair, 11, 13. An answered one writes the next state over the lent state; a

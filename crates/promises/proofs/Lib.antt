@@ -2,6 +2,14 @@ pub mod Records
 pub mod Telling
 pub mod Instants
 pub mod Runs
+pub mod Learnt
 pub mod Calls
-pub mod Promises
 pub mod OneAnswer
+pub mod Exists
+pub mod RecordTests
+pub mod FirstRecord
+pub mod Tests
+pub mod FirstRefusal
+pub mod LoggedRuns
+pub mod Demand1
+pub mod Promises

@@ -105,11 +105,11 @@ why-of n =
     (cond (eqb n 12) Why.Room
     Why.Index))))))))))
 
-remade : Told → Instant
+unfoldable pub remade : Told → Instant
 unfolding why-of
 remade t =
     cond (eqb (t .number) 0)
-    (Instant.Answered (record { present = t .present-outputs; code = t .code; rounds = t .rounds; active = t .active }))
+    (Instant.Answered (record { present = t .present-outputs; code = record { 0 = t .code }; rounds = t .rounds; active = t .active }))
     (cond (eqb (t .number) 13)
     (Instant.NotConstructive (record { present = t .present-outputs; absent = t .absent-outputs; undecided = t .undecided-outputs; rounds = t .rounds }))
     (cond (eqb (t .number) 10) (Instant.Clash (t .first) (t .second)) (Instant.Refused (why-of (t .number)) (t .place))))

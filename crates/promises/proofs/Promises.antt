@@ -1,35 +1,51 @@
--- Demand 3 on the caller's bytes: for every block that `check` finds good, every state record that is found legal and every run of declared
--- input sets, each answered instant of the library is the only coherent reaction, and the state that it wrote is legal for the block. Each
--- is proved in the file that the `use` lines name: a good reading gives the conditions on the tree, no test of the call then fails, and
--- demand 3 of the rules says the rest. Assumes nothing.
-use mathlib.Core.Path.{_≡_, ap, _∙_, subst⁻¹}
-use mathlib.Core.List.{List, [], _∷_, map}
+-- Demand 3 on the caller's bytes, as a caller sees it: `check` answered Good, `fresh` wrote this record, and then calls of `instant` are made
+-- with declared input sets. Each answered one is the only coherent reaction, and the state that it wrote is legal for the block. What a call
+-- answers and leaves is known by its own contract (`specs/Calls`). Each theorem is proved in the file that the `use` lines name: Good gives the
+-- conditions on the tree, no test of the call then fails, and demand 3 of the rules says the rest. Assumes nothing.
+use mathlib.Core.Path.{_≡_}
+use mathlib.Core.List.{List, map}
 use Prim.Native.Nat.{ℕ, _+_, _*_, _≤_}
 use lib.ListN.{length}
-use borrow.Author.Tests.{eq-eqb}
 use Rattle.rules.specs.States.{State, fresh, Legal}
 use Rattle.theorems.specs.Checked.{Checked}
 use Rattle.theorems.specs.Traces.{run, arrives}
-use Rattle.block.specs.Format.{Good, good, Reading, reading}
+use Rattle.block.specs.Format.{Good, good, reading}
+use Rattle.block.specs.declared.whole.Summary.{Summary}
 use Rattle.records.specs.StateRecord.{state-record}
 use Rattle.reaction.specs.Instants.{block-of, told-reaction, instant-verdict, logged-verdict}
+use Rattle.foldheron.specs.declared.Checked.the-variants.{Good as GoodOne}
+use Rattle.foldheron.specs.declared.Begun.the-variants.{Fresh}
 use Rattle.foldheron.specs.declared.instants.Instant.{Instant}
 use Rattle.foldheron.specs.declared.instants.Logged.{Logged}
 use Rattle.foldheron.specs.InstantAnswers.{instant-told}
-use Rattle.foldheron.specs.Answers.{begun-owed, state-owed}
-use Rattle.promises.specs.Promised.{Holds, Inputs, PromisedAnswer, Promised}
+use Rattle.promises.specs.Promised.{ReadAs, Holds, Inputs, PromisedAnswer, Promised, PromisedLogged, PromisedCalls}
 use Rattle.promises.specs.Runs.{verdicts, bytes-left, logged-verdicts, logged-bytes-left, numbers, sets, PromisedRun}
-use Rattle.promises.specs.Calls.{Called, Calls, CalledWithLog, PromisedLogged}
+use Rattle.promises.specs.Calls.{CheckCalled, FreshCalled, Called, Calls, CalledWithLog, LoggedCalls}
 use Rattle.promises.proofs.Records.{checked, held-is-legal, legal-is-held}
 use Rattle.promises.proofs.Instants.{promised}
 use Rattle.promises.proofs.Runs.{promised-run, same-verdict, same-run}
-use Rattle.promises.proofs.Calls.{call, calls, call-with-log}
+use Rattle.promises.proofs.Calls.{good-is-read, fresh-is-held, call, calls, calls-keep, call-with-log}
+use Rattle.promises.proofs.LoggedRuns.{without-log}
 
--- The one hypothesis on a block is that the check's own definition finds it good.
-module _ (b : List ℕ) (g : Good) (e : reading b ≡ good g) where
+-- The one hypothesis on a block is that `check` answered Good to it.
+module _ (b : List ℕ) (said : Summary) (good-answer : CheckCalled b (GoodOne said)) where
+  -- Then its bytes have a good reading, which declares and counts what was said.
+  pub a-good-block-is-read : ReadAs b said
+  a-good-block-is-read = good-is-read b said good-answer
+
+  abbrev g : Good
+  g = good-is-read b said good-answer .block
+
+  e : reading b ≡ good g
+  e = good-is-read b said good-answer .its-reading
+
   -- What demand 3 asks of a tree follows from it.
   pub good-is-checked : Checked (block-of g)
   good-is-checked = checked b g e
+
+  -- The record that `fresh` wrote is found legal, and holds the fresh state.
+  pub fresh-writes-a-legal-record : (s s′ : List ℕ) → FreshCalled b s Fresh s′ → Holds g s′ fresh
+  fresh-writes-a-legal-record = fresh-is-held b g e
 
   -- A record that is found legal holds a legal state, and every legal state's record is found legal.
   pub found-legal-is-legal : (s : List ℕ) (st : State) → Holds g s st → Legal (g .body) st
@@ -38,29 +54,24 @@ module _ (b : List ℕ) (g : Good) (e : reading b ≡ good g) where
   pub legal-is-found-legal : (st : State) → Legal (g .body) st → Holds g (state-record st) st
   legal-is-found-legal = legal-is-held b g e
 
-  -- `fresh` answers 0 and writes a record that is found legal, over any 22 bytes.
-  pub fresh-writes-a-legal-record : (s : List ℕ) → length s ≡ 22
-      → (begun-owed (reading b) s ≡ 0 ∷ 0 ∷ []) × Holds g (state-owed (reading b) s) fresh
-  unfolding begun-owed state-owed Legal
-  fresh-writes-a-legal-record s l =
-      let q : state-owed (good g) s ≡ state-record fresh = simp (eq-eqb (length s) 22 l) in (
-        ap (λ (x : Reading). begun-owed x s) e ∙ simp (eq-eqb (length s) 22 l),
-        subst⁻¹ (λ (x : List ℕ). Holds g x fresh) (ap (λ (x : Reading). state-owed x s) e ∙ q) (legal-is-held b g e fresh tt),
-      )
+  -- From the record that `fresh` wrote, over calls of `instant` one after the other: each answered one is the only coherent reaction, told and
+  -- written as a legal state, or 13 is told and every byte kept;
+  module _ (s s₀ : List ℕ) (written : FreshCalled b s Fresh s₀) (ws : List (Inputs g)) (rs : List Instant) (s′ : List ℕ) (made : Calls b s₀ (numbers ws) rs s′) where
+    pub from-fresh-each-answer-is-the-only-reaction-or-13 : PromisedCalls g s₀ fresh ws rs s′
+    from-fresh-each-answer-is-the-only-reaction-or-13 = calls-keep b g e s₀ fresh (fresh-is-held b g e s s₀ written) ws rs s′ made
 
-  -- From a record that is found legal:
+    -- and together they are the run of the rules, and leave the bytes of the state that it arrives at.
+    pub from-fresh-the-calls-make-the-rules-run : (map instant-told rs ≡ map (told-reaction (block-of g)) (run (block-of g) fresh (sets ws))) × Holds g s′ (arrives (block-of g) fresh (sets ws))
+    from-fresh-the-calls-make-the-rules-run = calls b g e s₀ fresh (fresh-is-held b g e s s₀ written) ws rs s′ made
+
+  -- The same from any record that is found legal:
   module _ (s : List ℕ) (st : State) (h : Holds g s st) where
-    -- Each instant is the only coherent reaction, written as a legal state, or 13 with every byte kept.
-    pub each-instant-is-the-only-reaction-or-13 : (w : Inputs g) → Promised b g s st w
-    each-instant-is-the-only-reaction-or-13 = promised b g e s st h
-
-    -- Over every run every record on the way is found legal, and the run on bytes is the run of the rules.
-    pub each-run-is-the-rules-run : (ws : List (Inputs g)) → PromisedRun b g s st ws
-    each-run-is-the-rules-run = promised-run b g e s st h
-
-    -- So it is with whatever `instant` answers and leaves by its contract, in one call and in calls one after the other,
+    -- in one call and in calls one after the other,
     pub each-call-keeps-the-promise : (w : Inputs g) (r : Instant) (s′ : List ℕ) → Called b s (w .number) r s′ → PromisedAnswer g s st w (instant-told r) s′
     each-call-keeps-the-promise = call b g e s st h
+
+    pub each-of-the-calls-keeps-the-promise : (ws : List (Inputs g)) (rs : List Instant) (s′ : List ℕ) → Calls b s (numbers ws) rs s′ → PromisedCalls g s st ws rs s′
+    each-of-the-calls-keeps-the-promise = calls-keep b g e s st h
 
     pub the-calls-make-the-rules-run : (ws : List (Inputs g)) (rs : List Instant) (s′ : List ℕ) → Calls b s (numbers ws) rs s′
         → (map instant-told rs ≡ map (told-reaction (block-of g)) (run (block-of g) st (sets ws))) × Holds g s′ (arrives (block-of g) st (sets ws))
@@ -70,6 +81,18 @@ module _ (b : List ℕ) (g : Good) (e : reading b ≡ good g) where
     pub each-logged-call-keeps-the-promise : (w : Inputs g) (log : List ℕ) (end : ℕ) → end + 24 ≤ length log → (r : Logged) (s′ log′ : List ℕ)
         → CalledWithLog b s (w .number) log end r s′ log′ → PromisedLogged g s st w log end r s′ log′
     each-logged-call-keeps-the-promise = call-with-log b g e s st h
+
+    pub each-of-the-logged-calls-keeps-the-promise : (ws : List (Inputs g)) (rs : List Logged) (log log′ : List ℕ) (end end′ : ℕ) (s′ : List ℕ)
+        → end + 24 * length (numbers ws) ≤ length log → LoggedCalls b s log end (numbers ws) rs s′ log′ end′ → PromisedCalls g s st ws (map (λ r. r .answer) rs) s′
+    each-of-the-logged-calls-keeps-the-promise ws rs log log′ end end′ s′ room made = calls-keep b g e s st h ws (map (λ r. r .answer) rs) s′ (without-log b made room)
+
+    -- Behind it: each instant is the only coherent reaction, written as a legal state, or 13 with every byte kept;
+    pub each-instant-is-the-only-reaction-or-13 : (w : Inputs g) → Promised b g s st w
+    each-instant-is-the-only-reaction-or-13 = promised b g e s st h
+
+    -- over every run every record on the way is found legal, and the run on bytes is the run of the rules.
+    pub each-run-is-the-rules-run : (ws : List (Inputs g)) → PromisedRun b g s st ws
+    each-run-is-the-rules-run = promised-run b g e s st h
 
 -- With room in the log an instant with a log is the one without, and so is a run with room for a record each.
 pub with-room-the-same-instant : (log : List ℕ) (end : ℕ) → end + 24 ≤ length log → (b s : List ℕ) (w : ℕ) → logged-verdict b s w log end ≡ instant-verdict b s w

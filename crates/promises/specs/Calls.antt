@@ -1,34 +1,86 @@
--- Calls of the library by their contracts, which settle each answer and every lent byte. Assumes nothing.
-use mathlib.Core.Path.{_≡_}
+-- Calls of the library, each by its function's own contract: `Learnt` is what the contract lets a caller learn of a call. It is made from the
+-- clauses in `foldheron/src`, so nothing is written a second time here, and a clause that a contract loses is lost here too. Assumes nothing.
+-- A further call takes two lines here and two in `proofs/Learnt`. Here it is `Learnt` of its function, of the arguments, the result and the
+-- arguments at exit, each in the order of the parameters; a lent slice or number is `at i holds x`, with x′ for x at exit where it may be written.
+use mathlib.Core.Bool.{cond}
 use mathlib.Core.List.{List, [], _∷_}
 use Prim.Native.Nat.{ℕ}
-use Rattle.block.specs.Format.{Good}
-use Rattle.rules.specs.States.{State}
-use Rattle.reaction.specs.Instants.{block-of, told, state-after, log-by, log-after, end-by, end-after, instant-verdict, logged-verdict}
+use lib.Dec.{eqb}
+use contract.Lifetimes.{Lfts}
+use denote.Ref.{RefT}
+use Rattle.foldheron.specs.declared.Why.{Why}
+use Rattle.foldheron.specs.declared.Checked.{Checked}
+use Rattle.foldheron.specs.declared.Begun.{Begun}
+use Rattle.foldheron.specs.declared.Part.{Part}
 use Rattle.foldheron.specs.declared.instants.Instant.{Instant}
 use Rattle.foldheron.specs.declared.instants.Logged.{Logged}
 use Rattle.foldheron.specs.InstantAnswers.{instant-told}
-use Rattle.promises.specs.Promised.{Inputs, rules-answer, PromisedAnswer}
+use Rattle.foldheron.proofs.number_of.Reads as number_of
+use Rattle.foldheron.proofs.check.Reads as check
+use Rattle.foldheron.proofs.fresh.Reads as fresh
+use Rattle.foldheron.proofs.part_of.Reads as part_of
+use Rattle.foldheron.proofs.excerpt.Reads as excerpt
+use Rattle.foldheron.proofs.instant.Reads as instant
+use Rattle.foldheron.proofs.instant_logged.Reads as instant_logged
 
--- A call of `instant` on block b, state's bytes s and input set w: it answers r and leaves the state's bytes s′.
+-- Where something lent lies in memory, and a reference to what it holds.
+pub record Place : Type 0 where
+  pub ptr : ℕ × ℕ
+  pub name : ℕ
+
+infixl 20 _holds_
+abbrev pub _holds_ : {X : Type 0} → Place → X → RefT X
+p holds x = record { ptr = p .ptr; name = p .name; now = x }
+
+-- A call with n lifetimes was made, wherever what is lent lies.
+pub record Call (n : ℕ) (Learnt : Lfts n → (ℕ → Place) → Type 0) : Type 0 where
+  pub lifetimes : Lfts n
+  pub places : ℕ → Place
+  pub learnt : Learnt lifetimes places
+
+-- `check` of a block's bytes b answers r.
+pub record CheckCalled (b : List ℕ) (r : Checked) : Type 0 where
+  pub call : Call 1 λ κs at. check.Learnt κs (at 0 holds b, tt) r (at 0 holds b, tt)
+
+-- `fresh` for b on the lent bytes s answers r and leaves s′.
+pub record FreshCalled (b s : List ℕ) (r : Begun) (s′ : List ℕ) : Type 0 where
+  pub call : Call 2 λ κs at. fresh.Learnt κs (at 0 holds b, (at 1 holds s, tt)) r (at 0 holds b, (at 1 holds s′, tt))
+
+-- `instant` on block b, state's bytes s and input set w answers r and leaves the state's bytes s′.
 pub record Called (b s : List ℕ) (w : ℕ) (r : Instant) (s′ : List ℕ) : Type 0 where
-  pub answers : instant-told r ≡ told (instant-verdict b s w)
-  pub leaves : s′ ≡ state-after s (instant-verdict b s w)
+  pub call : Call 2 λ κs at. instant.Learnt κs (at 0 holds b, (at 1 holds s, (w, tt))) r (at 0 holds b, (at 1 holds s′, (w, tt)))
 
--- Calls one after the other, each on the state's bytes that the call before left.
+-- `instant_logged`, with a log and its end besides, leaves the log's bytes log′ too.
+pub record CalledWithLog (b s : List ℕ) (w : ℕ) (log : List ℕ) (end : ℕ) (r : Logged) (s′ log′ : List ℕ) : Type 0 where
+  pub call : Call 3 λ κs at.
+      instant_logged.Learnt κs (at 0 holds b, (at 1 holds s, (w, (at 2 holds log, (end, tt))))) r (at 0 holds b, (at 1 holds s′, (w, (at 2 holds log′, (end, tt)))))
+
+-- `part_of` statement n of b answers r.
+pub record PartCalled (b : List ℕ) (n : ℕ) (r : Part) : Type 0 where
+  pub call : Call 1 λ κs at. part_of.Learnt κs (at 0 holds b, (n, tt)) r (at 0 holds b, (n, tt))
+
+-- `excerpt` of statement n of b hands back a part with these bytes, and leaves the number k and the place p in the two that are lent for them.
+pub record ExcerptCalled (b : List ℕ) (n : ℕ) (part : List ℕ) (k p : ℕ) : Type 0 where
+  pub number-before : ℕ
+  pub place-before : ℕ
+  pub call : Call 3 λ κs at.
+      excerpt.Learnt κs (at 0 holds b, (n, (at 1 holds number-before, (at 2 holds place-before, tt)))) (at 3 holds part) (at 0 holds b, (n, (at 1 holds k, (at 2 holds p, tt))))
+
+-- `number_of` a refusal answers k.
+pub record NumberCalled (why : Why) (k : ℕ) : Type 0 where
+  pub call : Call 0 λ κs at. number_of.Learnt κs (why, tt) k (why, tt)
+
+-- Calls of `instant` one after the other, each on the state's bytes that the call before left.
 pub data Calls (b : List ℕ) : List ℕ → List ℕ → List Instant → List ℕ → Type 0 where
   no-call : {s : List ℕ} → Calls b s [] [] s
   one-more : {s s₁ s′ ws : List ℕ} {w : ℕ} {r : Instant} {rs : List Instant} → Called b s w r s₁ → Calls b s₁ ws rs s′ → Calls b s (w ∷ ws) (r ∷ rs) s′
 
--- A call of `instant_logged`, with a log and its end besides: it leaves the log's bytes log′.
-pub record CalledWithLog (b s : List ℕ) (w : ℕ) (log : List ℕ) (end : ℕ) (r : Logged) (s′ log′ : List ℕ) : Type 0 where
-  pub answers : instant-told (r .answer) ≡ told (logged-verdict b s w log end)
-  pub ends : r .end ≡ end-after end (logged-verdict b s w log end)
-  pub leaves : s′ ≡ state-after s (logged-verdict b s w log end)
-  pub logs : log′ ≡ log-after log end w (logged-verdict b s w log end)
+-- The end that a caller goes on from: the new one after an answer, and its own after a refusal.
+unfoldable pub went-on : ℕ → Logged → ℕ
+went-on end r = cond (eqb (instant-told (r .answer) .number) 0) (r .end) end
 
--- What is promised of it where the log has room: the answer as without a log, and the log and its end by the rules' answer.
-pub record PromisedLogged (g : Good) (s : List ℕ) (st : State) (w : Inputs g) (log : List ℕ) (end : ℕ) (r : Logged) (s′ log′ : List ℕ) : Type 0 where
-  pub answer : PromisedAnswer g s st w (instant-told (r .answer)) s′
-  pub end-is : r .end ≡ end-by end (rules-answer g st w)
-  pub log-is : log′ ≡ log-by log end (w .number) (block-of g) (rules-answer g st w)
+-- Calls of `instant_logged` one after the other, each on the bytes of state and log that the call before left: from s, log and end to s′, log′ and end′.
+pub data LoggedCalls (b : List ℕ) : List ℕ → List ℕ → ℕ → List ℕ → List Logged → List ℕ → List ℕ → ℕ → Type 0 where
+  no-call : {s log : List ℕ} {end : ℕ} → LoggedCalls b s log end [] [] s log end
+  one-more : {s s₁ s′ log log₁ log′ ws : List ℕ} {end end′ w : ℕ} {r : Logged} {rs : List Logged} → CalledWithLog b s w log end r s₁ log₁
+      → LoggedCalls b s₁ log₁ (went-on end r) ws rs s′ log′ end′ → LoggedCalls b s log end (w ∷ ws) (r ∷ rs) s′ log′ end′

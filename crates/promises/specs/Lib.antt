@@ -1,3 +1,6 @@
 pub mod Promised
 pub mod Runs
 pub mod Calls
+pub mod Tests
+pub mod FirstRecord
+pub mod Demand1

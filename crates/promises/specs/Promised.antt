@@ -1,7 +1,7 @@
 -- What is promised of one instant of a good block, on the caller's bytes. Assumes nothing.
 use mathlib.Core.Path.{_≡_}
 use mathlib.Core.Bool.{Bool}
-use mathlib.Core.List.{List}
+use mathlib.Core.List.{List, [], _∷_}
 use mathlib.Core.Option.{none}
 use Prim.Native.Nat.{ℕ, _<_}
 use lib.Dec.{T}
@@ -15,10 +15,21 @@ use Rattle.rules.specs.Coherence.{world, Coherent}
 use Rattle.theorems.specs.Reactions.{OnlyReaction}
 use Rattle.theorems.specs.Traces.{InputSet, after}
 use Rattle.theorems.specs.Demand.{NotStuck}
-use Rattle.block.specs.Format.{Good}
+use Rattle.block.specs.Format.{Good, good, reading}
+use Rattle.block.specs.Told.{summary-of}
+use Rattle.block.specs.declared.whole.Summary.{Summary}
 use Rattle.records.specs.Numerals.{Bytes}
 use Rattle.records.specs.StateRecord.{state, state-record, read-state, first-clash}
-use Rattle.reaction.specs.Instants.{NOT-CONSTRUCTIVE, block-of, reacted, Told, told, state-after, instant-verdict}
+use Rattle.reaction.specs.Instants.{NOT-CONSTRUCTIVE, block-of, reacted, Told, told, state-after, log-by, end-by, instant-verdict}
+use Rattle.foldheron.specs.declared.instants.Instant.{Instant}
+use Rattle.foldheron.specs.declared.instants.Logged.{Logged}
+use Rattle.foldheron.specs.InstantAnswers.{instant-told}
+
+-- A block that `check` answered Good to, with what it said of it: the bytes have one reading, and it is good.
+pub record ReadAs (b : List ℕ) (said : Summary) : Type 0 where
+  pub block : Good
+  pub its-reading : reading b ≡ good block
+  pub its-summary : said ≡ summary-of block
 
 -- The state record of a good block is found legal: its bytes hold a state, and no two active pauses clash.
 pub record Holds (g : Good) (s : List ℕ) (st : State) : Type 0 where
@@ -76,3 +87,15 @@ pub record Promised (b : List ℕ) (g : Good) (s : List ℕ) (st : State) (w : I
   pub not-stuck : NotStuck (block-of g) st (set-of w) (rules-answer g st w)
   -- and so it is told and written.
   pub answer : PromisedAnswer g s st w (told (instant-verdict b s (w .number))) (state-after s (instant-verdict b s (w .number)))
+
+-- What is promised of an instant with a log that has room: the answer as without a log, and the log and its end by the rules' answer.
+pub record PromisedLogged (g : Good) (s : List ℕ) (st : State) (w : Inputs g) (log : List ℕ) (end : ℕ) (r : Logged) (s′ log′ : List ℕ) : Type 0 where
+  pub answer : PromisedAnswer g s st w (instant-told (r .answer)) s′
+  pub end-is : r .end ≡ end-by end (rules-answer g st w)
+  pub log-is : log′ ≡ log-by log end (w .number) (block-of g) (rules-answer g st w)
+
+-- What is promised of calls one after the other: at each of them what is promised of one, from the state that the rules arrived at.
+pub data PromisedCalls (g : Good) : List ℕ → State → List (Inputs g) → List Instant → List ℕ → Type 0 where
+  no-call : {s : List ℕ} {st : State} → Holds g s st → PromisedCalls g s st [] [] s
+  one-more : {s s₁ s′ : List ℕ} {st : State} {w : Inputs g} {ws : List (Inputs g)} {r : Instant} {rs : List Instant} → PromisedAnswer g s st w (instant-told r) s₁
+      → PromisedCalls g s₁ (after st (rules-answer g st w)) ws rs s′ → PromisedCalls g s st (w ∷ ws) (r ∷ rs) s′

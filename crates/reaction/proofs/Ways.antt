@@ -2,23 +2,21 @@
 use mathlib.Core.Path.{_≡_, refl, sym, _∙_, ap, ap₂, subst}
 use mathlib.Core.Bool.{Bool, true, false, true≢false}
 use mathlib.Core.List.{List, []}
-use mathlib.Core.Option.{Option, none, some}
-use Prim.Native.Nat.{ℕ, _+_, _%_, _^_, _≤_, _<_}
+use mathlib.Core.Option.{Option}
+use Prim.Native.Nat.{ℕ, _+_, _^_, _≤_, _<_}
 use native.Mathlib.Omega.{arith}
 use lib.Dec.{T}
 use lib.ListN.{getD}
 use mir.Val.{Fits}
 use mir.Syntax.{w64}
-use Rattle.sets.specs.Numbers.{Numbers, count, lowest}
+use Rattle.sets.specs.Numbers.{Numbers, count}
 use Rattle.sets.specs.Words.{bits, word, set-of}
 use Rattle.sets.proofs.Members.{eqb-not}
-use Rattle.sets.proofs.Counts.{lowest-some}
 use Rattle.sets.proofs.Words.{is-word}
 use Rattle.rules.specs.Statements.{Block}
-use Rattle.rules.specs.Events.{Status, present, absent, event}
-use Rattle.rules.specs.MustCan.{must, gives}
-use Rattle.rules.specs.States.{State, fresh, running, finished, phase-of, active-of, step, kept, next}
-use Rattle.rules.specs.Rounds.{outputs-with, undecided, Settled, Answer, answered, not-constructive, answer, final-of, react}
+use Rattle.rules.specs.Events.{Status, present, absent}
+use Rattle.rules.specs.States.{State, fresh, running, finished, phase-of, active-of, next}
+use Rattle.rules.specs.Rounds.{outputs-with, undecided, Answer, answered, not-constructive, react}
 use Rattle.block.specs.Table.{Table, statements}
 use Rattle.block.specs.Format.{Good, Reading, good, turned-down as fails, reading}
 use Rattle.block.specs.Told.{summary-of, answer-to, Stands, ReadWhole}
@@ -43,7 +41,7 @@ use Rattle.evaluate.specs.declared.rounds.Reacted.{Reacted}
 use Rattle.reaction.specs.declared.Reply.the-variants.{Refused, Clash, Answered, NotConstructive}
 use Rattle.reaction.specs.declared.Outcome.{Outcome}
 use Rattle.reaction.specs.Instants.{Verdict, refused, clash, reacted, INPUT, ROOM, block-of, try-inputs, try-clash, clash-tried, try-state, try-block, verdict, told-reaction, told}
-use Rattle.reaction.specs.Outcomes.{told-of, Coded, Writes, case-of, case-for, Comes, Opened, Begins}
+use Rattle.reaction.specs.Outcomes.{told-of, Writes, case-of, case-for, Comes, Opened, Begins}
 
 -- turned down
 refused-comes : (n at : ℕ) (o : Outcome) → o .reply ≡ Refused n at → Comes (refused n at) o
@@ -90,29 +88,26 @@ pub record Fitting (r : Reacted) : Type 0 where
 
 -- answered
 module _ (b : Block) (r : Reacted) (fits : Fitting r) (o : Outcome) where
-  pub answered-comes : (outs : List Status) (c : ℕ) (st : State) (n : ℕ) → evaluate.Answered b outs c st n r → c < 18
-      → o .reply ≡ Answered (record { present = r .present; code = r .code .0 % 65536; rounds = r .rounds; active = r .active })
-      → ((A : Numbers) → o .phase ≡ phase-of (next (r .code .0 % 65536) A)) → o .kept ≡ r .kept → Comes (reacted b (answered outs c st n)) o
+  pub answered-comes : (outs : List Status) (c : ℕ) (st : State) (n : ℕ) → evaluate.Answered b outs c st n r
+      → o .reply ≡ Answered (record { present = r .present; code = r .code; rounds = r .rounds; active = r .active })
+      → ((A : Numbers) → o .phase ≡ phase-of (next (r .code .0) A)) → o .kept ≡ r .kept → Comes (reacted b (answered outs c st n)) o
   unfolding told-of told Writes case-of case-for
-  answered-comes outs c st n a l e ph k = record {
+  answered-comes outs c st n a e ph k = record {
     same-case = ap case-of e;
     told-is = ap told-of e ∙ fields;
     writes = ap (state-bytes (o .phase)) k ∙ written-state st (o .phase) (r .kept) (fits .low-fits .fits) (fits .high-fits .fits) its-phase its-set;
   }
     where
-      code-is : r .code .0 % 65536 ≡ c
-      code-is = let e : r .code .0 ≡ c = a .code-is in omega arith
-
       its-set : set-of (r .kept) ≡ active-of st
       its-set = a .kept-is
 
       its-phase : o .phase ≡ phase-of st
-      its-phase = ph (set-of (r .kept)) ∙ ap (λ (x : ℕ). phase-of (next x (set-of (r .kept)))) code-is ∙ ap phase-of (sym (a .state-is))
+      its-phase = ph (set-of (r .kept)) ∙ ap (λ (x : ℕ). phase-of (next x (set-of (r .kept)))) (a .code-is) ∙ ap phase-of (sym (a .state-is))
 
       its-active : r .active ≡ count 128 (active-of st)
       its-active = a .active-is ∙ ap (count 128) (a .kept-is)
 
-      fields : told-of (Answered (record { present = r .present; code = r .code .0 % 65536; rounds = r .rounds; active = r .active })) ≡ told-reaction b (answered outs c st n)
+      fields : told-of (Answered (record { present = r .present; code = r .code; rounds = r .rounds; active = r .active })) ≡ told-reaction b (answered outs c st n)
       fields = λ i. record {
         number = 0;
         place = 0;
@@ -122,7 +117,7 @@ module _ (b : Block) (r : Reacted) (fits : Fitting r) (o : Outcome) where
         absent-outputs = 0;
         undecided-outputs = 0;
         rounds = a .stands .rounds-is i;
-        code = code-is i;
+        code = a .code-is i;
         active = its-active i;
       }
 
@@ -148,12 +143,12 @@ module _ (b : Block) (r : Reacted) (fits : Fitting r) (o : Outcome) where
       }
 
   -- by whether the code is known
-  pub known-way : (a : Answer) → evaluate.Answers b a r → Coded a → r .known ≡ true
-      → o .reply ≡ Answered (record { present = r .present; code = r .code .0 % 65536; rounds = r .rounds; active = r .active })
-      → ((A : Numbers) → o .phase ≡ phase-of (next (r .code .0 % 65536) A)) → o .kept ≡ r .kept → Comes (reacted b a) o
-  unfolding evaluate.Answers Coded
-  known-way (answered outs c st n) a l t e ph k = answered-comes outs c st n a l e ph k
-  known-way (not-constructive outs n) a l t e ph k = absurd (true≢false (sym t ∙ a .known-is))
+  pub known-way : (a : Answer) → evaluate.Answers b a r → r .known ≡ true
+      → o .reply ≡ Answered (record { present = r .present; code = r .code; rounds = r .rounds; active = r .active })
+      → ((A : Numbers) → o .phase ≡ phase-of (next (r .code .0) A)) → o .kept ≡ r .kept → Comes (reacted b a) o
+  unfolding evaluate.Answers
+  known-way (answered outs c st n) a t e ph k = answered-comes outs c st n a e ph k
+  known-way (not-constructive outs n) a t e ph k = absurd (true≢false (sym t ∙ a .known-is))
 
   pub unknown-way : (a : Answer) → evaluate.Answers b a r → r .known ≡ false
       → o .reply ≡ NotConstructive (record { present = r .present; absent = r .absent; undecided = r .undecided; rounds = r .rounds })
@@ -161,20 +156,6 @@ module _ (b : Block) (r : Reacted) (fits : Fitting r) (o : Outcome) where
   unfolding evaluate.Answers
   unknown-way (answered outs c st n) a f e = absurd (true≢false (sym (a .known-is) ∙ f))
   unknown-way (not-constructive outs n) a f e = doubted-comes outs n a e
-
--- a code that is found is one of the 18
-coded-answer : (r : Settled) (o : Option ℕ) (A : Numbers) → ((c : ℕ) → o ≡ some c → c < 18) → Coded (answer r o A)
-unfolding answer Coded
-coded-answer r none A h = tt
-coded-answer r (some c) A h = h c refl
-
-coded : (b : Block) (st : State) (ins : Numbers) → Coded (react b st ins)
-unfolding react
-coded b st ins =
-    let r = final-of b st ins in
-    let E = event b ins (r .statuses) in
-    let S = step (b .body) st in
-    coded-answer r (lowest 18 (gives must S E .codes)) (kept S E) (λ c e. lowest-some 18 (gives must S E .codes) e .0)
 
 -- what a block that was read gives: it is placed in the table, and its numbers are within bounds
 module _ {tab : Table} {s : Summary} {g : Good} (o : Opened tab s g) where
@@ -212,12 +193,12 @@ module _ {tab : Table} {s : Summary} {g : Good} (o : Opened tab s g) where
 
     pub react-way : (r : Reacted) {x : Bool} {phase : Phase} {set : List ℕ} {out : Outcome} → Begins st phase set
         → evaluate.Reacts (record { inputs = s .inputs; outputs = s .outputs; body = g .body }) phase (set-of set) (bits given) r
-        → ((b : Block) (a : Answer) → evaluate.Answers b a r → Coded a → Comes (reacted b a) out)
+        → ((b : Block) (a : Answer) → evaluate.Answers b a r → Comes (reacted b a) out)
         → x ≡ undeclared-input (s .inputs) given → x ≡ false → roomless ≡ false → Comes (try-inputs g st given roomless) out
     unfolding evaluate.Reacts
     react-way r {x} {phase} {set} {out} begins e f d u m =
         subst (λ (v : Verdict). Comes v out) (sym (all-pass g st given roomless (sym its-test ∙ sym d ∙ u) m))
-        (f (block-of g) (react (block-of g) st (bits given)) its-answer (coded (block-of g) st (bits given)))
+        (f (block-of g) (react (block-of g) st (bits given)) its-answer)
       where
         its-state : evaluate.state-of phase (set-of set) ≡ st
         its-state = sym (begins .state-is)

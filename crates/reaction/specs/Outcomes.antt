@@ -1,7 +1,7 @@
 -- How the code's reply and the words beside it stand for what an instant comes to. Assumes nothing.
 use mathlib.Core.Path.{_≡_}
 use mathlib.Core.List.{List}
-use Prim.Native.Nat.{ℕ, _<_}
+use Prim.Native.Nat.{ℕ}
 use Rattle.sets.specs.Words.{set-of}
 use Rattle.rules.specs.States.{State, active-of}
 use Rattle.rules.specs.Rounds.{Answer, answered, not-constructive}
@@ -31,7 +31,7 @@ told-of (Answered r) = record {
   absent-outputs = 0;
   undecided-outputs = 0;
   rounds = r .rounds;
-  code = r .code;
+  code = r .code .0;
   active = r .active;
 }
 told-of (NotConstructive d) = record {
@@ -46,11 +46,6 @@ told-of (NotConstructive d) = record {
   code = 0;
   active = 0;
 }
-
--- An answer's code is one of the 18.
-unfoldable pub Coded : Answer → Type 0
-Coded (answered outs c st r) = c < 18
-Coded (not-constructive outs r) = Unit {0}
 
 -- Where the instant is answered, the phase and the two words make the next state's record.
 unfoldable pub Writes : Verdict → Outcome → Type 0

@@ -1,4 +1,5 @@
 // One instant on the caller's bytes: the tests in their written order, then the reaction by the rules. Nothing is written here.
+use block::kinds::Code;
 use block::whole::Answer;
 use block::whole::Summary;
 use block::whole::read_block;
@@ -24,12 +25,12 @@ ghost use Rattle.block.specs.Told.{table-of};
 ghost use Rattle.records.specs.StateRecord.{read-state};
 ghost use Rattle.evaluate.specs.Reacts.{Answers};
 ghost use Rattle.reaction.specs.Instants.{reacted, block-of, verdict, try-inputs, try-state, clash-tried};
-ghost use Rattle.reaction.specs.Outcomes.{Coded, Comes, Opened, Begins};
+ghost use Rattle.reaction.specs.Outcomes.{Comes, Opened, Begins};
 
 // An answered instant: the present outputs as bits by signal number, the code, the rounds, how many pauses are active afterwards.
 pub struct Reaction {
     pub present: u64,
-    pub code: u16,
+    pub code: Code,
     pub rounds: u16,
     pub active: u32,
 }
@@ -69,19 +70,19 @@ fn refused(number: u16, place: usize) -> Outcome
 }
 
 // The phase of the next state: running after code 1, else finished.
-fn phase_after(code: u16) -> u16
-    ensures { λ r. ⌜ ((A : Numbers) → r ≡ phase-of (next code A)) ⌝ }
+fn phase_after(code: Code) -> u16
+    ensures { λ r. ⌜ ((A : Numbers) → r ≡ phase-of (next (code .0) A)) ⌝ }
 {
-    if code == 1 { 1 } else { 2 }
+    if code.0 == 1 { 1 } else { 2 }
 }
 
 // The rules' reaction as a reply.
 fn of_reaction(r: Reacted) -> Outcome
-    ensures { λ o. ⌜ ((b : Block) (a : rules.Answer) → Answers b a r → Coded a → Comes (reacted b a) o) ⌝ }
+    ensures { λ o. ⌜ ((b : Block) (a : rules.Answer) → Answers b a r → Comes (reacted b a) o) ⌝ }
 {
     if r.known {
         let kept = r.kept;
-        let code = (r.code.0 % 65536) as u16;
+        let code = r.code;
         Outcome {
             reply: Reply::Answered(Reaction {
                 present: r.present,

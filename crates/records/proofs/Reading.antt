@@ -4,7 +4,7 @@ use mathlib.Core.Bool.{Bool, true, false, not, cond, _&&_}
 use mathlib.Core.List.{List, [], _∷_}
 use Prim.Native.Nat.{ℕ, _<_, _^_}
 use lib.Dec.{eqb}
-use lib.ListN.{length}
+use lib.ListN.{length, getD}
 use borrow.Author.Tests.{ne-eqb}
 use Rattle.sets.specs.Numbers.{Numbers}
 use Rattle.sets.specs.Words.{two-words}
@@ -12,7 +12,7 @@ use Rattle.sets.proofs.Words.{word-empty}
 use Rattle.rules.specs.States.{fresh, running, finished}
 use Rattle.records.specs.Numerals.{field}
 use Rattle.records.specs.StateRecord.{Found, not-a-state, state, beyond, in-phase, read-state}
-use Rattle.records.specs.Held.{held-of}
+use Rattle.records.specs.Held.{words-in, held-of}
 use Rattle.records.proofs.TwoWords.{words-low, words-high}
 
 -- The definition's choice, with the tests of the bits as Booleans.
@@ -58,8 +58,23 @@ unfolding held-of
 held-running low high l h =
     ap₂ (λ (x y : ℕ). record { phase = 1; active = x ∷ y ∷ [] }) (words-low low high l h) (words-high low high l h)
 
--- The ways through the phases.
-module _ (phase pauses low high : ℕ) (bs : List ℕ) (e : field bs 6 8 ≡ low) (f : field bs 14 8 ≡ high) where
+-- The ways through the phases, with the two words of a record.
+module _ (phase pauses : ℕ) (ws bs : List ℕ) (q : ws ≡ words-in bs) where
+  abbrev low : ℕ
+  low = getD ws 0 0
+
+  abbrev high : ℕ
+  high = getD ws 1 0
+
+  e : field bs 6 8 ≡ low
+  e = sym (ap (λ (l : List ℕ). getD l 0 0) q)
+
+  f : field bs 14 8 ≡ high
+  f = sym (ap (λ (l : List ℕ). getD l 1 0) q)
+
+  both : ws ≡ low ∷ high ∷ []
+  both = q ∙ ap₂ (λ (x y : ℕ). x ∷ y ∷ []) e f
+
   module _ {clear : Bool} (n : clear ≡ (eqb low 0 && eqb high 0)) where
     so : in-phase phase pauses bs ≡ choose phase clear (beyond pauses (two-words 64 low high)) (two-words 64 low high)
     so =
@@ -86,9 +101,10 @@ module _ (phase pauses low high : ℕ) (bs : List ℕ) (e : field bs 6 8 ≡ low
           ∙ set-other (eqb phase 0) (eqb phase 1) (eqb phase 2) (beyond pauses (two-words 64 low high)) (two-words 64 low high) (far-refused (eqb phase 1) (sym b ∙ p)))
 
       pub by-running : low < 2 ^ 64 → high < 2 ^ 64 → clear ≡ false → far ≡ false → phase ≡ 1
-          → record { phase = 1; active = low ∷ high ∷ [] } ≡ held-of (in-phase phase pauses bs)
+          → record { phase = 1; active = ws } ≡ held-of (in-phase phase pauses bs)
       by-running l h t p z =
-          sym (ap held-of (so ∙ ap₂ (λ (x : Bool) (k : ℕ). choose k x (beyond pauses (two-words 64 low high)) (two-words 64 low high)) t z
+          ap (λ (l : List ℕ). record { phase = 1; active = l }) both
+          ∙ sym (ap held-of (so ∙ ap₂ (λ (x : Bool) (k : ℕ). choose k x (beyond pauses (two-words 64 low high)) (two-words 64 low high)) t z
           ∙ ap (λ (x : Bool). choose 1 false x (two-words 64 low high)) (sym b ∙ p)) ∙ held-running low high l h)
 
       pub by-other : clear ≡ false → (phase ≡ 1 → ⊥) → not-a-state ≡ in-phase phase pauses bs

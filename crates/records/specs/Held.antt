@@ -5,13 +5,17 @@ use lib.ListN.{getD}
 use Rattle.sets.specs.Numbers.{Numbers}
 use Rattle.sets.specs.Words.{word}
 use Rattle.rules.specs.States.{phase-of, active-of}
-use Rattle.records.specs.Numerals.{in-bytes}
+use Rattle.records.specs.Numerals.{in-bytes, field}
 use Rattle.records.specs.StateRecord.{Found, not-a-state, state, upper}
 use Rattle.records.specs.declared.state.Held.{Held}
 
 -- The two words of a set.
 abbrev pub words-of : Numbers → List ℕ
 words-of A = word 64 A ∷ word 64 (upper A) ∷ []
+
+-- The two words in a state record.
+abbrev pub words-in : List ℕ → List ℕ
+words-in bs = field bs 6 8 ∷ field bs 14 8 ∷ []
 
 -- What is found in a state record, as the code holds it: the phase's number and the two words, and phase 3 for no state.
 unfoldable pub held-of : Found → Held

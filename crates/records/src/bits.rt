@@ -3,7 +3,7 @@ ghost use mathlib.Core.Path.{_≡_};
 ghost use mathlib.Core.Bool.{not};
 ghost use Prim.Native.Nat.{_/_, _<_, _^_};
 ghost use lib.Dec.{eqb};
-ghost use Rattle.sets.specs.Words.{two-words, set-of};
+ghost use Rattle.sets.specs.Words.{set-of};
 ghost use Rattle.records.specs.StateRecord.{beyond, undeclared-input};
 
 // A bit is set from a place on; from 64 on there is none, and no shift by the width.
@@ -25,16 +25,16 @@ pub fn input_over(inputs: u16, given: u64) -> bool
 }
 
 // A bit of the 128 is set at or above the pause count.
-pub(crate) fn bit_beyond(pauses: u16, low: u64, high: u64) -> bool
-    ensures { λ r. ⌜ r ≡ beyond pauses (two-words 64 low high) ⌝ }
+pub(crate) fn bit_beyond(pauses: u16, active: [u64; 2]) -> bool
+    ensures { λ r. ⌜ r ≡ beyond pauses (set-of active) ⌝ }
 {
     if pauses < 64 {
-        if bit_from(low, pauses) {
+        if bit_from(active[0], pauses) {
             return true;
         }
-        high != 0
+        active[1] != 0
     } else {
-        bit_from(high, pauses - 64)
+        bit_from(active[1], pauses - 64)
     }
 }
 

@@ -1,5 +1,6 @@
 // The log record: 24 bytes written from the log's present end on.
 use crate::numerals::put_number;
+use block::kinds::Code;
 ghost use mathlib.Core.Path.{_≡_};
 ghost use mathlib.Core.List.{List, _++_};
 ghost use Prim.Native.Nat.{ℕ, _+_, _≤_};
@@ -13,16 +14,16 @@ pub fn no_room(len: usize, end: usize) -> bool
     if len < end { true } else { len - end < 24 }
 }
 
-// A record at the front of the lent part; what lies behind it stays.
-pub(crate) fn write_record(part: &mut [u8], inputs: u64, present: u64, code: u16, rounds: u16)
+// A record at the front of the lent part; what lies behind it stays. Here the code becomes a number.
+pub(crate) fn write_record(part: &mut [u8], inputs: u64, present: u64, code: Code, rounds: u16)
     requires { ⌜ 24 ≤ length (now part) ⌝ }
-    ensures { λ _. ⌜ now (part .exit) ≡ log-record (record { inputs = inputs; present = present; code = code; rounds = rounds }) ++ drop 24 (now (part .entry)) ⌝ }
+    ensures { λ _. ⌜ now (part .exit) ≡ log-record (record { inputs = inputs; present = present; code = code .0; rounds = rounds }) ++ drop 24 (now (part .entry)) ⌝ }
 {
     put_number(part, 0, 2, 24);
     put_number(part, 2, 2, 3);
     put_number(part, 4, 8, inputs);
     put_number(part, 12, 8, present);
-    put_number(part, 20, 2, code as u64);
+    put_number(part, 20, 2, code.0 as u64);
     put_number(part, 22, 2, rounds as u64);
 }
 
@@ -32,11 +33,11 @@ pub fn write_at_end(
     end: usize,
     inputs: u64,
     present: u64,
-    code: u16,
+    code: Code,
     rounds: u16,
 ) -> usize
     requires { ⌜ end + 24 ≤ length (now log) ⌝ }
-    ensures { λ r. ⌜ (r ≡ end + 24) × (now (log .exit) ≡ logged-at (now (log .entry)) end (record { inputs = inputs; present = present; code = code; rounds = rounds })) ⌝ }
+    ensures { λ r. ⌜ (r ≡ end + 24) × (now (log .exit) ≡ logged-at (now (log .entry)) end (record { inputs = inputs; present = present; code = code .0; rounds = rounds })) ⌝ }
 {
     write_record(&mut log[end..], inputs, present, code, rounds);
     end + 24

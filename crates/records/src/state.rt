@@ -7,10 +7,9 @@ ghost use mathlib.Core.Bool.{_&&_};
 ghost use mathlib.Core.List.{List};
 ghost use Prim.Native.Nat.{ℕ};
 ghost use lib.Dec.{eqb};
-ghost use lib.ListN.{length};
-ghost use Rattle.records.specs.Numerals.{field};
+ghost use lib.ListN.{length, getD};
 ghost use Rattle.records.specs.StateRecord.{not-a-state, in-phase, read-state};
-ghost use Rattle.records.specs.Held.{held-of, state-bytes};
+ghost use Rattle.records.specs.Held.{words-in, held-of, state-bytes};
 
 // A state by its phase's number, 0 fresh, 1 running, 2 finished, and its active pauses; phase 3 is no state.
 pub struct Held {
@@ -29,17 +28,21 @@ fn no_state() -> Held
 }
 
 // No pause is active.
-fn no_bit(low: u64, high: u64) -> bool
-    ensures { λ r. ⌜ r ≡ (eqb low 0 && eqb high 0) ⌝ }
+fn no_bit(active: [u64; 2]) -> bool
+    ensures { λ r. ⌜ r ≡ (eqb (getD active 0 0) 0 && eqb (getD active 1 0) 0) ⌝ }
 {
-    if low == 0 { high == 0 } else { false }
+    if active[0] == 0 {
+        active[1] == 0
+    } else {
+        false
+    }
 }
 
 // What the phase asks of the bits: fresh and finished have none, running has one and none beyond the pauses.
-fn by_phase(phase: u64, pauses: u16, low: u64, high: u64) -> Held
-    ensures { λ r. ⌜ ((bs : List ℕ) → field bs 6 8 ≡ low → field bs 14 8 ≡ high → r ≡ held-of (in-phase phase pauses bs)) ⌝ }
+fn by_phase(phase: u64, pauses: u16, active: [u64; 2]) -> Held
+    ensures { λ r. ⌜ ((bs : List ℕ) → active ≡ words-in bs → r ≡ held-of (in-phase phase pauses bs)) ⌝ }
 {
-    if no_bit(low, high) {
+    if no_bit(active) {
         if phase == 0 {
             return Held {
                 phase: 0,
@@ -54,14 +57,11 @@ fn by_phase(phase: u64, pauses: u16, low: u64, high: u64) -> Held
         }
         return no_state();
     }
-    if bit_beyond(pauses, low, high) {
+    if bit_beyond(pauses, active) {
         return no_state();
     }
     if phase == 1 {
-        return Held {
-            phase: 1,
-            active: [low, high],
-        };
+        return Held { phase: 1, active };
     }
     no_state()
 }
@@ -80,9 +80,8 @@ pub fn read_state(state: &[u8], pauses: u16) -> Held
         return no_state();
     }
     let phase = number_at(state, 4, 2);
-    let low = number_at(state, 6, 8);
-    let high = number_at(state, 14, 8);
-    by_phase(phase, pauses, low, high)
+    let active = [number_at(state, 6, 8), number_at(state, 14, 8)];
+    by_phase(phase, pauses, active)
 }
 
 // A state's record over the 22 lent bytes.

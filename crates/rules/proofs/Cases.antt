@@ -179,6 +179,19 @@ present-resumes = row 1 1 (present? 0 then (pause 0 ⨾ emit 1) else nothing) (a
 suspend-holds : Row
 suspend-holds = row 1 1 (suspend (pause 0 ⨾ emit 1) on 0) (active-on (0 ∷ [])) (0 ∷ []) (waits (absent ∷ []) 2 (0 ∷ []))
 
+-- and only its own, not the whole active set; I is 0
+suspend-holds-its-own : Row
+suspend-holds-its-own = row 1 0 ((suspend (pause 0) on 0) parallel pause 1) (active-on (0 ∷ 1 ∷ [])) (0 ∷ []) (waits [] 1 (0 ∷ []))
+
+-- a parallel left by an exit, and the trap around it, keep no pause: started, beside a pause that is kept, and resumed, before one
+exit-keeps-none : Row
+exit-keeps-none = row 0 0 (trap (exit (depth 0) parallel pause 0) parallel pause 1) fresh [] (waits [] 1 (1 ∷ []))
+
+resumed-exit-keeps-none : Row
+resumed-exit-keeps-none = row 0 0
+    (trap ((pause 0 ⨾ exit (depth 0)) parallel (pause 1 ⨾ pause 2)) ⨾ pause 3)
+    (active-on (0 ∷ 1 ∷ [])) [] (waits [] 1 (3 ∷ []))
+
 -- two pauses in parallel arms complete with 0, and an arm that is over gives 0
 both-arms : Row
 both-arms = row 0 0 (pause 0 parallel pause 1) (active-on (0 ∷ 1 ∷ [])) [] (ends [] 1)
@@ -224,11 +237,12 @@ over : Row
 over = row 0 1 (emit 0) finished [] (ends (absent ∷ []) 2)
 
 pub table : List Row
-unfolding B C E F G H-first H-second J M N second-part-open present-opens suspend-opens restart-opens must-asks-plus suspend-may-stay suspend-starts present-resumes suspend-holds both-arms one-arm outer-trap no-output input-absent later-pause else-resumes local-present-keeps local-absent-keeps outputs-plus-1 over
+unfolding B C E F G H-first H-second J M N second-part-open present-opens suspend-opens restart-opens must-asks-plus suspend-may-stay suspend-starts present-resumes suspend-holds suspend-holds-its-own exit-keeps-none resumed-exit-keeps-none both-arms one-arm outer-trap no-output input-absent later-pause else-resumes local-present-keeps local-absent-keeps outputs-plus-1 over
 table =
     B ∷ C ∷ E ∷ F ∷ G ∷ H-first ∷ H-second ∷ J ∷ M ∷ N
     ∷ second-part-open ∷ present-opens ∷ suspend-opens ∷ restart-opens ∷ must-asks-plus ∷ suspend-may-stay
-    ∷ suspend-starts ∷ present-resumes ∷ suspend-holds ∷ both-arms ∷ one-arm ∷ outer-trap ∷ no-output
+    ∷ suspend-starts ∷ present-resumes ∷ suspend-holds ∷ suspend-holds-its-own ∷ exit-keeps-none ∷ resumed-exit-keeps-none
+    ∷ both-arms ∷ one-arm ∷ outer-trap ∷ no-output
     ∷ input-absent ∷ later-pause ∷ else-resumes ∷ local-present-keeps ∷ local-absent-keeps ∷ outputs-plus-1 ∷ over ∷ []
 
 pub worked : map answers table ≡ map (λ r. r .told) table

@@ -1,5 +1,6 @@
--- The coherence law at three blocks with one output O (signal 0): two coherent reactions, exactly one, and none. The output is
--- tried present and absent, and the execution is computed. Assumes nothing.
+-- The coherence law at three blocks with one output O (signal 0): two coherent reactions, exactly one, and none; then a local and the second
+-- instant of H. The output is tried present and absent, and the execution is computed. `CoherentTable` has more, each with all its coherent
+-- reactions. Assumes nothing.
 use mathlib.Core.Path.{_≡_, refl, sym, _∙_}
 use mathlib.Core.Logic.{_⊎_, inl, inr}
 use mathlib.Core.Bool.{Bool, true, false, true≢false, false≢true}

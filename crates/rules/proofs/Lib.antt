@@ -1,6 +1,9 @@
+pub mod AllRuns
 pub mod Cases
 pub mod CheckCases
 pub mod CoherentCases
+pub mod CoherentTable
+pub mod LawSentences
 pub mod LoopCodes
 pub mod OneCode
 pub mod RoundLaws

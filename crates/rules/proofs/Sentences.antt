@@ -26,7 +26,7 @@ abbrev given : Numbers → Numbers → Given
 given ss cs = record { signals = ss; codes = cs }
 
 -- a statement started, or resumed with a set active
-abbrev doing : Option Numbers → Stmt → Step
+abbrev pub doing : Option Numbers → Stmt → Step
 doing none p = started p
 doing (some A) p = resumed A p
 

@@ -1,4 +1,5 @@
 // The only file that names the library's calls and answers: what a run asks of them, in the run's own terms.
+use foldheron::Code;
 use foldheron::Instant;
 use foldheron::number_of;
 
@@ -13,7 +14,7 @@ pub enum Begun {
 // undecided outputs), rounds.
 pub struct Line {
     pub refusal: u16,
-    pub code: u16,
+    pub code: Code,
     pub present: u64,
     pub count: u32,
     pub rounds: u16,
@@ -32,16 +33,19 @@ pub fn begin(block: &[u8], state: &mut [u8]) -> Begun {
 pub fn react(block: &[u8], state: &mut [u8], inputs: u64) -> Line {
     let answer = foldheron::instant(block, state, inputs);
     match answer {
-        Instant::Answered(r) => Line {
-            refusal: 0,
-            code: r.code,
-            present: r.present,
-            count: r.active,
-            rounds: r.rounds,
-        },
+        Instant::Answered(r) => {
+            let code = r.code;
+            Line {
+                refusal: 0,
+                code,
+                present: r.present,
+                count: r.active,
+                rounds: r.rounds,
+            }
+        }
         Instant::NotConstructive(d) => Line {
             refusal: 13,
-            code: 0,
+            code: Code(0),
             present: d.present,
             count: d.undecided,
             rounds: d.rounds,
@@ -55,7 +59,7 @@ pub fn react(block: &[u8], state: &mut [u8], inputs: u64) -> Line {
 fn refused(number: u16) -> Line {
     Line {
         refusal: number,
-        code: 0,
+        code: Code(0),
         present: 0,
         count: 0,
         rounds: 0,

@@ -72,7 +72,7 @@ pub(crate) fn put_line(out: &mut [u8], at: usize, number: u64, line: Line) -> us
     let numbers = [
         number,
         line.refusal as u64,
-        line.code as u64,
+        line.code.0 as u64,
         line.present,
         line.count as u64,
         line.rounds as u64,

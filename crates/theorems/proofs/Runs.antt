@@ -11,22 +11,11 @@ use Rattle.rules.specs.Events.{Status, present, absent, unknown, Event, giving,
 use Rattle.rules.specs.Instant.{Step, done, stay, say, leave, test, catch, scope, chain, beside}
 use Rattle.rules.specs.MustCan.{plus, must, can, Given, choose, marked, gives}
 use Rattle.rules.specs.Coherence.{Locals, assigning, execute, LocalsAgree}
+use Rattle.rules.proofs.LawSentences.{some-locals}
 use Rattle.theorems.specs.Order.{Below, _⊑_, whole}
 use Rattle.theorems.proofs.Compare.{⊑-refl, giving-below, must-grows, can-shrinks}
 use Rattle.theorems.proofs.Exact.{FirstOrBoth, only-first, then-second, first-or-both, can-in-must}
 use Rattle.theorems.proofs.Sound.{not-both, giving-whole, sound, code-of-run}
-
--- Statuses for the locals that are not executed.
-some-locals : (p : Step) → Locals p
-some-locals done = tt
-some-locals (stay A) = tt
-some-locals (say s) = tt
-some-locals (leave d) = tt
-some-locals (test s p q) = (some-locals p, some-locals q)
-some-locals (catch p) = some-locals p
-some-locals (scope s p) = (false, some-locals p)
-some-locals (chain p q) = (some-locals p, some-locals q)
-some-locals (beside p q) = (some-locals p, some-locals q)
 
 -- What is to be shown: statuses that agree.
 abbrev pub Agreeing : Step → Numbers → Type 0

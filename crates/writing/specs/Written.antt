@@ -14,7 +14,7 @@ use Rattle.block.specs.Format.{Shape, shape, Header, Good, preorder}
 use Rattle.block.specs.Good.{Scoped, path, nested-traps, nested-locals, locals, Next}
 use Rattle.records.specs.Numerals.{in-bytes}
 
--- Operands of two bytes each, as many as the kind has.
+-- Operands of two bytes each: a kind has none or one.
 abbrev pub operand-bytes : ℕ → ℕ → List ℕ
 operand-bytes zero x = []
 operand-bytes (suc n) x = in-bytes 2 x

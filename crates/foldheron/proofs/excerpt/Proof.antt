@@ -8,6 +8,7 @@ use Rattle.foldheron.proofs.excerpt.Statement.{statement}
 use Rattle.foldheron.proofs.excerpt.Tie as tie
 use Rattle.foldheron.proofs.excerpt.Reads as reads
 use Rattle.foldheron.proofs.excerpt.Lts as lts
+use Rattle.foldheron.proofs.cut.Reads as cut-reads
 use Rattle.foldheron.proofs.part_of.Reads as part-of-reads
 
 part-of-requires : tie.Need-part-of-requires
@@ -16,19 +17,11 @@ part-of-requires c κs = search needs
 add-end : tie.Need-add-end
 add-end c = search needs
 
-sub-result : tie.Need-sub-result
-sub-result c = search needs
-
-part-result-start : tie.Need-part-result-start
-part-result-start c = search needs
-
-part-result-end : tie.Need-part-result-end
-part-result-end c = search needs
+cut-requires : tie.Need-cut-requires
+cut-requires c κs = search needs
 
 returns : tie.Need-returns
-returns c = let p = c .before .before .part-of in (part-cut _ (p .ensures .0), (ap (λ (q : Part). q .number) (p .ensures .0), ap (λ (q : Part). q .place) (p .ensures .0)))
+returns c = let p = c .before .before .part-of in (part-cut _ _ (p .ensures .0) (c .cut .ensures), (ap (λ (q : Part). q .number) (p .ensures .0), ap (λ (q : Part). q .place) (p .ensures .0)))
 
 pub excerpt-spec : {M : Type 1} → statement M
-excerpt-spec =
-    tie.close
-    (tie.spec part-of-requires add-end sub-result part-result-start part-result-end returns)
+excerpt-spec = tie.close (tie.spec part-of-requires add-end cut-requires returns)

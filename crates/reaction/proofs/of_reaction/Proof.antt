@@ -7,17 +7,14 @@ use Rattle.reaction.proofs.of_reaction.Reads as reads
 use Rattle.reaction.proofs.of_reaction.Lts as lts
 use Rattle.reaction.proofs.phase_after.Reads as phase-after-reads
 
-cast-code : tie.Need-cast-code
-cast-code c = search needs
-
 phase-after-requires : tie.Need-phase-after-requires
 phase-after-requires c κs = search needs
 
 returns : tie.Need-returns
-returns c = λ b a x l. known-way b (c .before .before .before .before .args .r) (record { present-fits = search needs; absent-fits = search needs; low-fits = search needs; high-fits = search needs }) _ a x l (c .before .before .before .if1 .taken) refl (c .phase-after .ensures) refl
+returns c = λ b a x. known-way b (c .before .before .before .before .args .r) (record { present-fits = search needs; absent-fits = search needs; low-fits = search needs; high-fits = search needs }) _ a x (c .before .before .before .if1 .taken) refl (c .phase-after .ensures) refl
 
 returns-2 : tie.Need-returns-2
-returns-2 c = λ b a x l. unknown-way b (c .before .args .r) (record { present-fits = search needs; absent-fits = search needs; low-fits = search needs; high-fits = search needs }) _ a x (c .if1 .left) refl
+returns-2 c = λ b a x. unknown-way b (c .before .args .r) (record { present-fits = search needs; absent-fits = search needs; low-fits = search needs; high-fits = search needs }) _ a x (c .if1 .left) refl
 
 pub of-reaction-spec : {M : Type 1} → statement M
-of-reaction-spec = tie.close (tie.spec cast-code phase-after-requires returns returns-2)
+of-reaction-spec = tie.close (tie.spec phase-after-requires returns returns-2)

@@ -1,5 +1,6 @@
 -- `state::read_state`: one law of Reading for each way. Assumes nothing.
-use mathlib.Core.Path.{_∙_, ap, sym}
+use mathlib.Core.Path.{_∙_, ap, ap₂, sym}
+use mathlib.Core.List.{[], _∷_}
 use denote.Ref.{now}
 use Prim.Native.Nat.{ℕ}
 use borrow.Author.Needs.{needs}
@@ -47,7 +48,7 @@ by-phase-requires c κs = search needs
 
 returns-4 : tie.Need-returns-4
 returns-4 c = let a = c .before .before .before .before .before .before .before .before .before .before .args in
-    c .by-phase .ensures (now (a .state)) (sym (c .before .before .number-at4 .ensures)) (sym (c .before .number-at5 .ensures))
+    c .by-phase .ensures (now (a .state)) (ap₂ (λ (x y : ℕ). x ∷ y ∷ []) (c .before .before .number-at4 .ensures) (c .before .number-at5 .ensures))
     ∙ ap held-of
     (ap (λ (p : ℕ). in-phase p (a .pauses) (now (a .state))) (c .before .before .before .number-at3 .ensures)
     ∙ read-whole (a .pauses) (now (a .state)) (c .before .before .before .before .before .before .before .before .if1 .left) (sym (c .before .before .before .before .before .before .before .number-at .ensures) ∙ c .before .before .before .before .before .before .if2 .left) (sym (c .before .before .before .before .before .number-at2 .ensures) ∙ c .before .before .before .before .if3 .left))

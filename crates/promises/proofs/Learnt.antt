@@ -1,0 +1,56 @@
+-- What each call's contract says, clause by clause: a contract that comes to say less no longer gives these. Each is read off the call. A
+-- further call takes the same two lines. Assumes nothing.
+use mathlib.Core.Path.{_≡_}
+use mathlib.Core.List.{List}
+use Prim.Native.Nat.{ℕ}
+use Rattle.block.specs.Format.{reading}
+use Rattle.reaction.specs.Instants.{told, state-after, log-after, end-after, instant-verdict, logged-verdict}
+use Rattle.foldheron.specs.declared.Why.{Why}
+use Rattle.foldheron.specs.declared.Checked.{Checked}
+use Rattle.foldheron.specs.declared.Begun.{Begun}
+use Rattle.foldheron.specs.declared.Part.{Part}
+use Rattle.foldheron.specs.declared.instants.Instant.{Instant}
+use Rattle.foldheron.specs.declared.instants.Logged.{Logged}
+use Rattle.foldheron.specs.InstantAnswers.{instant-told}
+use Rattle.foldheron.specs.Answers.{number, check-values, check-owed, begun-values, begun-owed, state-owed, part-owed, part-lies}
+use Rattle.promises.specs.Calls.{_holds_, CheckCalled, FreshCalled, Called, CalledWithLog, PartCalled, ExcerptCalled, NumberCalled}
+
+module _ (b : List ℕ) where
+  pub check-says : {r : Checked} → CheckCalled b r → check-values r ≡ check-owed (reading b)
+  check-says c = c .call .learnt
+
+  pub fresh-says : {s s′ : List ℕ} {r : Begun} → FreshCalled b s r s′ → (begun-values r ≡ begun-owed (reading b) s) × (s′ ≡ state-owed (reading b) s)
+  fresh-says c = c .call .learnt
+
+  pub instant-says : {s s′ : List ℕ} {w : ℕ} {r : Instant} → Called b s w r s′
+      → (instant-told r ≡ told (instant-verdict b s w)) × (s′ ≡ state-after s (instant-verdict b s w))
+  instant-says c = c .call .learnt
+
+  module _ {s s′ log log′ : List ℕ} {w end : ℕ} {r : Logged} (c : CalledWithLog b s w log end r s′ log′) where
+    pub logged-answer : instant-told (r .answer) ≡ told (logged-verdict b s w log end)
+    logged-answer = c .call .learnt .0
+
+    pub logged-end : r .end ≡ end-after end (logged-verdict b s w log end)
+    logged-end = c .call .learnt .1 .0
+
+    pub logged-state : s′ ≡ state-after s (logged-verdict b s w log end)
+    logged-state = c .call .learnt .1 .1 .0
+
+    pub logged-log : log′ ≡ log-after log end w (logged-verdict b s w log end)
+    logged-log = c .call .learnt .1 .1 .1
+
+  pub part-says : {n : ℕ} {r : Part} → PartCalled b n r → r ≡ part-owed (reading b) n
+  part-says c = c .call .learnt .0
+
+  module _ {n k p : ℕ} {part : List ℕ} (c : ExcerptCalled b n part k p) where
+    pub excerpt-lies : part-lies (c .call .places 3 holds part) (c .call .places 0 holds b) (part-owed (reading b) n)
+    excerpt-lies = c .call .learnt .0
+
+    pub excerpt-number : k ≡ part-owed (reading b) n .number
+    excerpt-number = c .call .learnt .1 .0
+
+    pub excerpt-place : p ≡ part-owed (reading b) n .place
+    excerpt-place = c .call .learnt .1 .1
+
+pub number-says : {why : Why} {k : ℕ} → NumberCalled why k → k ≡ number why
+number-says c = c .call .learnt
