@@ -10,7 +10,7 @@ use lib.ListN.{length}
 use Rattle.sets.specs.Numbers.{listed}
 use Rattle.rules.specs.Statements.{Stmt, pauses}
 use Rattle.block.specs.Table.{kind-of, operand-of, statements}
-use Rattle.block.specs.Format.{length-of, leaf, above, joined, preorder, bytes}
+use Rattle.block.specs.Format.{shape, length-of, operands-of, leaf, above, joined, preorder, bytes}
 use Rattle.block.specs.Told.{kept-operand}
 use Rattle.block.proofs.Views.{Leaf, Above, Joined, a-nothing, a-pause, an-emit, an-exit, a-suspend, a-loop, a-trap, a-local, a-present, a-sequence, a-parallel}
 
@@ -28,14 +28,14 @@ pub record Builds (k x n m size : ℕ) (ps : List ℕ) (t : Stmt) : Type 0 where
   pub its-pauses : pauses t ≡ ps
 
 pub leaf-builds : {k : ℕ} (x n : ℕ) → Leaf k → Builds k x n 0 0 (cond (eqb k 17) (n ∷ []) []) (leaf k x n)
-unfolding kind-of operand-of statements bytes preorder pauses leaf kept-operand length-of listed
+unfolding kind-of operand-of statements bytes preorder pauses leaf kept-operand shape length-of operands-of listed
 leaf-builds x n a-nothing = record { its-kind = refl; its-operand = refl; its-statements = refl; its-bytes = refl; its-pauses = refl }
 leaf-builds x n a-pause = record { its-kind = refl; its-operand = refl; its-statements = refl; its-bytes = refl; its-pauses = refl }
 leaf-builds x n an-emit = record { its-kind = refl; its-operand = refl; its-statements = refl; its-bytes = refl; its-pauses = refl }
 leaf-builds x n an-exit = record { its-kind = refl; its-operand = refl; its-statements = refl; its-bytes = refl; its-pauses = refl }
 
 pub above-builds : {k : ℕ} (x n : ℕ) (p : Stmt) → Above k → Builds k x n (statements p) (bytes (preorder p)) (pauses p) (above k x p)
-unfolding kind-of operand-of statements bytes preorder pauses above kept-operand length-of listed
+unfolding kind-of operand-of statements bytes preorder pauses above kept-operand shape length-of operands-of listed
 above-builds x n p a-suspend = record { its-kind = refl; its-operand = refl; its-statements = refl; its-bytes = refl; its-pauses = refl }
 above-builds x n p a-loop = record { its-kind = refl; its-operand = refl; its-statements = refl; its-bytes = refl; its-pauses = refl }
 above-builds x n p a-trap = record { its-kind = refl; its-operand = refl; its-statements = refl; its-bytes = refl; its-pauses = refl }
@@ -43,7 +43,28 @@ above-builds x n p a-local = record { its-kind = refl; its-operand = refl; its-s
 
 pub joined-builds : {k : ℕ} (x n : ℕ) (p q : Stmt) → Joined k
     → Builds k x n (statements p + statements q) (bytes (preorder p) + bytes (preorder q)) (pauses p ++ pauses q) (joined k x p q)
-unfolding kind-of operand-of statements bytes preorder pauses joined kept-operand length-of listed
-joined-builds x n p q a-present = record { its-kind = refl; its-operand = refl; its-statements = add-assoc 1 (statements p) (statements q); its-bytes = ap (λ (m : ℕ). 6 + m) (bytes-append (preorder p) (preorder q)); its-pauses = refl }
-joined-builds x n p q a-sequence = record { its-kind = refl; its-operand = refl; its-statements = add-assoc 1 (statements p) (statements q); its-bytes = ap (λ (m : ℕ). 4 + m) (bytes-append (preorder p) (preorder q)); its-pauses = refl }
-joined-builds x n p q a-parallel = record { its-kind = refl; its-operand = refl; its-statements = add-assoc 1 (statements p) (statements q); its-bytes = ap (λ (m : ℕ). 4 + m) (bytes-append (preorder p) (preorder q)); its-pauses = refl }
+unfolding kind-of operand-of statements bytes preorder pauses joined kept-operand shape length-of operands-of listed
+joined-builds x n p q a-present = record {
+  its-kind = refl;
+  its-operand = refl;
+  its-statements = add-assoc 1 (statements p) (statements q);
+  its-bytes = ap (λ (m : ℕ). 6 + m)
+      (bytes-append (preorder p) (preorder q));
+  its-pauses = refl;
+}
+joined-builds x n p q a-sequence = record {
+  its-kind = refl;
+  its-operand = refl;
+  its-statements = add-assoc 1 (statements p) (statements q);
+  its-bytes = ap (λ (m : ℕ). 4 + m)
+      (bytes-append (preorder p) (preorder q));
+  its-pauses = refl;
+}
+joined-builds x n p q a-parallel = record {
+  its-kind = refl;
+  its-operand = refl;
+  its-statements = add-assoc 1 (statements p) (statements q);
+  its-bytes = ap (λ (m : ℕ). 4 + m)
+      (bytes-append (preorder p) (preorder q));
+  its-pauses = refl;
+}

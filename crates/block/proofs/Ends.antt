@@ -16,7 +16,8 @@ use Rattle.sets.proofs.Words.{bits-zero}
 use Rattle.sets.proofs.Counts.{lowest-some}
 use Rattle.rules.specs.Statements.{Stmt}
 use Rattle.block.specs.Table.{Table, Has, statements, Small}
-use Rattle.block.specs.Format.{Header, Around, Sofar, Got, got, refused, Good, Reading, good, turned-down, header, header-fault, read, ended, loops-checked, offset, numbered, endless, lowest-endless, reading, outermost, begun}
+use Rattle.block.specs.Format.{Header, Around, Sofar, Got, got, refused, Good, Reading, good, turned-down, header, header-fault, read, ended, loops-checked, offset, numbered, endless}
+use Rattle.block.specs.Format.{lowest-endless, reading, outermost, begun}
 use Rattle.block.specs.Told.{header-of, sofar-of, around-of, cursor-of, table-of, told, Built, Full, Reads, Ready, summary-of, answer-to, Stands, ReadWhole}
 use Rattle.block.specs.Codes.{Tabled, number-or}
 use Rattle.block.specs.declared.Declared.{Declared}
@@ -125,7 +126,7 @@ module _ (b : List ℕ) where
           tree-got : (t : Stmt) × (statements-of ≡ got t (sofar-of r))
           tree-got = was-got statements-of (sym (read-it .answered) ∙ e)
 
-          its-tree : Tree (length b) (header-of d) outermost (sofar-of r₀) (tree-got .0) (sofar-of r)
+          its-tree : Tree 64 (length b) (header-of d) outermost (sofar-of r₀) (tree-got .0) (sofar-of r)
           its-tree =
               tree b (header-of d) signals-fit outermost-fits (begun-counts (header-of d))
               (parsed b (header-of d) 64 outermost (sofar-of r₀) (tree-got .0) (sofar-of r) (ap (λ (x : Around). read 64 b (header-of d) x (sofar-of r₀)) (sym no-scope) ∙ tree-got .1))
@@ -140,7 +141,8 @@ module _ (b : List ℕ) where
           tabled : Tabled tab (r .statements) (tree-got .0)
           tabled = record { has = has-tree; small = its-tree .small; counted = sym (its-tree .counted ∙ zero-add (statements (tree-got .0))) }
 
-          stands-at : (z : Bool) (o : Option ℕ) → Stands (cond z (loops-checked (record { header = header-of d; body = tree-got .0; statements = r .statements; pauses = r .pauses }) o) (turned-down 7 (r .at))) tab
+          stands-at : (z : Bool) (o : Option ℕ)
+              → Stands (cond z (loops-checked (record { header = header-of d; body = tree-got .0; statements = r .statements; pauses = r .pauses }) o) (turned-down 7 (r .at))) tab
           unfolding Stands loops-checked
           stands-at true none = has-tree
           stands-at true (some n) = tt

@@ -6,7 +6,8 @@ use Rattle.sets.specs.Numbers.{listed, lowest, some-to, maxima, downs}
 use Rattle.rules.specs.Statements.{depth, code, Stmt, nothing, pause, emit, present?_then_else_, suspend_on_, _⨾_, loop, _parallel_, trap, exit, local}
 use Rattle.rules.specs.Loops.{codes-of}
 use Rattle.block.specs.Table.{kind-of, statements}
-use Rattle.block.specs.Format.{Reading, good, turned-down, reading, is-broken, header, header-fault, length-of, children-of, over-limit, wrong-signal, wrong-exit, statement-fault, past, inside, leaf, above, joined, read, preorder, bytes, offset, endless, lowest-endless, loops-checked, ended}
+use Rattle.block.specs.Format.{Reading, good, turned-down, reading, is-broken, header, header-fault, shape, length-of, children-of, over-limit, wrong-signal, wrong-exit}
+use Rattle.block.specs.Format.{statement-fault, past, inside, leaf, above, joined, read, preorder, bytes, offset, endless, lowest-endless, loops-checked, ended}
 
 abbrev head : ℕ → ℕ → ℕ → List ℕ
 head i o l = 14 ∷ 0 ∷ 1 ∷ 0 ∷ 1 ∷ 0 ∷ 7 ∷ 0 ∷ i ∷ 0 ∷ o ∷ 0 ∷ l ∷ 0 ∷ []
@@ -24,11 +25,11 @@ run : reading (head 1 1 0 ++ long 20 0 ++ short 21 ++ short 17 ++ long 18 1)
       statements = 4;
       pauses = 1;
     })
-unfolding reading is-broken header header-fault length-of children-of over-limit wrong-signal wrong-exit statement-fault past inside leaf above joined read preorder bytes offset endless lowest-endless loops-checked ended listed lowest some-to maxima downs codes-of code kind-of statements
+unfolding reading is-broken header header-fault shape length-of children-of over-limit wrong-signal wrong-exit statement-fault past inside leaf above joined read preorder bytes offset endless lowest-endless loops-checked ended listed lowest some-to maxima downs codes-of code kind-of statements
 run = refl
 
 inner : reading (head 0 0 0 ++ short 22 ++ short 22 ++ short 16) ≡ turned-down 8 18
-unfolding reading is-broken header header-fault length-of children-of over-limit wrong-signal wrong-exit statement-fault past inside leaf above joined read preorder bytes offset endless lowest-endless loops-checked ended listed lowest some-to maxima downs codes-of code kind-of statements
+unfolding reading is-broken header header-fault shape length-of children-of over-limit wrong-signal wrong-exit statement-fault past inside leaf above joined read preorder bytes offset endless lowest-endless loops-checked ended listed lowest some-to maxima downs codes-of code kind-of statements
 inner = refl
 
 locals : reading (head 0 1 1 ++ long 26 1 ++ short 21 ++ long 18 1 ++ short 24 ++ long 25 0)
@@ -38,5 +39,5 @@ locals : reading (head 0 1 1 ++ long 26 1 ++ short 21 ++ long 18 1 ++ short 24 +
       statements = 5;
       pauses = 0;
     })
-unfolding reading is-broken header header-fault length-of children-of over-limit wrong-signal wrong-exit statement-fault past inside leaf above joined read preorder bytes offset endless lowest-endless loops-checked ended listed lowest some-to maxima downs codes-of code kind-of statements
+unfolding reading is-broken header header-fault shape length-of children-of over-limit wrong-signal wrong-exit statement-fault past inside leaf above joined read preorder bytes offset endless lowest-endless loops-checked ended listed lowest some-to maxima downs codes-of code kind-of statements
 locals = refl

@@ -5,25 +5,28 @@ use mathlib.Core.Logic.{_⊎_, inl, inr, ⊎-elim}
 use mathlib.Core.Option.{Option, none, some}
 use mathlib.Core.List.{List, [], _∷_, _++_}
 use Prim.Native.Nat.{ℕ, zero, suc, _+_, _≤_, _<_}
-use native.Mathlib.Nat.{zero-add, pos-of-ne-zero}
+use native.Mathlib.Nat.{add-zero, zero-add, pos-of-ne-zero}
 use native.Mathlib.Decide.{decLt}
 use native.Mathlib.Omega.{arith}
 use lib.Dec.{T, eqb, ltb, leb, lit≤}
 use lib.ListN.{length, getD, List·getD-append, List·getD-eq-default}
 use lib.Seq.{getD-append-add}
-use borrow.Author.Tests.{eqb-true, ltb-false, eq-eqb, ne-eqb}
+use borrow.Author.Tests.{eqb-true, ltb-false, eq-eqb, ne-eqb, not-true, not-false}
 use Rattle.sets.specs.Numbers.{empty}
-use Rattle.sets.proofs.Members.{is-false}
-use Rattle.sets.proofs.Counts.{lowest-none}
+use Rattle.sets.proofs.Members.{is-false, of-false}
+use Rattle.sets.proofs.Counts.{lowest-none, lowest-empty}
 use Rattle.rules.specs.Statements.{Stmt, nothing, pause, emit, present?_then_else_, suspend_on_, _⨾_, loop, _parallel_, trap, exit, local, pauses, Numbered, Trapped}
 use Rattle.rules.specs.Loops.{codes-of, loops-pass}
 use Rattle.block.specs.Table.{statements, Small}
-use Rattle.block.specs.Format.{LIMIT, length-of, over-limit, wrong-signal, wrong-exit, Header, Around, Sofar, Got, got, refused, and-then, Good, Reading, good, turned-down, reading, header, header-fault, is-broken, two-bytes, kind-at, length-at, operand-at, statement-fault, past, inside, read, ended, loops-checked, preorder, numbered, bytes, endless, lowest-endless, outermost, begun, leaf, above, joined}
-use Rattle.block.specs.Good.{Scoped}
+use Rattle.block.specs.Format.{LIMIT, length-of, over-limit, wrong-signal, wrong-exit, Header, Around, Sofar, Got, got, refused, and-then, Good, Reading, good, turned-down, reading, header}
+use Rattle.block.specs.Format.{header-fault, is-broken, two-bytes, kind-at, length-at, operand-at, statement-fault, past, inside, read, ended, loops-checked, preorder, numbered, bytes}
+use Rattle.block.specs.Format.{endless, lowest-endless, outermost, begun, leaf, above, joined}
+use Rattle.block.specs.Good.{Scoped, path, nested-traps, nested-locals, locals, Next, Apart}
 use Rattle.block.proofs.Views.{is?, Kind, leafs, aboves, joins, leaf-children, above-children, joined-children}
-use Rattle.block.proofs.Passes.{passes, none-of}
+use Rattle.block.proofs.Passes.{passes, none-of, broken-none}
 use Rattle.block.proofs.Parse.{parsed, read-fault, read-leaf, read-above, read-joined}
 use Rattle.block.proofs.Trees.{Tree, tree, Around-fits, Counts}
+use Rattle.block.proofs.Nesting.{next-apart}
 use Rattle.block.proofs.Places.{all-counted}
 
 -- No statement of a list is an endless loop. (Past the end there is `nothing`, which is none.)
@@ -77,6 +80,60 @@ none-clean t e n = go (decLt n (statements t))
     go (yes l) x = lowest-none (statements t) (λ n. endless (numbered t n)) e n l x
     go (no l) x = subst (λ (p : Stmt). T (endless p)) (List·getD-eq-default (preorder t) nothing {n = n} (omega (arith, all-counted t))) x
 
+both-are : (s t : Bool) → (s && t) ≡ true → (s ≡ true) × (t ≡ true)
+both-are true t e = (refl, e)
+both-are false t e = let z : _≡_ {A = ℕ} 0 1 = cc in absurd (omega arith)
+
+-- And a tree that passes has none.
+clean-more : (p : Stmt) (ps : List Stmt) → (T (endless p) → ⊥) → Clean ps → Clean (p ∷ ps)
+clean-more p ps e c zero = e
+clean-more p ps e c (suc n) = c n
+
+clean-both : (ps qs : List Stmt) → Clean ps → Clean qs → Clean (ps ++ qs)
+clean-both [] qs c d = d
+clean-both (p ∷ ps) qs c d = clean-more p (ps ++ qs) (c 0) (clean-both ps qs (clean-rest p ps c) d)
+
+pass-clean : (t : Stmt) → loops-pass t ≡ true → Clean (preorder t)
+unfolding loops-pass preorder endless
+pass-clean nothing e = clean-more nothing [] (λ x. x) (λ n x. x)
+pass-clean (pause n) e = clean-more (pause n) [] (λ x. x) (λ n x. x)
+pass-clean (emit s) e = clean-more (emit s) [] (λ x. x) (λ n x. x)
+pass-clean (present? s then p else q) e =
+    let f = both-are (loops-pass p) (loops-pass q) e in clean-more (present? s then p else q) (preorder p ++ preorder q) (λ x. x)
+    (clean-both (preorder p) (preorder q) (pass-clean p (f .0)) (pass-clean q (f .1)))
+pass-clean (suspend p on s) e = clean-more (suspend p on s) (preorder p) (λ x. x) (pass-clean p e)
+pass-clean (p ⨾ q) e =
+    let f = both-are (loops-pass p) (loops-pass q) e in clean-more (p ⨾ q) (preorder p ++ preorder q) (λ x. x) (clean-both (preorder p) (preorder q) (pass-clean p (f .0)) (pass-clean q (f .1)))
+pass-clean (loop p) e =
+    let f = both-are (not (codes-of p 0)) (loops-pass p) e in clean-more (loop p) (preorder p) (of-false (not-true (codes-of p 0) (f .0))) (pass-clean p (f .1))
+pass-clean (p parallel q) e =
+    let f = both-are (loops-pass p) (loops-pass q) e in clean-more (p parallel q) (preorder p ++ preorder q) (λ x. x) (clean-both (preorder p) (preorder q) (pass-clean p (f .0)) (pass-clean q (f .1)))
+pass-clean (trap p) e = clean-more (trap p) (preorder p) (λ x. x) (pass-clean p e)
+pass-clean (exit d) e = clean-more (exit d) [] (λ x. x) (λ n x. x)
+pass-clean (local s p) e = clean-more (local s p) (preorder p) (λ x. x) (pass-clean p e)
+
+pub none-endless : (t : Stmt) → loops-pass t ≡ true → lowest-endless t ≡ none
+unfolding lowest-endless
+none-endless t e = lowest-empty (statements t) (λ n. endless (numbered t n)) (λ n l. pass-clean t e n)
+
+-- A good header: its bytes are there, with its kind, length and edition.
+pub record Headed (b : List ℕ) : Type 0 where
+  pub there : 14 ≤ length b
+  pub its-length : length-at b 0 ≡ 14
+  pub its-kind : kind-at b 0 ≡ 1
+  pub its-edition : two-bytes b 4 ≡ 1
+
+pub headed : (b : List ℕ) → header-fault b ≡ 0 → Headed b
+unfolding header-fault
+headed b e =
+    let e₁ = none-of (is-broken b 0) 0 _ e in
+    let e₂ = none-of (not (eqb (kind-at b 0) 1 && eqb (length-at b 0) 14)) 1 _ (e₁ .1) in
+    let e₃ = none-of (not (eqb (two-bytes b 4) 1)) 2 _ (e₂ .1) in
+    let both = both-are (eqb (kind-at b 0) 1) (eqb (length-at b 0) 14) (not-false _ (e₂ .0)) in
+    let w = broken-none b 0 (e₁ .0) in
+    let l : length-at b 0 ≡ 14 = eqb-true _ _ (both .1) in
+    record { there = omega (arith, w .2); its-length = l; its-kind = eqb-true _ _ (both .0); its-edition = eqb-true _ _ (not-false _ (e₃ .0)) }
+
 -- The signals of a good header.
 pub header-fits : (b : List ℕ) → header-fault b ≡ 0 → header b .inputs + header b .outputs + header b .locals ≤ 64
 unfolding header-fault
@@ -98,10 +155,6 @@ first-good false n at y e = (refl, e)
 second-good : (t : Bool) (y : Reading) (n at : ℕ) {g : Good} → cond t y (turned-down n at) ≡ good g → (t ≡ true) × (y ≡ good g)
 second-good true y n at e = (refl, e)
 second-good false y n at e = refused-not e
-
-both-are : (s t : Bool) → (s && t) ≡ true → (s ≡ true) × (t ≡ true)
-both-are true t e = (refl, e)
-both-are false t e = let z : _≡_ {A = ℕ} 0 1 = cc in absurd (omega arith)
 
 checked-good : (g : Good) (o : Option ℕ) {g₁ : Good} → loops-checked g o ≡ good g₁ → (o ≡ none) × (g ≡ g₁)
 unfolding loops-checked
@@ -144,6 +197,12 @@ pub record Sound (b : List ℕ) (g : Good) : Type 0 where
   pub small : Small (g .body)
   pub scoped : Scoped (g .header .inputs) (g .header .outputs) empty (g .body)
   pub whole : 14 + bytes (preorder (g .body)) ≡ length b
+  pub paths : path (g .body) ≤ 64
+  pub traps-nested : nested-traps (g .body) ≤ 16
+  pub locals-nested : nested-locals (g .body) ≤ 6
+  pub locals-counted : g .header .locals ≡ length (locals (g .body))
+  pub locals-next : Next (g .header .inputs + g .header .outputs) (g .body)
+  pub locals-apart : Apart empty (g .body)
 
 pub outermost-fits : Around-fits outermost
 outermost-fits = record { few-traps = omega arith; few-nested = omega arith; small-scope = λ s e. absurd e }
@@ -158,29 +217,49 @@ pub reading-is : (b : List ℕ) → reading b ≡ cond (ltb 3086 (length b)) (tu
 unfolding reading
 reading-is b = refl
 
+-- The way to a good reading: its size, its header, and the tree that was read to the last byte.
+pub record Whole (b : List ℕ) (g : Good) : Type 0 where
+  pub size : length b ≤ 3086
+  pub no-fault : header-fault b ≡ 0
+  pub its-header : g .header ≡ header b
+  pub its-tree : read 64 b (header b) outermost begun ≡ got (g .body) (record { place = length b; statements = g .statements; pauses = g .pauses; locals = header b .locals })
+  pub no-endless : lowest-endless (g .body) ≡ none
+
+pub read-whole : (b : List ℕ) (g : Good) → reading b ≡ good g → Whole b g
+read-whole b g e =
+    let e₁ = first-good (ltb 3086 (length b)) LIMIT 0 (cond (eqb (header-fault b) 0) (statements-read b) (turned-down (header-fault b) 0)) (sym (reading-is b) ∙ e) in
+    let e₂ = second-good (eqb (header-fault b) 0) (statements-read b) (header-fault b) 0 (e₁ .1) in
+    let end = ended-good b (header b) (read 64 b (header b) outermost begun) g (e₂ .1) in
+    record { size = ltb-false _ _ (e₁ .0); no-fault = eqb-true _ _ (e₂ .0); its-header = end .header-is; its-tree = end .tree-is; no-endless = end .no-endless }
+
 pub sound : (b : List ℕ) (g : Good) → reading b ≡ good g → Sound b g
 sound b g e =
     let h = header b in
-    let e₁ = first-good (ltb 3086 (length b)) LIMIT 0 (cond (eqb (header-fault b) 0) (statements-read b) (turned-down (header-fault b) 0)) (sym (reading-is b) ∙ e) in
-    let e₂ = second-good (eqb (header-fault b) 0) (statements-read b) (header-fault b) 0 (e₁ .1) in
-    let fault : header-fault b ≡ 0 = eqb-true _ _ (e₂ .0) in
-    let end = ended-good b (header b) (read 64 b (header b) outermost begun) g (e₂ .1) in
-    let t = tree b (header b) (header-fits b fault) outermost-fits (begun-counts (header b)) (parsed b (header b) 64 outermost begun _ _ (end .tree-is)) in
-    let eh = end .header-is in
+    let w = read-whole b g e in
+    let fits = header-fits b (w .no-fault) in
+    let t = tree b h fits outermost-fits (begun-counts h) (parsed b h 64 outermost begun _ _ (w .its-tree)) in
+    let eh = w .its-header in
+    let next-is : h .inputs + h .outputs + 0 ≡ g .header .inputs + g .header .outputs = add-zero (h .inputs + h .outputs) ∙ sym (ap (λ (h : Header). h .inputs + h .outputs) eh) in
     record {
-      size = ltb-false _ _ (e₁ .0);
+      size = w .size;
       its-header = eh;
-      signals = subst (λ (h : Header). h .inputs + h .outputs + h .locals ≤ 64) (sym eh) (header-fits b fault);
+      signals = subst (λ (h : Header). h .inputs + h .outputs + h .locals ≤ 64) (sym eh) fits;
       counted = t .counted ∙ zero-add (statements (g .body));
       few-statements = t .few-statements;
       paused = t .paused ∙ zero-add (length (pauses (g .body)));
       few-pauses = t .counts .few-pauses;
-      loops = clean-pass (g .body) (none-clean (g .body) (end .no-endless));
+      loops = clean-pass (g .body) (none-clean (g .body) (w .no-endless));
       trapped = t .trapped;
       pauses-numbered = t .numbered;
       small = t .small;
       scoped = subst (λ (h : Header). Scoped (h .inputs) (h .outputs) empty (g .body)) (sym eh) (t .scoped);
       whole = sym (t .ends-at);
+      paths = t .path-fits;
+      traps-nested = omega (arith, t .traps-fit);
+      locals-nested = omega (arith, t .locals-fit);
+      locals-counted = ap (λ (h : Header). h .locals) eh ∙ t .declared ∙ zero-add (length (locals (g .body)));
+      locals-next = subst (λ (n : ℕ). Next n (g .body)) next-is (t .next);
+      locals-apart = next-apart empty _ (g .body) (λ s e. absurd e) (t .next);
     }
 
 -- A refusal's number is one of document 01's 1 to 8.
@@ -264,7 +343,8 @@ unfolding ended
 ended-range b h (refused m place) e f = same-turned e (f m place refl)
 ended-range b h (got p r) {n} {at} e f = go (eqb (r .place) (length b) && eqb (r .locals) (h .locals)) e
   where
-    go : (z : Bool) → cond z (loops-checked (record { header = h; body = p; statements = r .statements; pauses = r .pauses }) (lowest-endless p)) (turned-down 7 (r .place)) ≡ turned-down n at → In-range n
+    go : (z : Bool) → cond z (loops-checked (record { header = h; body = p; statements = r .statements; pauses = r .pauses }) (lowest-endless p)) (turned-down 7 (r .place)) ≡ turned-down n at
+        → In-range n
     go true q = checked-range _ (lowest-endless p) q
     go false q = same-turned q (lit≤ tt, lit≤ tt)
 

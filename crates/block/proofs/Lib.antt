@@ -6,6 +6,7 @@ pub mod Views
 pub mod Passes
 pub mod Parse
 pub mod Built
+pub mod Nesting
 pub mod Trees
 pub mod Tables
 pub mod Ways

@@ -99,7 +99,8 @@ walk-step {tab} {count} {codes} {found} {i} {v} {w} {k} {x} {r} {f} at s few = r
   known = λ t h j l m. known t h j l m (ℕ-discrete j i);
   found-in = subst (λ (n : ℕ). n ≤ count) (sym (s .now-found)) (in-count (eqb k 22 && bits v 0));
   none-before = λ t h j l m. none-before t h j l (eqb k 22 && bits v 0) (endless-p at s few t h) (subst (λ (n : ℕ). j < n) (s .now-found) m) (ℕ-discrete j i);
-  found-there = λ t h m. subst (λ (n : ℕ). (i ≤ n) × T (endless (numbered t n))) (sym (s .now-found)) (found-there t h (eqb k 22 && bits v 0) (endless-p at s few t h) (subst (λ (n : ℕ). n < count) (s .now-found) m));
+  found-there = λ t h m. subst (λ (n : ℕ). (i ≤ n) × T (endless (numbered t n))) (sym (s .now-found))
+      (found-there t h (eqb k 22 && bits v 0) (endless-p at s few t h) (subst (λ (n : ℕ). n < count) (s .now-found) m));
 }
   where
     known : (t : Stmt) → Tabled tab count t → (j : ℕ) → i ≤ j → j < count → Dec (j ≡ i) → bits (getD (set codes i r) j 0) ≡ codes-of (numbered t j)
@@ -127,7 +128,8 @@ walk-end {tab} {count} {codes} {found} {i} at z t h = go (decLt found count)
   where
     go : Dec (found < count) → found ≡ number-or count (lowest (statements t) (λ n. endless (numbered t n)))
     go (yes l) =
-        ap (number-or count) (sym (lowest-in (statements t) (λ n. endless (numbered t n)) {k = found} (omega (arith, h .counted)) (at .found-there t h l .1) (λ j m. at .none-before t h j (omega arith) m)))
+        ap (number-or count) (sym (lowest-in (statements t) (λ n. endless (numbered t n)) {k = found} (omega (arith, h .counted)) (at .found-there t h l .1)
+        (λ j m. at .none-before t h j (omega arith) m)))
     go (no l) =
         (let e : found ≡ count = omega (arith, at .found-in) in e)
         ∙ ap (number-or count) (sym (lowest-empty (statements t) (λ n. endless (numbered t n)) (λ j m. at .none-before t h j (omega arith) (omega (arith, h .counted, at .found-in)))))

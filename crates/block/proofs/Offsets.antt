@@ -1,29 +1,27 @@
 -- Where the records of a tree lie: one offset after the other, and the part that a statement and all below it take.
 use mathlib.Core.Path.{_≡_, refl, sym, _∙_, ap, subst}
-use mathlib.Core.Bool.{Bool, true, false, cond}
+use mathlib.Core.Logic.{⊎-elim}
 use mathlib.Core.List.{List, [], _∷_, _++_}
+use mathlib.Core.Option.{Option}
 use Prim.Native.Nat.{ℕ, zero, suc, _+_, _*_, _≤_, _<_}
 use native.Mathlib.Nat.{zero-add}
 use native.Mathlib.Numerals.{add-one}
 use native.Mathlib.Omega.{arith}
+use lib.Dec.{lit≤}
 use lib.ListN.{length, getD, take, drop, length-drop, take-append-drop, length-take}
 use lib.Seq.{take-suc, take-add, take-all, getD-take, getD-drop, ext-getD, length-take-le}
 use Rattle.sets.specs.Numbers.{listed}
 use Rattle.rules.specs.Statements.{Stmt, nothing}
 use Rattle.block.specs.Table.{Table, Has, kind-of, statements}
-use Rattle.block.specs.Format.{length-of, preorder, numbered, bytes, offset}
+use Rattle.block.specs.Format.{Shape, shape, of-shape, length-of, preorder, numbered, bytes, offset}
 use Rattle.block.specs.Codes.{Tabled, Listed}
+use Rattle.block.proofs.Views.{shape?, known-length}
 use Rattle.block.proofs.Built.{bytes-append}
 use Rattle.block.proofs.Places.{At, at-number, has-row, all-counted}
 
 pub length-small : (k : ℕ) → length-of k ≤ 6
 unfolding length-of
-length-small k = go (listed (16 ∷ 17 ∷ 22 ∷ 24 ∷ 21 ∷ 23 ∷ []) k) (listed (18 ∷ 20 ∷ 26 ∷ 19 ∷ 25 ∷ []) k)
-  where
-    go : (x y : Bool) → cond x 4 (cond y 6 0) ≤ 6
-    go true y = omega arith
-    go false true = omega arith
-    go false false = omega arith
+length-small k = ⊎-elim (λ v. known-length v .1) (λ e. subst (λ (s : Option Shape). of-shape (λ s. s .length) s ≤ 6) (sym e) (lit≤ tt)) (shape? k)
 
 -- A table's kinds are those of the tree that it has.
 pub tabled-listed : {tab : Table} {count : ℕ} (t : Stmt) → Tabled tab count t → Listed (tab .kinds) t

@@ -9,7 +9,8 @@ use lib.Dec.{eqb}
 use native.Mathlib.Omega.{arith}
 use borrow.Author.Tests.{eq-eqb, ne-eqb}
 use Rattle.rules.specs.Statements.{Stmt}
-use Rattle.block.specs.Format.{Header, Around, Sofar, Got, got, refused, and-then, with-children, kind-at, operand-at, statement-fault, length-of, children-of, past, inside, leaf, above, joined, read}
+use Rattle.block.specs.Format.{Header, Around, Sofar, Got, got, refused, and-then, with-children, kind-at, operand-at, statement-fault, length-of, children-of, past, inside, leaf, above}
+use Rattle.block.specs.Format.{joined, read}
 use Rattle.block.proofs.Views.{Leaf, Above, Joined, Kind, leafs, aboves, joins, is?, leaf-children, above-children, joined-children}
 use Rattle.block.proofs.Passes.{passes}
 

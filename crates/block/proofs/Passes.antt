@@ -1,5 +1,5 @@
 -- What is known of a record that passes all tests, and the bounds that this keeps.
-use mathlib.Core.Path.{_≡_, refl, sym, subst, _∙_}
+use mathlib.Core.Path.{_≡_, refl, sym, subst, _∙_, ap}
 use mathlib.Core.Logic.{_⊎_, inl, inr, ⊎-elim}
 use mathlib.Core.Bool.{Bool, true, false, not, cond, _&&_, _||_}
 use mathlib.Core.List.{List}
@@ -7,10 +7,11 @@ use Prim.Native.Nat.{ℕ, zero, suc, _+_, _-_, _≤_, _<_}
 use native.Mathlib.Omega.{arith}
 use lib.Dec.{T, eqb, ltb, leb}
 use lib.ListN.{length}
-use borrow.Author.Tests.{ltb-true, ltb-false, leb-true, leb-false, eqb-true, eqb-false, not-false, eq-eqb}
-use Rattle.sets.proofs.Members.{of-true}
+use borrow.Author.Tests.{ltb-true, ltb-false, leb-true, leb-false, eqb-true, eqb-false, not-false, eq-eqb, ne-eqb, lt-ltb, le-leb, lt-leb, le-ltb}
+use Rattle.sets.proofs.Members.{of-true, is-true}
 use Rattle.block.specs.Format.{Header, Around, Sofar, length-at, kind-at, operand-at, is-broken, declared-here, over-limit, wrong-signal, wrong-exit, statement-fault, length-of}
-use Rattle.block.proofs.Views.{Kind, kind?}
+use Rattle.block.proofs.Views.{Kind, kind?, known-length}
+use Rattle.block.proofs.Tests.{fault-none}
 
 -- A record of kind k with operand x that passes.
 pub record Passes (room end : ℕ) (h : Header) (a : Around) (r : Sofar) (k x : ℕ) : Type 0 where
@@ -76,7 +77,7 @@ tests room b h a r e =
     let e₆ = none-of _ 5 _ (e₅ .1) in
     record { due = e₁ .0; whole = e₂ .0; right = e₃ .0; within = e₄ .0; signal = e₅ .0; exits = e₆ .0 }
 
-broken-none : (b : List ℕ) (at : ℕ) → is-broken b at ≡ false → (4 ≤ length b - at) × (4 ≤ length-at b at) × (length-at b at ≤ length b - at)
+pub broken-none : (b : List ℕ) (at : ℕ) → is-broken b at ≡ false → (4 ≤ length b - at) × (4 ≤ length-at b at) × (length-at b at ≤ length b - at)
 unfolding is-broken
 broken-none b at e =
     let e₁ = or-left (ltb (length b - at) 4) (ltb (length-at b at) 4 || ltb (length b - at) (length-at b at)) e in
@@ -165,3 +166,60 @@ passes room b h a r e =
       declaring = s .declaring;
       exiting = exit-below a k x (t .exits);
     }
+
+-- A record that passes has its kind's length.
+pub right-length : (room : ℕ) (b : List ℕ) (h : Header) (a : Around) (r : Sofar) → statement-fault room b h a r ≡ 0
+    → length-of (kind-at b (r .place)) ≡ length-at b (r .place)
+right-length room b h a r e = eqb-true _ _ (not-false _ (tests room b h a r e .right))
+
+-- The other way: a record of which all this is known passes.
+both-false : (s t : Bool) → s ≡ false → t ≡ false → (s || t) ≡ false
+both-false s t e f = ap (λ (z : Bool). z || t) e ∙ f
+
+when-false : (s t : Bool) → (s ≡ true → t ≡ false) → (s && t) ≡ false
+when-false true t f = f refl
+when-false false t f = refl
+
+not-both : (s t : Bool) → s ≡ true → t ≡ true → not (s && t) ≡ false
+not-both s t e f = ap (λ (z : Bool). not (z && t)) e ∙ ap not f
+
+module _ {room end : ℕ} {h : Header} {a : Around} {r : Sofar} {k x : ℕ} (p : Passes room end h a r k x) where
+  within-limits : over-limit room a r k ≡ false
+  unfolding over-limit
+  within-limits =
+      both-false _ _ (ne-eqb room 0 (p .roomy))
+      (both-false _ _ (lt-leb 512 (r .statements) (p .counted))
+      (both-false _ _ (when-false (eqb k 17) _ (λ e. lt-leb 128 (r .pauses) (p .pausing (eqb-true k 17 e))))
+      (both-false _ _ (when-false (eqb k 24) _ (λ e. lt-leb 16 (a .traps) (p .trapping (eqb-true k 24 e))))
+      (when-false (eqb k 26) _ (λ e. lt-leb 6 (a .nested) (p .nesting (eqb-true k 26 e)))))))
+
+  tested : (eqb k 19 || eqb k 20) ≡ true → not (declared-here h a x) ≡ false
+  tested e = ap not (is-true (declared-here h a x) (p .testing (go (eqb k 19) refl e)))
+    where
+      go : (z : Bool) → eqb k 19 ≡ z → (z || eqb k 20) ≡ true → (k ≡ 19) ⊎ (k ≡ 20)
+      go true f e = inl (eqb-true k 19 f)
+      go false f e = inr (eqb-true k 20 e)
+
+  right-signal : wrong-signal h a r k x ≡ false
+  unfolding wrong-signal
+  right-signal =
+      both-false _ _
+      (when-false (eqb k 18) _ (λ e. let f = p .emitting (eqb-true k 18 e) in not-both _ _ (le-leb (h .inputs) x (f .0)) (is-true (declared-here h a x) (f .1))))
+      (both-false _ _ (when-false (eqb k 19 || eqb k 20) _ tested)
+      (when-false (eqb k 26) _ (λ e. let f = p .declaring (eqb-true k 26 e) in not-both _ _ (lt-ltb (r .locals) (h .locals) (f .0)) (eq-eqb x _ (f .1)))))
+
+  right-exit : wrong-exit a k x ≡ false
+  unfolding wrong-exit
+  right-exit = when-false (eqb k 25) _ (λ e. lt-leb (a .traps) x (p .exiting (eqb-true k 25 e)))
+
+pub is-whole : (b : List ℕ) (at : ℕ) → 4 ≤ length b - at → 4 ≤ length-at b at → length-at b at ≤ length b - at → is-broken b at ≡ false
+unfolding is-broken
+is-whole b at f g h = both-false _ _ (le-ltb (length b - at) 4 f) (both-false _ _ (le-ltb (length-at b at) 4 g) (le-ltb (length b - at) (length-at b at) h))
+
+pub no-fault : (room : ℕ) (b : List ℕ) (h : Header) (a : Around) (r : Sofar) → length-of (kind-at b (r .place)) ≡ length-at b (r .place)
+    → Passes room (length b) h a r (kind-at b (r .place)) (operand-at b (r .place)) → statement-fault room b h a r ≡ 0
+no-fault room b h a r e p =
+    let l = known-length (p .its-kind) in
+    let ends = p .ends in
+    let long : 4 ≤ length-at b (r .place) = omega (arith, e) in
+    fault-none room b h a r (omega arith) (is-whole b (r .place) (omega arith) long (omega (arith, e))) _ _ refl refl e (within-limits p) _ refl (right-signal p) (right-exit p)

@@ -16,10 +16,11 @@ use Rattle.sets.proofs.Members.{or-out}
 use Rattle.rules.specs.Statements.{Stmt, pauses, from, Numbered, Trapped}
 use Rattle.block.specs.Table.{statements, Small}
 use Rattle.block.specs.Format.{Header, Around, Sofar, declared-here, length-of, past, inside, leaf, above, joined, preorder, bytes, kind-at, operand-at}
-use Rattle.block.specs.Good.{Scoped}
+use Rattle.block.specs.Good.{Scoped, path, nested-traps, nested-locals, locals, Next}
 use Rattle.block.proofs.Views.{Leaf, Above, Joined, a-nothing, a-pause, an-emit, an-exit, a-suspend, a-loop, a-trap, a-local, a-present, a-sequence, a-parallel}
 use Rattle.block.proofs.Passes.{Passes, passes}
 use Rattle.block.proofs.Parse.{Parsed, at-leaf, at-above, at-joined}
+use Rattle.block.proofs.Nesting.{Nests, leaf-nests, above-nests, joined-nests, both-in-row, in-row, length-where}
 use Rattle.block.proofs.Built.{Builds, leaf-builds, above-builds, joined-builds}
 
 -- What the reading keeps of the counts, and of what stands around.
@@ -33,33 +34,27 @@ pub record Around-fits (a : Around) : Type 0 where
   pub small-scope : (s : ℕ) → T (a .scope s) → s < 64
 
 -- A statement that was read.
-pub record Tree (end : ℕ) (h : Header) (a : Around) (r : Sofar) (t : Stmt) (r₁ : Sofar) : Type 0 where
+pub record Tree (room end : ℕ) (h : Header) (a : Around) (r : Sofar) (t : Stmt) (r₁ : Sofar) : Type 0 where
   pub ends-at : r₁ .place ≡ r .place + bytes (preorder t)
   pub in-block : r₁ .place ≤ end
   pub counted : r₁ .statements ≡ r .statements + statements t
   pub few-statements : r₁ .statements ≤ 512
   pub paused : r₁ .pauses ≡ r .pauses + length (pauses t)
   pub counts : Counts h r₁
-  pub more-locals : r .locals ≤ r₁ .locals
+  pub declared : r₁ .locals ≡ r .locals + length (locals t)
   pub trapped : Trapped (a .traps) t
   pub numbered : Numbered (r .pauses) t
   pub small : Small t
   pub scoped : Scoped (h .inputs) (h .outputs) (a .scope) t
-
--- Pauses in a row are numbered in a row.
-from-append : (i m n : ℕ) → from i (m + n) ≡ from i m ++ from (i + m) n
-unfolding from
-from-append i zero n = ap (λ (k : ℕ). from i k) (zero-add n) ∙ ap (λ (k : ℕ). from k n) (sym (add-zero i))
-from-append i (suc m) n = ap (λ (k : ℕ). from i k) (suc-add m n) ∙ ap (λ (l : List ℕ). i ∷ l) (from-append (suc i) m n ∙ ap (λ (k : ℕ). from (suc i) m ++ from k n) (suc-add i m ∙ sym (add-suc i m)))
-
-numbered-both : (i j : ℕ) (xs ys : List ℕ) → xs ≡ from i (length xs) → ys ≡ from j (length ys) → j ≡ i + length xs → xs ++ ys ≡ from i (length (xs ++ ys))
-numbered-both i j xs ys ex ey ej =
-    let y : ys ≡ from (i + length xs) (length ys) = subst (λ (k : ℕ). ys ≡ from k (length ys)) ej ey in
-    (λ i′. ex i′ ++ y i′) ∙ sym (from-append i (length xs) (length ys)) ∙ ap (λ (k : ℕ). from i k) (sym (length-append xs ys))
+  pub path-fits : path t ≤ room
+  pub traps-fit : a .traps + nested-traps t ≤ 16
+  pub locals-fit : a .nested + nested-locals t ≤ 6
+  pub next : Next (h .inputs + h .outputs + r .locals) t
 
 -- A signal that may stand here is below 64.
-small-signal : (h : Header) (a : Around) (s : ℕ) → h .inputs + h .outputs + h .locals ≤ 64 → Around-fits a → T (declared-here h a s) → s < 64
-small-signal h a s fits f d = ⊎-elim (λ l. let w : s < h .inputs + h .outputs = ltb→lt s (h .inputs + h .outputs) l in omega arith) (λ m. f .small-scope s m) (or-out (ltb s (h .inputs + h .outputs)) (a .scope s) d)
+pub small-signal : (h : Header) (a : Around) (s : ℕ) → h .inputs + h .outputs + h .locals ≤ 64 → Around-fits a → T (declared-here h a s) → s < 64
+small-signal h a s fits f d = ⊎-elim (λ l. let w : s < h .inputs + h .outputs = ltb→lt s (h .inputs + h .outputs) l in omega arith) (λ m. f .small-scope s m)
+    (or-out (ltb s (h .inputs + h .outputs)) (a .scope s) d)
 
 -- A count that a kind adds to keeps its limit.
 one-more : (k m n limit : ℕ) → n ≤ limit → (k ≡ m → n < limit) → n + cond (eqb k m) 1 0 ≤ limit
@@ -162,13 +157,13 @@ leaf-pauses n a-pause = refl
 leaf-pauses n an-emit = refl
 leaf-pauses n an-exit = refl
 
-above-no-pause : {k : ℕ} → Above k → _≡_ {A = ℕ} (cond (eqb k 17) 1 0) 0
+pub above-no-pause : {k : ℕ} → Above k → _≡_ {A = ℕ} (cond (eqb k 17) 1 0) 0
 above-no-pause a-suspend = refl
 above-no-pause a-loop = refl
 above-no-pause a-trap = refl
 above-no-pause a-local = refl
 
-joined-no-pause : {k : ℕ} → Joined k → _≡_ {A = ℕ} (cond (eqb k 17) 1 0) 0
+pub joined-no-pause : {k : ℕ} → Joined k → _≡_ {A = ℕ} (cond (eqb k 17) 1 0) 0
 joined-no-pause a-present = refl
 joined-no-pause a-sequence = refl
 joined-no-pause a-parallel = refl
@@ -185,9 +180,9 @@ same-numbered {i} {j} p q e ij n =
 
 both-numbered : (i j : ℕ) (p q t : Stmt) → pauses t ≡ pauses p ++ pauses q → Numbered i p → Numbered j q → j ≡ i + length (pauses p) → Numbered i t
 unfolding Numbered
-both-numbered i j p q t e n m ej = e ∙ numbered-both i j (pauses p) (pauses q) n m ej ∙ ap (λ (l : List ℕ). from i (length l)) (sym e)
+both-numbered i j p q t e n m ej = e ∙ both-in-row i j (pauses p) (pauses q) n m ej ∙ ap (λ (l : List ℕ). from i (length l)) (sym e)
 
-leaf-numbered : {k : ℕ} (n : ℕ) (t : Stmt) → Leaf k → pauses t ≡ cond (eqb k 17) (n ∷ []) []
+pub leaf-numbered : {k : ℕ} (n : ℕ) (t : Stmt) → Leaf k → pauses t ≡ cond (eqb k 17) (n ∷ []) []
     → (length (pauses t) ≡ cond (eqb k 17) 1 0) × Numbered n t
 unfolding Numbered
 leaf-numbered {k} n t v e =
@@ -195,15 +190,30 @@ leaf-numbered {k} n t v e =
     let l = ap (λ (l : List ℕ). length l) f ∙ length-from n (cond (eqb k 17) 1 0) in
     (l, f ∙ ap (λ (m : ℕ). from n m) (sym l))
 
+-- The next local's number goes on from those of the children.
+next-of : {room end k x deep traps nested : ℕ} {h : Header} {a : Around} {r : Sofar} {ls : List ℕ} {t : Stmt} → Passes room end h a r k x → Nests k x deep traps nested ls t
+    → ls ≡ from (h .inputs + h .outputs + (r .locals + cond (eqb k 26) 1 0)) (length ls) → Next (h .inputs + h .outputs + r .locals) t
+unfolding Next
+next-of {k = k} {x = x} {h = h} {r = r} {ls = ls} g m e =
+    let n = h .inputs + h .outputs + r .locals in
+    let one : ℕ = cond (eqb k 26) 1 0 in
+    let f : ls ≡ from (n + one) (length ls) = e ∙ ap (λ (j : ℕ). from j (length ls)) (omega arith) in
+    m .its-locals ∙ in-row (eqb k 26) ls (λ z. g .declaring (eqb-true k 26 z) .1) f ∙ ap (λ (l : List ℕ). from n (length l)) (sym (m .its-locals))
+
+pub locals-counted : {k x deep traps nested : ℕ} {ls : List ℕ} {t : Stmt} → Nests k x deep traps nested ls t → length (locals t) ≡ cond (eqb k 26) 1 0 + length ls
+locals-counted {k} {x} {ls = ls} m = ap (λ (l : List ℕ). length l) (m .its-locals) ∙ length-where (eqb k 26) x ls
+
 module _ (b : List ℕ) (h : Header) (fits : h .inputs + h .outputs + h .locals ≤ 64) where
-  pub tree : {room : ℕ} {a : Around} {r r₁ : Sofar} {t : Stmt} → Around-fits a → Counts h r → Parsed b h room a r t r₁ → Tree (length b) h a r t r₁
-  unfolding past
+  pub tree : {room : ℕ} {a : Around} {r r₁ : Sofar} {t : Stmt} → Around-fits a → Counts h r → Parsed b h room a r t r₁ → Tree room (length b) h a r t r₁
+  unfolding past inside Next from
   tree f c (at-leaf {room = room} {a = a} {r = r} good v) =
       let k = kind-at b (r .place) in
       let x = operand-at b (r .place) in
       let g = passes (suc room) b h a r good in
       let m = leaf-builds x (r .pauses) v in
       let n = leaf-numbered (r .pauses) (leaf k x (r .pauses)) v (m .its-pauses) in
+      let o = leaf-nests x (r .pauses) v in
+      let i = inside-fits h fits f k g in
       record {
         ends-at = omega (arith, m .its-bytes);
         in-block = g .ends;
@@ -211,17 +221,22 @@ module _ (b : List ℕ) (h : Header) (fits : h .inputs + h .outputs + h .locals 
         few-statements = omega (arith, g .counted);
         paused = ap (λ (j : ℕ). r .pauses + j) (sym (n .0));
         counts = past-counts h fits f k g c;
-        more-locals = omega arith;
+        declared = omega (arith, locals-counted o);
         trapped = leaf-trapped h fits f g (r .pauses) v;
         numbered = n .1;
         small = leaf-small h fits f g v;
         scoped = leaf-scoped h fits f g (r .pauses) v;
+        path-fits = omega (arith, o .its-path);
+        traps-fit = omega (arith, o .its-traps, i .few-traps);
+        locals-fit = omega (arith, o .its-nested, i .few-nested);
+        next = next-of g o refl;
       }
   tree f c (at-above {room = room} {a = a} {r = r} {p = p} good v d) =
       let k = kind-at b (r .place) in
       let x = operand-at b (r .place) in
       let g = passes (suc room) b h a r good in
       let m = above-builds x (r .pauses) p v in
+      let o = above-nests x p v in
       let w = tree (inside-fits h fits f k g) (past-counts h fits f k g c) d in
       record {
         ends-at = omega (arith, m .its-bytes, w .ends-at);
@@ -230,17 +245,22 @@ module _ (b : List ℕ) (h : Header) (fits : h .inputs + h .outputs + h .locals 
         few-statements = w .few-statements;
         paused = omega (arith, w .paused, above-no-pause v, ap (λ (l : List ℕ). length l) (m .its-pauses));
         counts = w .counts;
-        more-locals = omega (arith, w .more-locals);
+        declared = omega (arith, w .declared, locals-counted o);
         trapped = above-trapped h fits f g p v (w .trapped);
         numbered = same-numbered p (above k x p) (m .its-pauses) (omega (arith, above-no-pause v)) (w .numbered);
         small = above-small h fits f g p v (w .small);
         scoped = above-scoped h fits f g p v (w .scoped);
+        path-fits = omega (arith, o .its-path, w .path-fits);
+        traps-fit = omega (arith, o .its-traps, w .traps-fit);
+        locals-fit = omega (arith, o .its-nested, w .locals-fit);
+        next = next-of g o (w .next);
       }
   tree f c (at-joined {room = room} {a = a} {r = r} {p = p} {q = q} good v d e) =
       let k = kind-at b (r .place) in
       let x = operand-at b (r .place) in
       let g = passes (suc room) b h a r good in
       let m = joined-builds x (r .pauses) p q v in
+      let o = joined-nests x p q v in
       let w = tree (inside-fits h fits f k g) (past-counts h fits f k g c) d in
       let z = tree (inside-fits h fits f k g) (w .counts) e in
       record {
@@ -250,9 +270,14 @@ module _ (b : List ℕ) (h : Header) (fits : h .inputs + h .outputs + h .locals 
         few-statements = z .few-statements;
         paused = omega (arith, w .paused, z .paused, joined-no-pause v, ap (λ (l : List ℕ). length l) (m .its-pauses), length-append (pauses p) (pauses q));
         counts = z .counts;
-        more-locals = omega (arith, w .more-locals, z .more-locals);
+        declared = omega (arith, w .declared, z .declared, locals-counted o, length-append (locals p) (locals q));
         trapped = joined-trapped h fits f g p q v (w .trapped) (z .trapped);
-        numbered = both-numbered (r .pauses) _ p q (joined k x p q) (m .its-pauses) (same-numbered p p refl (omega (arith, joined-no-pause v)) (w .numbered)) (z .numbered) (omega (arith, w .paused, joined-no-pause v));
+        numbered = both-numbered (r .pauses) _ p q (joined k x p q) (m .its-pauses) (same-numbered p p refl (omega (arith, joined-no-pause v)) (w .numbered)) (z .numbered)
+            (omega (arith, w .paused, joined-no-pause v));
         small = joined-small h fits f g p q v (w .small) (z .small);
         scoped = joined-scoped h fits f g p q v (w .scoped) (z .scoped);
+        path-fits = omega (arith, o .its-path, w .path-fits, z .path-fits);
+        traps-fit = omega (arith, o .its-traps, w .traps-fit, z .traps-fit);
+        locals-fit = omega (arith, o .its-nested, w .locals-fit, z .locals-fit);
+        next = next-of g o (both-in-row _ _ (locals p) (locals q) (w .next) (z .next) (omega (arith, w .declared)));
       }

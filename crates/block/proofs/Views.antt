@@ -1,14 +1,15 @@
 -- The eleven kinds as a view of a number, so that a proof by kinds has one case for each: four without a child, four with one, three with two.
-use mathlib.Core.Path.{_≡_, refl, sym, subst}
+use mathlib.Core.Path.{_≡_, refl, sym, subst, subst⁻¹}
 use mathlib.Core.Logic.{_⊎_, inl, inr, ⊎-elim}
 use mathlib.Core.Bool.{Bool, true, false}
-use Prim.Native.Nat.{ℕ}
-use lib.Dec.{eqb}
+use mathlib.Core.Option.{Option, none, some}
+use Prim.Native.Nat.{ℕ, _≤_}
+use lib.Dec.{eqb, lit≤}
 use native.Mathlib.Omega.{arith}
 use borrow.Author.Tests.{eqb-true, eqb-false}
 use Rattle.sets.specs.Numbers.{listed}
-use Rattle.block.specs.Format.{length-of, children-of}
-use Rattle.block.proofs.Shapes.{no-kind}
+use Rattle.block.specs.Format.{Shape, shape, short, long, of-shape, length-of, children-of}
+use Rattle.block.proofs.Shapes.{no-kind, no-length}
 
 pub data Leaf : ℕ → Type 0 where
   a-nothing : Leaf 16
@@ -39,15 +40,16 @@ is? k m = go (eqb k m) refl
     go true e = inl (eqb-true k m e)
     go false e = inr (eqb-false k m e)
 
-at-number : {k : ℕ} (m : ℕ) → Kind m → k ≡ m → Kind k
-at-number m v e = subst Kind (sym e) v
+at-number : {k : ℕ} (m : ℕ) → Kind m → k ≡ m → Kind k ⊎ (shape k ≡ none)
+at-number m v e = inl (subst Kind (sym e) v)
 
 neither : {P Q : Type 0} → (P → ⊥) → (Q → ⊥) → P ⊎ Q → ⊥
 neither p q (inl x) = p x
 neither p q (inr y) = q y
 
-pub kind? : (k : ℕ) → (length-of k ≡ 0 → ⊥) → Kind k
-kind? k n =
+-- Every number is one of the eleven kinds, or none.
+pub shape? : (k : ℕ) → Kind k ⊎ (shape k ≡ none)
+shape? k =
     ⊎-elim (at-number 16 (leafs a-nothing)) (λ n16.
     ⊎-elim (at-number 17 (leafs a-pause)) (λ n17.
     ⊎-elim (at-number 18 (leafs an-emit)) (λ n18.
@@ -59,25 +61,51 @@ kind? k n =
     ⊎-elim (at-number 19 (joins a-present)) (λ n19.
     ⊎-elim (at-number 21 (joins a-sequence)) (λ n21.
     ⊎-elim (at-number 23 (joins a-parallel)) (λ n23.
-    absurd (n (sym (no-kind k n16 n17 (neither n22 n24) (neither n21 n23) (neither n18 n25) (neither n20 n26) n19 .0))))
+    inr (no-kind k n16 n17 (neither n22 n24) (neither n21 n23) (neither n18 n25) (neither n20 n26) n19))
     (is? k 23)) (is? k 21)) (is? k 19)) (is? k 26)) (is? k 24)) (is? k 22)) (is? k 20)) (is? k 25)) (is? k 18)) (is? k 17)) (is? k 16)
 
+pub kind? : (k : ℕ) → (length-of k ≡ 0 → ⊥) → Kind k
+kind? k n = ⊎-elim (λ v. v) (λ e. absurd (n (no-length k e))) (shape? k)
+
+-- A record of an allowed kind has no operand or one.
+pub known : {k : ℕ} → Kind k → (shape k ≡ short (children-of k)) ⊎ (shape k ≡ long (children-of k))
+unfolding shape children-of listed
+known (leafs a-nothing) = inl refl
+known (leafs a-pause) = inl refl
+known (leafs an-emit) = inr refl
+known (leafs an-exit) = inr refl
+known (aboves a-suspend) = inr refl
+known (aboves a-loop) = inl refl
+known (aboves a-trap) = inl refl
+known (aboves a-local) = inr refl
+known (joins a-present) = inr refl
+known (joins a-sequence) = inl refl
+known (joins a-parallel) = inl refl
+
+pub known-length : {k : ℕ} → Kind k → (4 ≤ length-of k) × (length-of k ≤ 6)
+unfolding length-of
+known-length {k} v = ⊎-elim (of-length 4 (lit≤ tt) (lit≤ tt)) (of-length 6 (lit≤ tt) (lit≤ tt)) (known v)
+  where
+    of-length : (l : ℕ) {o n : ℕ} → 4 ≤ l → l ≤ 6 → shape k ≡ some (record { length = l; operands = o; children = n })
+        → (4 ≤ of-shape (λ s. s .length) (shape k)) × (of-shape (λ s. s .length) (shape k) ≤ 6)
+    of-length l h g e = subst⁻¹ (λ (s : Option Shape). (4 ≤ of-shape (λ s. s .length) s) × (of-shape (λ s. s .length) s ≤ 6)) e (h, g)
+
 pub leaf-children : {k : ℕ} → Leaf k → children-of k ≡ 0
-unfolding children-of listed
+unfolding shape children-of listed
 leaf-children a-nothing = refl
 leaf-children a-pause = refl
 leaf-children an-emit = refl
 leaf-children an-exit = refl
 
 pub above-children : {k : ℕ} → Above k → children-of k ≡ 1
-unfolding children-of listed
+unfolding shape children-of listed
 above-children a-suspend = refl
 above-children a-loop = refl
 above-children a-trap = refl
 above-children a-local = refl
 
 pub joined-children : {k : ℕ} → Joined k → children-of k ≡ 2
-unfolding children-of listed
+unfolding shape children-of listed
 joined-children a-present = refl
 joined-children a-sequence = refl
 joined-children a-parallel = refl

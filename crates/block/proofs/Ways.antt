@@ -152,12 +152,12 @@ module _ {b : List ℕ} {d : Declared} {c : Context} {r : Cursor} {k x : ℕ} {c
   unfolding past
   one-later = ap (λ (s : Sofar). s .statements) (w .next)
 
-  pub first-tree : {p : Stmt} {r₂ : Cursor} → first ≡ got p (sofar-of r₂) → Tree (length b) h (around-of c₁) (sofar-of r₁) p (sofar-of r₂)
+  pub first-tree : {p : Stmt} {r₂ : Cursor} → first ≡ got p (sofar-of r₂) → Tree (c₁ .room) (length b) h (around-of c₁) (sofar-of r₁) p (sofar-of r₂)
   first-tree {p} {r₂} e =
       tree b h (w .ready .signals) child-fits child-counts (parsed b h (c₁ .room) (around-of c₁) (sofar-of r₁) p (sofar-of r₂) e)
 
   pub second-tree : {p q : Stmt} {r₂ r₃ : Cursor} → first ≡ got p (sofar-of r₂) → second r₂ ≡ got q (sofar-of r₃)
-      → Tree (length b) h (around-of c₁) (sofar-of r₂) q (sofar-of r₃)
+      → Tree (c₁ .room) (length b) h (around-of c₁) (sofar-of r₂) q (sofar-of r₃)
   second-tree {p} {q} {r₂} {r₃} e f =
       tree b h (w .ready .signals) child-fits (first-tree e .counts) (parsed b h (c₁ .room) (around-of c₁) (sofar-of r₂) q (sofar-of r₃) f)
 
@@ -202,7 +202,9 @@ module _ {b : List ℕ} {d : Declared} {c : Context} {r : Cursor} {k x : ℕ} {c
       there₁ = begun-same begun-there (one .kept n (omega (arith, one-later)))
 
       pub end-first : {m at : ℕ} → (children-of k ≡ 0 → ⊥) → a₁ ≡ Refused m at → Reads (read (c .room) b h (around-of c) (sofar-of r)) n (table-of ks xs ns) tab₁ (Refused m at)
-      end-first {m} {at} with-child e = reads-refused (⊎-elim (λ e₁. way-above e₁ ∙ stops _) (λ n₁. way-joined (joined-children (joined? (hand-passes .its-kind) with-child n₁)) ∙ stops _) (is? (children-of k) 1)) same₁ (one .full)
+      end-first {m} {at} with-child e =
+          reads-refused (⊎-elim (λ e₁. way-above e₁ ∙ stops _)
+          (λ n₁. way-joined (joined-children (joined? (hand-passes .its-kind) with-child n₁)) ∙ stops _) (is? (children-of k) 1)) same₁ (one .full)
         where
           stops : (f : Stmt → Sofar → Got) → and-then first f ≡ refused m at
           stops f = ap (λ (g : Got). and-then g f) (was-refused first (sym (one .answered) ∙ e))
@@ -275,7 +277,8 @@ module _ {b : List ℕ} {d : Declared} {c : Context} {r : Cursor} {k x : ℕ} {c
                 let q = second-got .0 in
                 reads-got (joined k x p q) r₃ (way₂ ∙ ap (λ (g : Got). and-then g (λ q s₁. got (joined k x p q) s₁)) (second-got .1))
                 (joined-has x p q its-join
-                (row-ends ks₂ xs₂ ns₂ n k x (r .pauses) (statements p + statements q) _ (r₃ .statements - n) _ _ (hand-passes .counted) (two .full) there₂ (joined-builds x (r .pauses) p q its-join) (omega (arith, size₂)))
+                (row-ends ks₂ xs₂ ns₂ n k x (r .pauses) (statements p + statements q) _ (r₃ .statements - n) _ _ (hand-passes .counted) (two .full) there₂
+                (joined-builds x (r .pauses) p q its-join) (omega (arith, size₂)))
                 (has-same p (n + 1) (λ j l m. same-trans (two .kept j (omega (arith, size₁))) (same-but-size ks₂ xs₂ ns₂ n (r₃ .statements - n) j (omega arith))) has₁)
                 (has-same q (n + 1 + statements p) (λ j l m. same-but-size ks₂ xs₂ ns₂ n (r₃ .statements - n) j (omega arith)) has₂))
                 (λ j l. same-trans (same₂ j l) (same-but-size ks₂ xs₂ ns₂ n (r₃ .statements - n) j (omega arith)))

@@ -73,20 +73,48 @@ header-fault b =
     (cond (ltb 64 (h .inputs + h .outputs + h .locals)) LIMIT
     0)))
 
--- Length 4, no operand: 16 nothing, 17 pause; 22 loop, 24 trap; 21 sequence, 23 parallel. Length 6, operand a signal: 18 emit;
--- 20 suspend, 26 local; 19 present; operand a depth: 25 exit. No length for a kind that is not allowed.
-unfoldable pub length-of : ℕ → ℕ
-length-of k =
-    cond (listed (16 ∷ 17 ∷ 22 ∷ 24 ∷ 21 ∷ 23 ∷ []) k) 4
-    (cond (listed (18 ∷ 20 ∷ 26 ∷ 19 ∷ 25 ∷ []) k) 6
-    0)
+-- What a record of a kind has: its length, how many operands, and how many children its statement has.
+pub record Shape : Type 0 where
+  pub length : ℕ
+  pub operands : ℕ
+  pub children : ℕ
 
--- No child: nothing, pause, emit, exit; one: loop, trap, suspend, local; two: sequence, parallel, present.
+-- Length 4, no operand; length 6, one operand.
+abbrev pub short : ℕ → Option Shape
+short n = some (record { length = 4; operands = 0; children = n })
+
+abbrev pub long : ℕ → Option Shape
+long n = some (record { length = 6; operands = 1; children = n })
+
+-- Length 4, no operand: 16 nothing, 17 pause (no child); 22 loop, 24 trap (one); 21 sequence, 23 parallel (two). Length 6,
+-- operand a signal: 18 emit (no child); 20 suspend, 26 local (one); 19 present (two). Length 6, operand a depth: 25 exit (no
+-- child). No other kind is allowed.
+unfoldable pub shape : ℕ → Option Shape
+shape k =
+    cond (listed (16 ∷ 17 ∷ []) k) (short 0)
+    (cond (listed (22 ∷ 24 ∷ []) k) (short 1)
+    (cond (listed (21 ∷ 23 ∷ []) k) (short 2)
+    (cond (listed (18 ∷ 25 ∷ []) k) (long 0)
+    (cond (listed (20 ∷ 26 ∷ []) k) (long 1)
+    (cond (listed (19 ∷ []) k) (long 2)
+    none)))))
+
+-- A number of a kind's shape; a kind that is not allowed has none, and 0 is no record's length.
+abbrev pub of-shape : (Shape → ℕ) → Option Shape → ℕ
+of-shape f none = 0
+of-shape f (some s) = f s
+
+unfoldable pub length-of : ℕ → ℕ
+unfolding shape
+length-of k = of-shape (λ s. s .length) (shape k)
+
+unfoldable pub operands-of : ℕ → ℕ
+unfolding shape
+operands-of k = of-shape (λ s. s .operands) (shape k)
+
 unfoldable pub children-of : ℕ → ℕ
-children-of k =
-    cond (listed (16 ∷ 17 ∷ 18 ∷ 25 ∷ []) k) 0
-    (cond (listed (22 ∷ 24 ∷ 20 ∷ 26 ∷ []) k) 1
-    2)
+unfolding shape
+children-of k = of-shape (λ s. s .children) (shape k)
 
 -- What has been read: the first byte not read yet, and how many statements, pauses and locals there were.
 pub record Sofar : Type 0 where

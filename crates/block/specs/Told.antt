@@ -2,12 +2,15 @@
 use mathlib.Core.Path.{_≡_}
 use mathlib.Core.Bool.{cond}
 use mathlib.Core.List.{List}
+use mathlib.Core.Option.{Option, none, some}
 use Prim.Native.Nat.{ℕ, _+_, _≤_, _<_}
 use lib.Dec.{T, eqb}
 use lib.ListN.{getD, length}
 use Rattle.sets.specs.Words.{bits}
 use Rattle.block.specs.Table.{Table, Has}
-use Rattle.block.specs.Format.{Header, Sofar, Around, Got, got, refused, Good, Reading, good, turned-down, length-of}
+use Rattle.block.specs.Format.{Header, Sofar, Around, Got, got, refused, Good, Reading, good, turned-down, Shape, operands-of}
+use Rattle.block.specs.declared.kinds.Wire.{Wire}
+use Rattle.block.specs.declared.kinds.Wire.the-variants.{Allowed, Unknown}
 use Rattle.block.specs.declared.Declared.{Declared}
 use Rattle.block.specs.declared.Cursor.{Cursor}
 use Rattle.block.specs.declared.Context.{Context}
@@ -16,6 +19,11 @@ use Rattle.block.specs.declared.whole.Answer.{Answer}
 use Rattle.block.specs.declared.whole.Answer.the-variants.{Good as GoodBlock, Refused as RefusedBlock}
 use Rattle.block.specs.declared.reader.Read.{Read}
 use Rattle.block.specs.declared.reader.Read.the-variants.{Got as GotTo, Refused}
+
+-- The shape of a kind, as the code tells it.
+unfoldable pub wire-of : Option Shape → Wire
+wire-of none = Unknown
+wire-of (some s) = Allowed (record { length = s .length; operands = s .operands; children = s .children })
 
 -- The header that the code carries.
 abbrev pub header-of : Declared → Header
@@ -30,7 +38,7 @@ around-of c = record { traps = c .traps; nested = c .nested; scope = bits (c .sc
 
 -- The operand that the table keeps of a record of kind k with operand x, after n pauses.
 unfoldable pub kept-operand : ℕ → ℕ → ℕ → ℕ
-kept-operand k x n = cond (eqb k 17) n (cond (eqb (length-of k) 6) x 0)
+kept-operand k x n = cond (eqb k 17) n (cond (eqb (operands-of k) 1) x 0)
 
 abbrev pub cursor-of : Sofar → Cursor
 cursor-of r = record { at = r .place; statements = r .statements; pauses = r .pauses; locals = r .locals }

@@ -3,7 +3,7 @@ use crate::Context;
 use crate::Cursor;
 use crate::Declared;
 use crate::kinds::Depth;
-use crate::kinds::shape_of;
+use crate::kinds::record_length;
 use crate::records::broken;
 use crate::records::two_bytes;
 ghost use mathlib.Core.Path.{_≡_};
@@ -108,7 +108,7 @@ pub(crate) fn statement_fault(b: &[u8], d: Declared, c: Context, r: Cursor) -> u
         return 1;
     }
     let kind = two_bytes(b, at + 2);
-    if shape_of(kind).length != two_bytes(b, at) {
+    if record_length(kind) != two_bytes(b, at) {
         return 2;
     }
     if limit_passed(c, r, kind) {

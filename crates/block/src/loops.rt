@@ -1,7 +1,7 @@
 // The check of the loops: one walk over the table from the last statement to the first, with the codes of each statement.
 use crate::codes::codes_for;
-use crate::codes::has_code;
 use crate::kinds::wide;
+use code_sets::has_code;
 ghost use mathlib.Core.Path.{_≡_};
 ghost use mathlib.Core.Bool.{cond, _&&_};
 ghost use Prim.Native.Nat.{_+_, _≤_, _<_};

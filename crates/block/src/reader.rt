@@ -3,6 +3,7 @@ use crate::Context;
 use crate::Cursor;
 use crate::Declared;
 use crate::faults::statement_fault;
+use crate::kinds::Wire;
 use crate::kinds::shape_of;
 use crate::records::two_bytes;
 use crate::steps::inner;
@@ -42,7 +43,10 @@ pub(crate) fn read_at(
     let n = r.statements;
     let kind = two_bytes(b, at + 2);
     let operand = two_bytes(b, at + 4);
-    let s = shape_of(kind);
+    let shape = shape_of(kind);
+    let Wire::Allowed(s) = shape else {
+        return Read::Refused(2, at);
+    };
     let children = s.children;
     kinds[n] = kind;
     operands[n] = kept(kind, s.operands, operand, r.pauses);

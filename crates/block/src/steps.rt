@@ -9,7 +9,7 @@ ghost use Prim.Native.Nat.{_+_, _≤_, _<_};
 ghost use lib.Dec.{eqb};
 ghost use Rattle.sets.specs.Numbers.{union, single};
 ghost use Rattle.sets.specs.Words.{bits};
-ghost use Rattle.block.specs.Format.{header, length-of, past, inside};
+ghost use Rattle.block.specs.Format.{header, length-of, operands-of, past, inside};
 ghost use Rattle.block.specs.Told.{header-of, sofar-of, around-of, kept-operand};
 
 // What the header declares.
@@ -69,7 +69,7 @@ pub(crate) fn inner(c: Context, kind: u16, s: u16) -> Context
 
 // The operand that the table keeps.
 pub(crate) fn kept(kind: u16, operands: u16, operand: u16, pauses: u16) -> u16
-    requires { ⌜ operands ≡ cond (eqb (length-of kind) 6) 1 0 ⌝ }
+    requires { ⌜ operands ≡ operands-of kind ⌝ }
     ensures { λ r. ⌜ r ≡ kept-operand kind operand pauses ⌝ }
 {
     if kind == 17 {

@@ -3,7 +3,7 @@ use crate::Context;
 use crate::Cursor;
 use crate::Declared;
 use crate::faults::header_fault;
-use crate::kinds::shape_of;
+use crate::kinds::record_length;
 use crate::loops::lowest_endless;
 use crate::reader::Read;
 use crate::reader::read_at;
@@ -13,7 +13,7 @@ ghost use Prim.Native.Nat.{_≤_, _<_};
 ghost use lib.ListN.{length};
 ghost use Rattle.rules.specs.Statements.{Stmt};
 ghost use Rattle.block.specs.Table.{statements};
-ghost use Rattle.block.specs.Format.{length-of, got, ended, reading, offset};
+ghost use Rattle.block.specs.Format.{got, ended, reading, offset};
 ghost use Rattle.block.specs.Told.{header-of, sofar-of, table-of, Full, answer-to, ReadWhole};
 ghost use Rattle.block.specs.Codes.{Tabled, Listed};
 
@@ -33,12 +33,6 @@ pub enum Answer {
     Refused(u16, usize),
 }
 
-fn record_length(kind: u16) -> usize
-    ensures { λ r. ⌜ r ≡ length-of kind ⌝ }
-{
-    shape_of(kind).length as usize
-}
-
 // The offset of statement n: the header and the records of all statements before it.
 pub fn offset_of(kinds: &[u16; 512], n: usize) -> usize
     requires { ⌜ n ≤ 512 ⌝ }
@@ -47,7 +41,7 @@ pub fn offset_of(kinds: &[u16; 512], n: usize) -> usize
     let mut at: usize = 14;
     let mut i: usize = 0;
     while i < n {
-        at = at + record_length(kinds[i]);
+        at = at + record_length(kinds[i]) as usize;
         i += 1;
     }
     at

@@ -1,5 +1,8 @@
 // Blocks written for the cases: a page of bytes, filled from its front.
 use crate::lines::word;
+use block::Declared;
+use writing::put_header;
+use writing::put_record;
 
 // One byte more, while there is room.
 fn put(page: &mut [u8], at: usize, byte: u8) -> usize {
@@ -10,43 +13,32 @@ fn put(page: &mut [u8], at: usize, byte: u8) -> usize {
     at
 }
 
-// Two bytes, little-endian.
-fn two(page: &mut [u8], at: usize, x: u16) -> usize {
-    let next = put(page, at, (x % 256) as u8);
-    put(page, next, (x / 256 % 256) as u8)
-}
-
-// A record without an operand.
-fn short(page: &mut [u8], at: usize, kind: u16) -> usize {
-    let next = two(page, at, 4);
-    two(page, next, kind)
-}
-
-// A record with one.
-fn long(page: &mut [u8], at: usize, kind: u16, operand: u16) -> usize {
-    let next = two(page, at, 6);
-    let last = two(page, next, kind);
-    two(page, last, operand)
-}
-
-// A header of edition 1 and version 7.
+// A header of version 7, where there is room.
 fn header(page: &mut [u8], inputs: u16, outputs: u16, locals: u16) -> usize {
-    let a = two(page, 0, 14);
-    let b = two(page, a, 1);
-    let c = two(page, b, 1);
-    let d = two(page, c, 7);
-    let e = two(page, d, inputs);
-    let f = two(page, e, outputs);
-    two(page, f, locals)
+    if page.len() < 14 {
+        return 0;
+    }
+    put_header(
+        page,
+        Declared {
+            version: 7,
+            inputs: inputs,
+            outputs: outputs,
+            locals: locals,
+        },
+    );
+    14
 }
 
-// A statement's record by its kind.
+// A statement's record by its kind, while there is room.
 fn statement(page: &mut [u8], at: usize, kind: u16, operand: u16) -> usize {
-    match kind {
-        18..=20 => long(page, at, kind, operand),
-        25..=26 => long(page, at, kind, operand),
-        _ => short(page, at, kind),
+    if page.len() < 6 {
+        return at;
     }
+    if page.len() - 6 < at {
+        return at;
+    }
+    put_record(page, at, kind, operand)
 }
 
 // Records from pairs of kind and operand.

@@ -1,10 +1,10 @@
 // Sets of pauses: 128 bits in two words, by value.
 use crate::words::gives_zero;
 use block::codes::code_bit;
-use block::codes::followed_codes;
-use block::codes::larger;
-use block::codes::lowered;
 use block::kinds::Code;
+use code_sets::followed_codes;
+use code_sets::larger;
+use code_sets::lowered;
 ghost use mathlib.Core.Path.{_≡_};
 ghost use mathlib.Core.Bool.{_&&_};
 ghost use lib.Dec.{ltb};

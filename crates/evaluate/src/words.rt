@@ -1,9 +1,9 @@
 // Words of signals, codes and statuses, and what the rules do to them: each rule is a function here with its own contract.
 use block::codes::code_bit;
-use block::codes::followed_codes;
-use block::codes::larger;
-use block::codes::lowered;
 use block::kinds::Code;
+use code_sets::followed_codes;
+use code_sets::larger;
+use code_sets::lowered;
 ghost use mathlib.Core.Path.{_≡_};
 ghost use mathlib.Core.Bool.{true, false, _&&_};
 ghost use lib.Dec.{ltb};

@@ -4,17 +4,18 @@ use mathlib.Core.Path.{refl, _∙_}
 use Rattle.sets.specs.Words.{bits}
 use Rattle.sets.proofs.Words.{is-set, is-single}
 use Rattle.block.specs.Codes.{codes-for}
-use Rattle.block.proofs.CodeLaws.{union-is, code-at, code-at-either, code-zero}
+use Rattle.code_sets.proofs.Laws.{union-is}
+use Rattle.block.proofs.CodeLaws.{code-at, code-at-either, code-zero}
 use borrow.Author.Needs.{needs}
 use Rattle.block.proofs.codes.codes_for.Statement.{statement}
 use Rattle.block.proofs.codes.codes_for.Tie as tie
 use Rattle.block.proofs.codes.codes_for.Reads as reads
 use Rattle.block.proofs.codes.codes_for.Lts as lts
 use Rattle.block.proofs.codes.exit_codes.Reads as exit-codes-reads
-use Rattle.block.proofs.codes.followed_codes.Reads as followed-codes-reads
-use Rattle.block.proofs.codes.larger.Reads as larger-reads
-use Rattle.block.proofs.codes.lowered.Reads as lowered-reads
-use Rattle.block.proofs.codes.without_zero.Reads as without-zero-reads
+use Rattle.code_sets.proofs.followed_codes.Reads as followed-codes-reads
+use Rattle.code_sets.proofs.larger.Reads as larger-reads
+use Rattle.code_sets.proofs.lowered.Reads as lowered-reads
+use Rattle.code_sets.proofs.without_zero.Reads as without-zero-reads
 
 followed-codes-requires : tie.Need-followed-codes-requires
 followed-codes-requires c κs = search needs
@@ -61,13 +62,17 @@ returns-7 c = λ h. code-at 24 (c .before .before .args .operand) (bits (c .befo
 
 returns-8 : tie.Need-returns-8
 unfolding codes-for
-returns-8 c = λ h. code-at 25 (c .before .before .args .operand) (bits (c .before .before .args .first)) (bits (c .before .before .args .second)) (c .before .match .keys8) (c .exit-codes .ensures (h (c .before .match .keys8)))
+returns-8 c =
+    let p1 = c .before in
+    let p2 = p1 .before in
+    λ h. code-at 25 (p2 .args .operand) (bits (p2 .args .first)) (bits (p2 .args .second)) (p1 .match .keys8) (c .exit-codes .ensures (h (p1 .match .keys8)))
 
 returns-9 : tie.Need-returns-9
 unfolding codes-for
 returns-9 c = λ h.
     let m = c .match .rest in
-    is-set (is-single 0) ∙ code-zero (c .before .args .kind) (c .before .args .operand) (bits (c .before .args .first)) (bits (c .before .args .second)) (m .0 .0 .0 .0 .0 .0 .0 .1) (m .0 .0 .0 .0 .0 .0 .1) (m .0 .0 .0 .0 .0 .1) (m .0 .0 .0 .0 .1) (m .0 .0 .0 .1) (m .0 .0 .1) (m .0 .1) (m .1)
+    is-set (is-single 0) ∙ code-zero (c .before .args .kind) (c .before .args .operand) (bits (c .before .args .first)) (bits (c .before .args .second)) (m .0 .0 .0 .0 .0 .0 .0 .1)
+    (m .0 .0 .0 .0 .0 .0 .1) (m .0 .0 .0 .0 .0 .1) (m .0 .0 .0 .0 .1) (m .0 .0 .0 .1) (m .0 .0 .1) (m .0 .1) (m .1)
 
 pub codes-for-spec : {M : Type 1} → statement M
 codes-for-spec =

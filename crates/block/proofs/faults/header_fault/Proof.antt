@@ -28,13 +28,28 @@ two-bytes-requires-2 : tie.Need-two-bytes-requires-2
 two-bytes-requires-2 c κs = search needs
 
 returns-3 : tie.Need-returns-3
-returns-3 c = sym (header-length _ (sym (c .before .before .before .before .before .broken .ensures) ∙ c .before .before .before .before .if1 .left) (sym (c .before .before .before .two-bytes .ensures) ∙ c .before .before .if2 .left) (λ e. c .if3 .taken (c .before .two-bytes2 .ensures ∙ e)))
+returns-3 c =
+    let p1 = c .before in
+    let p2 = p1 .before in
+    let p3 = p2 .before in
+    let p4 = p3 .before in
+    let p5 = p4 .before in
+    sym (header-length _ (sym (p5 .broken .ensures) ∙ p4 .if1 .left) (sym (p3 .two-bytes .ensures) ∙ p2 .if2 .left) (λ e. c .if3 .taken (p1 .two-bytes2 .ensures ∙ e)))
 
 two-bytes-requires-3 : tie.Need-two-bytes-requires-3
 two-bytes-requires-3 c κs = search needs
 
 returns-4 : tie.Need-returns-4
-returns-4 c = sym (header-edition _ (sym (c .before .before .before .before .before .before .before .broken .ensures) ∙ c .before .before .before .before .before .before .if1 .left) (sym (c .before .before .before .before .before .two-bytes .ensures) ∙ c .before .before .before .before .if2 .left) (sym (c .before .before .before .two-bytes2 .ensures) ∙ c .before .before .if3 .left) (λ e. c .if4 .taken (c .before .two-bytes3 .ensures ∙ e)))
+returns-4 c =
+    let p1 = c .before in
+    let p2 = p1 .before in
+    let p3 = p2 .before in
+    let p4 = p3 .before in
+    let p5 = p4 .before in
+    let p6 = p5 .before in
+    let p7 = p6 .before in
+    sym (header-edition _ (sym (p7 .broken .ensures) ∙ p6 .if1 .left) (sym (p5 .two-bytes .ensures) ∙ p4 .if2 .left) (sym (p3 .two-bytes2 .ensures) ∙ p2 .if3 .left)
+    (λ e. c .if4 .taken (p1 .two-bytes3 .ensures ∙ e)))
 
 two-bytes-requires-4 : tie.Need-two-bytes-requires-4
 two-bytes-requires-4 c κs = search needs
@@ -49,10 +64,38 @@ signals-passed-requires : tie.Need-signals-passed-requires
 signals-passed-requires c κs = search needs
 
 returns-5 : tie.Need-returns-5
-returns-5 c = sym (header-signals _ (sym (c .before .before .before .before .before .before .before .before .before .before .before .before .broken .ensures) ∙ c .before .before .before .before .before .before .before .before .before .before .before .if1 .left) (sym (c .before .before .before .before .before .before .before .before .before .before .two-bytes .ensures) ∙ c .before .before .before .before .before .before .before .before .before .if2 .left) (sym (c .before .before .before .before .before .before .before .before .two-bytes2 .ensures) ∙ c .before .before .before .before .before .before .before .if3 .left) (sym (c .before .before .before .before .before .before .two-bytes3 .ensures) ∙ c .before .before .before .before .before .if4 .left) true (sym (c .if5 .taken) ∙ c .before .signals-passed .ensures ∙ cc (c .before .before .before .before .two-bytes4 .ensures, c .before .before .before .two-bytes5 .ensures, c .before .before .two-bytes6 .ensures)))
+returns-5 c =
+    let p1 = c .before in
+    let p2 = p1 .before in
+    let p3 = p2 .before in
+    let p4 = p3 .before in
+    let p5 = p4 .before in
+    let p6 = p5 .before in
+    let p7 = p6 .before in
+    let p8 = p7 .before in
+    let p9 = p8 .before in
+    let p10 = p9 .before in
+    let p11 = p10 .before in
+    let p12 = p11 .before in
+    sym (header-signals _ (sym (p12 .broken .ensures) ∙ p11 .if1 .left) (sym (p10 .two-bytes .ensures) ∙ p9 .if2 .left) (sym (p8 .two-bytes2 .ensures) ∙ p7 .if3 .left)
+    (sym (p6 .two-bytes3 .ensures) ∙ p5 .if4 .left) true (sym (c .if5 .taken) ∙ p1 .signals-passed .ensures ∙ cc (p4 .two-bytes4 .ensures, p3 .two-bytes5 .ensures, p2 .two-bytes6 .ensures)))
 
 returns-6 : tie.Need-returns-6
-returns-6 c = sym (header-signals _ (sym (c .before .before .before .before .before .before .before .before .before .before .before .before .broken .ensures) ∙ c .before .before .before .before .before .before .before .before .before .before .before .if1 .left) (sym (c .before .before .before .before .before .before .before .before .before .before .two-bytes .ensures) ∙ c .before .before .before .before .before .before .before .before .before .if2 .left) (sym (c .before .before .before .before .before .before .before .before .two-bytes2 .ensures) ∙ c .before .before .before .before .before .before .before .if3 .left) (sym (c .before .before .before .before .before .before .two-bytes3 .ensures) ∙ c .before .before .before .before .before .if4 .left) false (sym (c .if5 .left) ∙ c .before .signals-passed .ensures ∙ cc (c .before .before .before .before .two-bytes4 .ensures, c .before .before .before .two-bytes5 .ensures, c .before .before .two-bytes6 .ensures)))
+returns-6 c =
+    let p1 = c .before in
+    let p2 = p1 .before in
+    let p3 = p2 .before in
+    let p4 = p3 .before in
+    let p5 = p4 .before in
+    let p6 = p5 .before in
+    let p7 = p6 .before in
+    let p8 = p7 .before in
+    let p9 = p8 .before in
+    let p10 = p9 .before in
+    let p11 = p10 .before in
+    let p12 = p11 .before in
+    sym (header-signals _ (sym (p12 .broken .ensures) ∙ p11 .if1 .left) (sym (p10 .two-bytes .ensures) ∙ p9 .if2 .left) (sym (p8 .two-bytes2 .ensures) ∙ p7 .if3 .left)
+    (sym (p6 .two-bytes3 .ensures) ∙ p5 .if4 .left) false (sym (c .if5 .left) ∙ p1 .signals-passed .ensures ∙ cc (p4 .two-bytes4 .ensures, p3 .two-bytes5 .ensures, p2 .two-bytes6 .ensures)))
 
 pub header-fault-spec : {M : Type 1} → statement M
 header-fault-spec =

@@ -1,50 +1,70 @@
--- `kinds::shape_of` meets its contract: each arm's numbers have the arm's length and children by computation.
--- Assumes nothing.
+-- `kinds::shape_of` meets its contract: each arm by the law of its range. Assumes nothing.
+use mathlib.Core.Path.{_≡_, refl, sym, ap, _∙_}
 use native.Mathlib.Omega.{arith}
-use mathlib.Core.Path.{refl}
-use Rattle.sets.specs.Numbers.{listed}
-use Rattle.block.specs.Format.{length-of, children-of}
-use Rattle.block.proofs.Shapes.{at-kind, either, sixteen-or-seventeen, no-kind}
+use Rattle.block.specs.Told.{wire-of}
+use Rattle.block.specs.Format.{short, long}
+use Rattle.block.proofs.Shapes.{first-range, signal-range, plain-range, last-range, below-kinds, above-kinds}
+use borrow.Author.Needs.{needs}
 use Rattle.block.proofs.kinds.shape_of.Statement.{statement}
 use Rattle.block.proofs.kinds.shape_of.Tie as tie
 use Rattle.block.proofs.kinds.shape_of.Reads as reads
 use Rattle.block.proofs.kinds.shape_of.Lts as lts
+use Rattle.block.proofs.kinds.in_turn.Reads as in-turn-reads
+use Rattle.block.proofs.kinds.long.Reads as long-reads
+use Rattle.block.proofs.kinds.short.Reads as short-reads
+use Rattle.block.proofs.kinds.under_signal.Reads as under-signal-reads
+
+short-requires : tie.Need-short-requires
+short-requires c κs = search needs
+
+under-signal-requires : tie.Need-under-signal-requires
+under-signal-requires c κs = search needs
+
+long-requires : tie.Need-long-requires
+long-requires c κs = search needs
+
+in-turn-requires : tie.Need-in-turn-requires
+in-turn-requires c κs = search needs
+
+short-requires-2 : tie.Need-short-requires-2
+short-requires-2 c κs = search needs
+
+long-requires-2 : tie.Need-long-requires-2
+long-requires-2 c κs = search needs
 
 returns : tie.Need-returns
-unfolding length-of children-of listed
-returns c = either 22 24 4 1 0 (refl, refl, refl) (refl, refl, refl) (c .match .keys1)
+returns c = c .short .ensures ∙ ap wire-of (sym (first-range _ (omega arith) (omega arith)))
 
 returns-2 : tie.Need-returns-2
-unfolding length-of children-of listed
-returns-2 c = either 21 23 4 2 0 (refl, refl, refl) (refl, refl, refl) (c .match .keys2)
+returns-2 c = c .long .ensures ∙ ap (λ n. wire-of (long n)) (c .before .under-signal .ensures) ∙ ap wire-of (sym (signal-range _ (omega arith) (omega arith)))
 
 returns-3 : tie.Need-returns-3
-unfolding length-of children-of listed
-returns-3 c = either 18 25 6 0 1 (refl, refl, refl) (refl, refl, refl) (c .match .keys3)
+returns-3 c = c .short2 .ensures ∙ ap (λ n. wire-of (short n)) (c .before .in-turn .ensures) ∙ ap wire-of (sym (plain-range _ (omega arith) (omega arith)))
 
 returns-4 : tie.Need-returns-4
-unfolding length-of children-of listed
-returns-4 c = either 20 26 6 1 1 (refl, refl, refl) (refl, refl, refl) (c .match .keys4)
+returns-4 c = c .long2 .ensures ∙ ap wire-of (sym (last-range _ (omega arith) (omega arith)))
 
 returns-5 : tie.Need-returns-5
-unfolding length-of children-of listed
-returns-5 c = at-kind 19 6 2 1 (refl, refl, refl) (c .match .keys5)
+unfolding wire-of
+returns-5 c = sym (ap wire-of (below-kinds _ (omega arith)))
 
 returns-6 : tie.Need-returns-6
-unfolding length-of children-of listed
-returns-6 c = either {k = c .before .before .before .args .kind} 16 17 4 0 0 (refl, refl, refl) (refl, refl, refl) (sixteen-or-seventeen (omega arith) (omega arith))
-
-returns-7 : tie.Need-returns-7
-returns-7 c =
-    let m = c .before .match .rest in
-    no-kind _ (omega arith) (omega arith) (m .0 .0 .0 .0 .1) (m .0 .0 .0 .1) (m .0 .0 .1) (m .0 .1) (m .1)
-
-returns-8 : tie.Need-returns-8
-returns-8 c =
-    let m = c .before .before .match .rest in
-    no-kind _ (omega arith) (omega arith) (m .0 .0 .0 .0 .1) (m .0 .0 .0 .1) (m .0 .0 .1) (m .0 .1) (m .1)
+unfolding wire-of
+returns-6 c = sym (ap wire-of (above-kinds _ (omega arith)))
 
 pub shape-of-spec : {M : Type 1} → statement M
 shape-of-spec =
     tie.close
-    (tie.spec returns returns-2 returns-3 returns-4 returns-5 returns-6 returns-7 returns-8)
+    (tie.spec
+    short-requires
+    under-signal-requires
+    long-requires
+    in-turn-requires
+    short-requires-2
+    long-requires-2
+    returns
+    returns-2
+    returns-3
+    returns-4
+    returns-5
+    returns-6)

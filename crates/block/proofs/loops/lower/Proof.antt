@@ -8,7 +8,7 @@ use Rattle.block.proofs.loops.lower.Statement.{statement}
 use Rattle.block.proofs.loops.lower.Tie as tie
 use Rattle.block.proofs.loops.lower.Reads as reads
 use Rattle.block.proofs.loops.lower.Lts as lts
-use Rattle.block.proofs.codes.has_code.Reads as has-code-reads
+use Rattle.code_sets.proofs.has_code.Reads as has-code-reads
 
 has-code-requires : tie.Need-has-code-requires
 has-code-requires c κs = search needs

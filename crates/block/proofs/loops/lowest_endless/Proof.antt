@@ -42,25 +42,49 @@ word-at-requires-2 : tie.Need-word-at-requires-2 Inv-loop μ-loop
 word-at-requires-2 c κs = c .before .before .before .before .before .loop .inv .wide
 
 mul-kind : tie.Need-mul-kind Inv-loop μ-loop
-mul-kind c = omega (arith, c .before .before .before .before .before .before .loop .inv .in-count, c .before .before .before .before .before .loop-test .taken, c .before .before .before .before .before .before .before .pre)
+mul-kind c =
+    let p1 = c .before .before .before .before .before in
+    let p2 = p1 .before in
+    let p3 = p2 .before in
+    omega (arith, p2 .loop .inv .in-count, p1 .loop-test .taken, p3 .pre)
 
 element-copy-out-kind : tie.Need-element-copy-out-kind Inv-loop μ-loop
-element-copy-out-kind c = omega (arith, c .before .before .before .before .before .before .loop .inv .in-count, c .before .before .before .before .before .loop-test .taken, c .before .before .before .before .before .before .before .pre)
+element-copy-out-kind c =
+    let p1 = c .before .before .before .before .before in
+    let p2 = p1 .before in
+    let p3 = p2 .before in
+    omega (arith, p2 .loop .inv .in-count, p1 .loop-test .taken, p3 .pre)
 
 mul-codes-for : tie.Need-mul-codes-for Inv-loop μ-loop
-mul-codes-for c = omega (arith, c .before .before .before .before .before .before .before .loop .inv .in-count, c .before .before .before .before .before .before .loop-test .taken, c .before .before .before .before .before .before .before .before .pre)
+mul-codes-for c =
+    let p1 = c .before .before .before .before .before .before in
+    let p2 = p1 .before in
+    let p3 = p2 .before in
+    omega (arith, p2 .loop .inv .in-count, p1 .loop-test .taken, p3 .pre)
 
 element-copy-out-codes-for : tie.Need-element-copy-out-codes-for Inv-loop μ-loop
-element-copy-out-codes-for c = omega (arith, c .before .before .before .before .before .before .before .loop .inv .in-count, c .before .before .before .before .before .before .loop-test .taken, c .before .before .before .before .before .before .before .before .pre)
+element-copy-out-codes-for c =
+    let p1 = c .before .before .before .before .before .before in
+    let p2 = p1 .before in
+    let p3 = p2 .before in
+    omega (arith, p2 .loop .inv .in-count, p1 .loop-test .taken, p3 .pre)
 
 codes-for-requires : tie.Need-codes-for-requires Inv-loop μ-loop
 codes-for-requires c κs = tt
 
 mul-codes : tie.Need-mul-codes Inv-loop μ-loop
-mul-codes c = omega (arith, c .before .before .before .before .before .before .before .before .before .loop .inv .in-count, c .before .before .before .before .before .before .before .before .loop-test .taken, c .before .before .before .before .before .before .before .before .before .before .pre)
+mul-codes c =
+    let p1 = c .before .before .before .before .before .before .before .before in
+    let p2 = p1 .before in
+    let p3 = p2 .before in
+    omega (arith, p2 .loop .inv .in-count, p1 .loop-test .taken, p3 .pre)
 
 array-write-codes : tie.Need-array-write-codes Inv-loop μ-loop
-array-write-codes c = omega (arith, c .before .before .before .before .before .before .before .before .before .loop .inv .in-count, c .before .before .before .before .before .before .before .before .loop-test .taken, c .before .before .before .before .before .before .before .before .before .before .pre)
+array-write-codes c =
+    let p1 = c .before .before .before .before .before .before .before .before in
+    let p2 = p1 .before in
+    let p3 = p2 .before in
+    omega (arith, p2 .loop .inv .in-count, p1 .loop-test .taken, p3 .pre)
 
 lower-requires : tie.Need-lower-requires Inv-loop μ-loop
 lower-requires c κs = tt
@@ -70,11 +94,19 @@ loop-less c = omega (arith, c .before .before .before .before .before .before .b
 
 loop-again : tie.Need-loop-again Inv-loop μ-loop
 loop-again c =
-    let e : c .before .before .before .before .before .before .before .before .before .before .loop .i ≡ c .before .before .before .before .before .before .before .before .before .before .loop .i - 1 + 1 = omega (arith, c .before .before .before .before .before .before .before .before .before .loop-test .taken) in
-    walk-step (subst (Walked _ _ _ _) e (c .before .before .before .before .before .before .before .before .before .before .loop .inv))
+    let p1 = c .before .before .before .before .before .before .before .before .before in
+    let at = p1 .before .loop in
+    let e : at .i ≡ at .i - 1 + 1 = omega (arith, p1 .loop-test .taken) in
+    walk-step (subst (Walked _ _ _ _) e (at .inv))
     (record {
       first = c .before .before .before .before .before .before .before .word-at .ensures;
-      second = second-word (c .before .before .before .before .before .before .before .before .before .before .loop .codes) (now (c .before .before .before .before .before .before .before .before .before .before .before .args .sizes)) (c .before .before .before .before .before .before .before .before .before .before .loop .i - 1) (c .before .before .before .before .before .second-at .result) _ (c .before .before .before .before .before .before .before .before .before .before .loop .inv .wide) (c .before .before .before .before .before .second-at .ensures .0) (c .before .before .before .before .before .second-at .ensures .1) (c .before .before .before .before .word-at2 .ensures);
+      second =
+          let p1 = c .before .before .before .before in
+          let p2 = p1 .before in
+          let p3 = p2 .before .before .before .before .before in
+          let p4 = p3 .before in
+          second-word (p3 .loop .codes) (now (p4 .args .sizes)) (p3 .loop .i - 1) (p2 .second-at .result) _ (p3 .loop .inv .wide) (p2 .second-at .ensures .0) (p2 .second-at .ensures .1)
+          (p1 .word-at2 .ensures);
       kind = refl;
       operand = refl;
       its-codes = c .before .codes-for .ensures;

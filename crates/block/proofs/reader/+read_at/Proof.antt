@@ -10,6 +10,8 @@ use denote.Ref.{now}
 use Rattle.block.specs.Format.{kind-at, operand-at, past}
 use Rattle.block.specs.declared.Cursor.{Cursor}
 use Rattle.block.specs.Told.{header-of, sofar-of, around-of}
+use Rattle.block.proofs.Shapes.{Shaped, shaped, not-known}
+use Rattle.block.proofs.Views.{known-length}
 use Rattle.block.proofs.Passes.{Passes}
 use Rattle.block.proofs.Ways.{passes-at, Hand, end-fault, end-leaf, end-first, end-above, end-second, end-joined, ready-first, ready-second, begun-full, first-got, size₁, few₁, size₂, few₂}
 use Prim.Native.Nat.{ℕ, _<_}
@@ -37,7 +39,22 @@ abbrev read-at-below : ℕ → In 4 read-at-kinds.ps
 read-at-below t = and 4 read-at-kinds.ps (falls 4 read-at-kinds.ps _<_ μ-read-at t) read-at.Pre
 
 abbrev read-at-claims : ℕ → read-at-lts.Claims
-read-at-claims t = (statement-fault-reads.Asked, statement-fault-reads.Learnt, two-bytes-reads.Asked, two-bytes-reads.Learnt, shape-of-reads.Asked, shape-of-reads.Learnt, kept-reads.Asked, kept-reads.Learnt, inner-reads.Asked, inner-reads.Learnt, passed-reads.Asked, passed-reads.Learnt, read-at-below t, read-at.Post)
+read-at-claims t = (
+  statement-fault-reads.Asked,
+  statement-fault-reads.Learnt,
+  two-bytes-reads.Asked,
+  two-bytes-reads.Learnt,
+  shape-of-reads.Asked,
+  shape-of-reads.Learnt,
+  kept-reads.Asked,
+  kept-reads.Learnt,
+  inner-reads.Asked,
+  inner-reads.Learnt,
+  passed-reads.Asked,
+  passed-reads.Learnt,
+  read-at-below t,
+  read-at.Post,
+)
 
 -- What the tests showed of the record, by the block's own kind and operand, and by the code's.
 passed-test : (t : ℕ) (c : read-at-lts.Else1 (read-at-claims t) (read-at-at t) read-at.Post)
@@ -55,20 +72,24 @@ by-its-own t c =
     passes-at _ _ _ _ _ _ (c .before .before .two-bytes .ensures) (c .before .two-bytes2 .ensures)
     (sym (c .before .before .before .before .statement-fault .ensures) ∙ c .before .before .before .if1 .left)
 
+its-shape : (t : ℕ) (c : read-at-lts.After-shape (read-at-claims t) (read-at-at t) read-at.Post)
+    → Shaped (c .before .before .before .before .two-bytes .result) (c .shape .given .0 .0)
+its-shape t c = shaped _ (sym (c .before .before .shape-of .ensures) ∙ c .shape .given .1)
+
 -- The record read, and what has been read after it.
 hand : (t : ℕ) (c : read-at-lts.After-inner (read-at-claims t) (read-at-at t) read-at.Post) {q : Cursor}
-    → let k = c .before .before .before .before in
+    → let k = c .before .before .before .before .before .before .before in
     let s = k .before .before .before .before in
     sofar-of q ≡ past (k .two-bytes .result) (sofar-of (s .args .r))
-    → Hand (now (s .args .b)) (s .args .d) (s .args .c) (s .args .r) (k .two-bytes .result) (c .before .before .before .two-bytes2 .result) (c .inner .result) q
+    → Hand (now (s .args .b)) (s .args .d) (s .args .c) (s .args .r) (k .two-bytes .result) (c .before .before .before .before .before .before .two-bytes2 .result) (c .inner .result) q
 hand t c e =
-    let k = c .before .before .before .before in
+    let k = c .before .before .before .before .before .before .before in
     let s = k .before .before .before .before in
     record {
       ready = s .pre .1 .0;
       good = sym (k .before .before .statement-fault .ensures) ∙ k .before .if1 .left;
       k-is = k .two-bytes .ensures;
-      x-is = c .before .before .before .two-bytes2 .ensures;
+      x-is = c .before .before .before .before .before .before .two-bytes2 .ensures;
       around = c .inner .ensures .0;
       room = c .inner .ensures .1;
       next = e;
@@ -95,48 +116,84 @@ read-at-two-bytes-requires-2 t c κs = omega (arith, passed-test t (c .before) .
 read-at-shape-of-requires : (t : ℕ) → read-at-lts.Need-shape-of-requires (read-at-claims t) (read-at-at t) read-at.Post
 read-at-shape-of-requires t c κs = tt
 
+read-at-enum-known-shape : (t : ℕ) → read-at-lts.Need-enum-known-shape (read-at-claims t) (read-at-at t) read-at.Post
+read-at-enum-known-shape t c = search needs
+
+read-at-enum-told : (t : ℕ) → read-at-lts.Need-enum-told (read-at-claims t) (read-at-at t) read-at.Post
+read-at-enum-told t c = search needs
+
+read-at-returns-2 : (t : ℕ) → read-at-lts.Need-returns-2 (read-at-claims t) (read-at-at t) read-at.Post
+read-at-returns-2 t c =
+    let l = known-length (by-its-own t (c .before .before) .its-kind) in
+    absurd (omega (arith, not-known _ (sym (c .before .before .shape-of .ensures) ∙ c .enum-told .given .1)))
+
 read-at-mul-kinds : (t : ℕ) → read-at-lts.Need-mul-kinds (read-at-claims t) (read-at-at t) read-at.Post
-read-at-mul-kinds t c = omega (arith, (passed-test t (c .before .before .before)) .counted)
+read-at-mul-kinds t c = omega (arith, (passed-test t (c .before .before .before .before .before .before)) .counted)
 
 read-at-element-write-kinds : (t : ℕ) → read-at-lts.Need-element-write-kinds (read-at-claims t) (read-at-at t) read-at.Post
-read-at-element-write-kinds t c = omega (arith, (passed-test t (c .before .before .before)) .counted)
+read-at-element-write-kinds t c = omega (arith, (passed-test t (c .before .before .before .before .before .before)) .counted)
 
 read-at-kept-requires : (t : ℕ) → read-at-lts.Need-kept-requires (read-at-claims t) (read-at-at t) read-at.Post
-read-at-kept-requires t c κs = c .shape-of .ensures .2
+read-at-kept-requires t c κs = its-shape t (c .before) .its-operands
 
 read-at-mul-operands : (t : ℕ) → read-at-lts.Need-mul-operands (read-at-claims t) (read-at-at t) read-at.Post
-read-at-mul-operands t c = omega (arith, (passed-test t (c .before .before .before .before)) .counted)
+read-at-mul-operands t c = omega (arith, (passed-test t (c .before .before .before .before .before .before .before)) .counted)
 
 read-at-element-write-operands : (t : ℕ) → read-at-lts.Need-element-write-operands (read-at-claims t) (read-at-at t) read-at.Post
-read-at-element-write-operands t c = omega (arith, (passed-test t (c .before .before .before .before)) .counted)
+read-at-element-write-operands t c = omega (arith, (passed-test t (c .before .before .before .before .before .before .before)) .counted)
 
 read-at-inner-requires : (t : ℕ) → read-at-lts.Need-inner-requires (read-at-claims t) (read-at-at t) read-at.Post
 read-at-inner-requires t c κs =
-    let g = by-its-own t (c .before) in
-    let y = c .before .before .before .before .before .before .before .pre .1 .0 in
+    let g = by-its-own t (c .before .before .before .before) in
+    let y = c .before .before .before .before .before .before .before .before .before .before .pre .1 .0 in
     (omega (arith, pos-of-ne-zero (g .roomy)), omega (arith, y .few-traps), omega (arith, y .few-nested), λ e. omega (arith, g .declaring e .0, g .declaring e .1, y .signals))
 
 read-at-mul-sizes : (t : ℕ) → read-at-lts.Need-mul-sizes (read-at-claims t) (read-at-at t) read-at.Post
-read-at-mul-sizes t c = omega (arith, (passed-test t (c .before .before .before .before .before .before)) .counted)
+read-at-mul-sizes t c = omega (arith, (passed-test t (c .before .before .before .before .before .before .before .before .before)) .counted)
 
 read-at-element-write-sizes : (t : ℕ) → read-at-lts.Need-element-write-sizes (read-at-claims t) (read-at-at t) read-at.Post
-read-at-element-write-sizes t c = omega (arith, (passed-test t (c .before .before .before .before .before .before)) .counted)
+read-at-element-write-sizes t c = omega (arith, (passed-test t (c .before .before .before .before .before .before .before .before .before)) .counted)
 
 read-at-passed-requires : (t : ℕ) → read-at-lts.Need-passed-requires (read-at-claims t) (read-at-at t) read-at.Post
 read-at-passed-requires t c κs =
-    let y = c .before .before .before .before .before .before .before .before .before .pre .1 .0 in
-    (c .before .before .before .shape-of .ensures .0, omega (arith, (passed-test t (c .before .before .before .before .before .before)) .ends, y .fits), omega (arith, (passed-test t (c .before .before .before .before .before .before)) .counted), omega (arith, y .few-pauses), omega (arith, y .few-locals, y .signals))
+    let y = c .before .before .before .before .before .before .before .before .before .before .before .before .pre .1 .0 in (
+      its-shape t (c .before .before .before .before) .its-length,
+      omega (arith, (passed-test t (c .before .before .before .before .before .before .before .before .before)) .ends, y .fits),
+      omega
+          (arith, (passed-test t (c .before .before .before .before .before .before .before .before .before)) .counted),
+      omega (arith, y .few-pauses),
+      omega (arith, y .few-locals, y .signals),
+    )
 
-read-at-returns-2 : (t : ℕ) → read-at-lts.Need-returns-2 (read-at-claims t) (read-at-at t) read-at.Post
-read-at-returns-2 t c = end-leaf (hand t (c .before .before) (c .passed .ensures)) (c .before .before .before .before .before .before .before .before .before .before .pre .1 .1) (c .before .before .before .kept .ensures) (sym (c .before .before .before .before .shape-of .ensures .1) ∙ c .before .if2 .taken)
+read-at-returns-3 : (t : ℕ) → read-at-lts.Need-returns-3 (read-at-claims t) (read-at-at t) read-at.Post
+read-at-returns-3 t c =
+    let p1 = c .before in
+    let p2 = p1 .before in
+    let p3 = p2 .before in
+    let p4 = p3 .before .before in
+    let p5 = p4 .before .before .before .before .before .before .before .before in
+    end-leaf (hand t (p2) (c .passed .ensures)) (p5 .pre .1 .1) (p3 .kept .ensures) (sym (its-shape t (p4) .its-children) ∙ p1 .if2 .taken)
 
 read-at-passed-requires-2 : (t : ℕ) → read-at-lts.Need-passed-requires-2 (read-at-claims t) (read-at-at t) read-at.Post
 read-at-passed-requires-2 t c κs =
-    let y = c .before .before .before .before .before .before .before .before .before .pre .1 .0 in
-    (c .before .before .before .shape-of .ensures .0, omega (arith, (passed-test t (c .before .before .before .before .before .before)) .ends, y .fits), omega (arith, (passed-test t (c .before .before .before .before .before .before)) .counted), omega (arith, y .few-pauses), omega (arith, y .few-locals, y .signals))
+    let y = c .before .before .before .before .before .before .before .before .before .before .before .before .pre .1 .0 in (
+      its-shape t (c .before .before .before .before) .its-length,
+      omega (arith, (passed-test t (c .before .before .before .before .before .before .before .before .before)) .ends, y .fits),
+      omega
+          (arith, (passed-test t (c .before .before .before .before .before .before .before .before .before)) .counted),
+      omega (arith, y .few-pauses),
+      omega (arith, y .few-locals, y .signals),
+    )
 
 read-at-read-at-requires : (t : ℕ) → read-at-lts.Need-read-at-requires (read-at-claims t) (read-at-at t) read-at.Post
-read-at-read-at-requires t c κs = (omega (arith, (hand t (c .before .before .before .before .before) (c .before .before .before .passed2 .ensures)) .room, c .before .before .before .before .before .before .before .before .before .before .before .before .before .pre .0), (ready-first (hand t (c .before .before .before .before .before) (c .before .before .before .passed2 .ensures)), begun-full (hand t (c .before .before .before .before .before) (c .before .before .before .passed2 .ensures)) (c .before .before .before .before .before .before .before .before .before .before .before .before .before .pre .1 .1) (c .before .before .before .before .before .before .kept .ensures)))
+read-at-read-at-requires t c κs =
+    let p1 = c .before .before .before in
+    let p2 = p1 .before .before in
+    let p3 = p2 .before in
+    let p4 = p3 .before .before .before .before .before .before .before .before .before .before in (
+      omega (arith, (hand t (p2) (p1 .passed2 .ensures)) .room, p4 .pre .0),
+      (ready-first (hand t (p2) (p1 .passed2 .ensures)), begun-full (hand t (p2) (p1 .passed2 .ensures)) (p4 .pre .1 .1) (p3 .kept .ensures)),
+    )
 
 read-at-enum-known-first : (t : ℕ) → read-at-lts.Need-enum-known-first (read-at-claims t) (read-at-at t) read-at.Post
 read-at-enum-known-first t c = search needs
@@ -145,22 +202,62 @@ read-at-enum-known-first-2 : (t : ℕ) → read-at-lts.Need-enum-known-first-2 (
 read-at-enum-known-first-2 t c = search needs
 
 read-at-sub-sizes : (t : ℕ) → read-at-lts.Need-sub-sizes (read-at-claims t) (read-at-at t) read-at.Post
-read-at-sub-sizes t c = omega (arith, size₁ (hand t (c .before .before .before .before .before .before .before .before .before .before .before) (c .before .before .before .before .before .before .before .before .before .passed2 .ensures)) (c .before .before .before .before .before .before .before .before .before .before .before .before .before .before .before .before .before .before .before .pre .1 .1) (c .before .before .before .before .before .before .before .before .before .before .before .before .kept .ensures) (c .before .before .before .before .before .read-at .ensures) (c .before .before .before .first2 .given .1))
+read-at-sub-sizes t c =
+    let p1 = c .before .before .before in
+    let p2 = p1 .before .before in
+    let p3 = p2 .before .before .before .before in
+    let p4 = p3 .before .before in
+    let p5 = p4 .before in
+    let p6 = p5 .before .before .before .before .before .before .before .before .before .before in
+    omega (arith, size₁ (hand t (p4) (p3 .passed2 .ensures)) (p6 .pre .1 .1) (p5 .kept .ensures) (p2 .read-at .ensures) (p1 .first2 .given .1))
 
 read-at-cast-sizes : (t : ℕ) → read-at-lts.Need-cast-sizes (read-at-claims t) (read-at-at t) read-at.Post
-read-at-cast-sizes t c = omega (arith, few₁ (hand t (c .before .before .before .before .before .before .before .before .before .before .before) (c .before .before .before .before .before .before .before .before .before .passed2 .ensures)) (c .before .before .before .before .before .before .before .before .before .before .before .before .before .before .before .before .before .before .before .pre .1 .1) (c .before .before .before .before .before .before .before .before .before .before .before .before .kept .ensures) (c .before .before .before .before .before .read-at .ensures) (c .before .before .before .first2 .given .1))
+read-at-cast-sizes t c =
+    let p1 = c .before .before .before in
+    let p2 = p1 .before .before in
+    let p3 = p2 .before .before .before .before in
+    let p4 = p3 .before .before in
+    let p5 = p4 .before in
+    let p6 = p5 .before .before .before .before .before .before .before .before .before .before in
+    omega (arith, few₁ (hand t (p4) (p3 .passed2 .ensures)) (p6 .pre .1 .1) (p5 .kept .ensures) (p2 .read-at .ensures) (p1 .first2 .given .1))
 
 read-at-mul-sizes-2 : (t : ℕ) → read-at-lts.Need-mul-sizes-2 (read-at-claims t) (read-at-at t) read-at.Post
-read-at-mul-sizes-2 t c = omega (arith, (passed-test t (c .before .before .before .before .before .before .before .before .before .before .before .before .before .before .before .before)) .counted)
+read-at-mul-sizes-2 t c =
+    let p1 = c .before .before .before .before .before .before .before .before .before .before .before .before .before .before .before .before .before .before .before in
+    omega (arith, (passed-test t (p1)) .counted)
 
 read-at-element-write-sizes-2 : (t : ℕ) → read-at-lts.Need-element-write-sizes-2 (read-at-claims t) (read-at-at t) read-at.Post
-read-at-element-write-sizes-2 t c = omega (arith, (passed-test t (c .before .before .before .before .before .before .before .before .before .before .before .before .before .before .before .before)) .counted)
+read-at-element-write-sizes-2 t c =
+    let p1 = c .before .before .before .before .before .before .before .before .before .before .before .before .before .before .before .before .before .before .before in
+    omega (arith, (passed-test t (p1)) .counted)
 
-read-at-returns-3 : (t : ℕ) → read-at-lts.Need-returns-3 (read-at-claims t) (read-at-at t) read-at.Post
-read-at-returns-3 t c = end-above (hand t (c .before .before .before .before .before .before .before .before .before .before .before) (c .before .before .before .before .before .before .before .before .before .passed2 .ensures)) (c .before .before .before .before .before .before .before .before .before .before .before .before .before .before .before .before .before .before .before .pre .1 .1) (c .before .before .before .before .before .before .before .before .before .before .before .before .kept .ensures) (c .before .before .before .before .before .read-at .ensures) (c .before .before .before .first2 .given .1) (sym (c .before .before .before .before .before .before .before .before .before .before .before .before .before .shape-of .ensures .1) ∙ c .before .if3 .taken)
+read-at-returns-4 : (t : ℕ) → read-at-lts.Need-returns-4 (read-at-claims t) (read-at-at t) read-at.Post
+read-at-returns-4 t c =
+    let p1 = c .before in
+    let p2 = p1 .before .before in
+    let p3 = p2 .before .before in
+    let p4 = p3 .before .before .before .before in
+    let p5 = p4 .before .before in
+    let p6 = p5 .before in
+    let p7 = p6 .before .before in
+    let p8 = p7 .before .before .before .before .before .before .before .before in
+    end-above (hand t (p5) (p4 .passed2 .ensures)) (p8 .pre .1 .1) (p6 .kept .ensures) (p3 .read-at .ensures) (p2 .first2 .given .1) (sym (its-shape t (p7) .its-children) ∙ p1 .if3 .taken)
 
 read-at-read-at-requires-2 : (t : ℕ) → read-at-lts.Need-read-at-requires-2 (read-at-claims t) (read-at-at t) read-at.Post
-read-at-read-at-requires-2 t c κs = (omega (arith, (hand t (c .before .before .before .before .before .before .before .before .before .before .before .before .before) (c .before .before .before .before .before .before .before .before .before .before .before .passed2 .ensures)) .room, c .before .before .before .before .before .before .before .before .before .before .before .before .before .before .before .before .before .before .before .before .before .pre .0), (ready-second (hand t (c .before .before .before .before .before .before .before .before .before .before .before .before .before) (c .before .before .before .before .before .before .before .before .before .before .before .passed2 .ensures)) (first-got (hand t (c .before .before .before .before .before .before .before .before .before .before .before .before .before) (c .before .before .before .before .before .before .before .before .before .before .before .passed2 .ensures)) (c .before .before .before .before .before .before .before .before .before .before .before .before .before .before .before .before .before .before .before .before .before .pre .1 .1) (c .before .before .before .before .before .before .before .before .before .before .before .before .before .before .kept .ensures) (c .before .before .before .before .before .before .before .read-at .ensures) (c .before .before .before .before .before .first2 .given .1) .1), c .before .before .before .before .before .before .before .read-at .ensures .full))
+read-at-read-at-requires-2 t c κs =
+    let p1 = c .before .before .before .before .before in
+    let p2 = p1 .before .before in
+    let p3 = p2 .before .before .before .before in
+    let p4 = p3 .before .before in
+    let p5 = p4 .before in
+    let p6 = p5 .before .before .before .before .before .before .before .before .before .before in (
+      omega (arith, (hand t (p4) (p3 .passed2 .ensures)) .room, p6 .pre .0),
+      (
+        ready-second (hand t (p4) (p3 .passed2 .ensures))
+            (first-got (hand t (p4) (p3 .passed2 .ensures)) (p6 .pre .1 .1) (p5 .kept .ensures) (p2 .read-at .ensures) (p1 .first2 .given .1) .1),
+        p2 .read-at .ensures .full,
+      ),
+    )
 
 read-at-enum-known-second : (t : ℕ) → read-at-lts.Need-enum-known-second (read-at-claims t) (read-at-at t) read-at.Post
 read-at-enum-known-second t c = search needs
@@ -169,25 +266,102 @@ read-at-enum-known-second-2 : (t : ℕ) → read-at-lts.Need-enum-known-second-2
 read-at-enum-known-second-2 t c = search needs
 
 read-at-sub-sizes-2 : (t : ℕ) → read-at-lts.Need-sub-sizes-2 (read-at-claims t) (read-at-at t) read-at.Post
-read-at-sub-sizes-2 t c = omega (arith, size₂ (hand t (c .before .before .before .before .before .before .before .before .before .before .before .before .before .before .before .before .before .before) (c .before .before .before .before .before .before .before .before .before .before .before .before .before .before .before .before .passed2 .ensures)) (c .before .before .before .before .before .before .before .before .before .before .before .before .before .before .before .before .before .before .before .before .before .before .before .before .before .before .pre .1 .1) (c .before .before .before .before .before .before .before .before .before .before .before .before .before .before .before .before .before .before .before .kept .ensures) (c .before .before .before .before .before .before .before .before .before .before .before .before .read-at .ensures) (c .before .before .before .before .before .before .before .before .before .before .first2 .given .1) (λ e. c .before .before .before .before .before .before .before .before .before .before .before .before .before .before .before .before .before .if2 .left (c .before .before .before .before .before .before .before .before .before .before .before .before .before .before .before .before .before .before .before .before .shape-of .ensures .1 ∙ e)) (λ e. c .before .before .before .before .before .before .before .before .if3 .left (c .before .before .before .before .before .before .before .before .before .before .before .before .before .before .before .before .before .before .before .before .shape-of .ensures .1 ∙ e)) (c .before .before .before .before .read-at2 .ensures) (c .before .before .second2 .given .1))
+read-at-sub-sizes-2 t c =
+    let p1 = c .before .before in
+    let p2 = p1 .before .before in
+    let p3 = p2 .before .before .before .before in
+    let p4 = p3 .before .before in
+    let p5 = p4 .before .before in
+    let p6 = p5 .before .before .before .before in
+    let p7 = p6 .before in
+    let p8 = p7 .before in
+    let p9 = p8 .before in
+    let p10 = p9 .before .before in
+    let p11 = p10 .before .before .before .before .before .before .before .before in
+    omega (
+      arith,
+      size₂ (hand t (p8) (p6 .passed2 .ensures)) (p11 .pre .1 .1) (p9 .kept .ensures) (p5 .read-at .ensures) (p4 .first2 .given .1)
+          (λ e. p7 .if2 .left (its-shape t (p10) .its-children ∙ e)) (λ e. p3 .if3 .left (its-shape t (p10) .its-children ∙ e)) (p2 .read-at2 .ensures) (p1 .second2 .given .1),
+    )
 
 read-at-cast-sizes-2 : (t : ℕ) → read-at-lts.Need-cast-sizes-2 (read-at-claims t) (read-at-at t) read-at.Post
-read-at-cast-sizes-2 t c = omega (arith, few₂ (hand t (c .before .before .before .before .before .before .before .before .before .before .before .before .before .before .before .before .before .before) (c .before .before .before .before .before .before .before .before .before .before .before .before .before .before .before .before .passed2 .ensures)) (c .before .before .before .before .before .before .before .before .before .before .before .before .before .before .before .before .before .before .before .before .before .before .before .before .before .before .pre .1 .1) (c .before .before .before .before .before .before .before .before .before .before .before .before .before .before .before .before .before .before .before .kept .ensures) (c .before .before .before .before .before .before .before .before .before .before .before .before .read-at .ensures) (c .before .before .before .before .before .before .before .before .before .before .first2 .given .1) (λ e. c .before .before .before .before .before .before .before .before .before .before .before .before .before .before .before .before .before .if2 .left (c .before .before .before .before .before .before .before .before .before .before .before .before .before .before .before .before .before .before .before .before .shape-of .ensures .1 ∙ e)) (λ e. c .before .before .before .before .before .before .before .before .if3 .left (c .before .before .before .before .before .before .before .before .before .before .before .before .before .before .before .before .before .before .before .before .shape-of .ensures .1 ∙ e)) (c .before .before .before .before .read-at2 .ensures) (c .before .before .second2 .given .1))
+read-at-cast-sizes-2 t c =
+    let p1 = c .before .before in
+    let p2 = p1 .before .before in
+    let p3 = p2 .before .before .before .before in
+    let p4 = p3 .before .before in
+    let p5 = p4 .before .before in
+    let p6 = p5 .before .before .before .before in
+    let p7 = p6 .before in
+    let p8 = p7 .before in
+    let p9 = p8 .before in
+    let p10 = p9 .before .before in
+    let p11 = p10 .before .before .before .before .before .before .before .before in
+    omega (
+      arith,
+      few₂ (hand t (p8) (p6 .passed2 .ensures)) (p11 .pre .1 .1) (p9 .kept .ensures) (p5 .read-at .ensures) (p4 .first2 .given .1)
+          (λ e. p7 .if2 .left (its-shape t (p10) .its-children ∙ e)) (λ e. p3 .if3 .left (its-shape t (p10) .its-children ∙ e)) (p2 .read-at2 .ensures) (p1 .second2 .given .1),
+    )
 
 read-at-mul-sizes-3 : (t : ℕ) → read-at-lts.Need-mul-sizes-3 (read-at-claims t) (read-at-at t) read-at.Post
-read-at-mul-sizes-3 t c = omega (arith, (passed-test t (c .before .before .before .before .before .before .before .before .before .before .before .before .before .before .before .before .before .before .before .before .before .before .before)) .counted)
+read-at-mul-sizes-3 t c =
+    let p1 =
+    let half = c .before .before .before .before .before .before .before .before .before .before .before .before .before in
+    let p1 = half .before .before .before .before .before .before .before .before .before .before .before .before .before in
+    p1 in
+    omega (arith, (passed-test t (p1)) .counted)
 
 read-at-element-write-sizes-3 : (t : ℕ) → read-at-lts.Need-element-write-sizes-3 (read-at-claims t) (read-at-at t) read-at.Post
-read-at-element-write-sizes-3 t c = omega (arith, (passed-test t (c .before .before .before .before .before .before .before .before .before .before .before .before .before .before .before .before .before .before .before .before .before .before .before)) .counted)
-
-read-at-returns-4 : (t : ℕ) → read-at-lts.Need-returns-4 (read-at-claims t) (read-at-at t) read-at.Post
-read-at-returns-4 t c = end-first (hand t (c .before .before .before .before .before .before .before .before .before) (c .before .before .before .before .before .before .before .passed2 .ensures)) (c .before .before .before .before .before .before .before .before .before .before .before .before .before .before .before .before .before .pre .1 .1) (c .before .before .before .before .before .before .before .before .before .before .kept .ensures) (c .before .before .before .read-at .ensures) (λ e. c .before .before .before .before .before .before .before .before .if2 .left (c .before .before .before .before .before .before .before .before .before .before .before .shape-of .ensures .1 ∙ e)) (c .before .first .given .1)
+read-at-element-write-sizes-3 t c =
+    let p1 =
+    let half = c .before .before .before .before .before .before .before .before .before .before .before .before .before in
+    let p1 = half .before .before .before .before .before .before .before .before .before .before .before .before .before in
+    p1 in
+    omega (arith, (passed-test t (p1)) .counted)
 
 read-at-returns-5 : (t : ℕ) → read-at-lts.Need-returns-5 (read-at-claims t) (read-at-at t) read-at.Post
-read-at-returns-5 t c = end-second (hand t (c .before .before .before .before .before .before .before .before .before .before .before .before .before .before .before .before .before) (c .before .before .before .before .before .before .before .before .before .before .before .before .before .before .before .passed2 .ensures)) (c .before .before .before .before .before .before .before .before .before .before .before .before .before .before .before .before .before .before .before .before .before .before .before .before .before .pre .1 .1) (c .before .before .before .before .before .before .before .before .before .before .before .before .before .before .before .before .before .before .kept .ensures) (c .before .before .before .before .before .before .before .before .before .before .before .read-at .ensures) (c .before .before .before .before .before .before .before .before .before .first2 .given .1) (λ e. c .before .before .before .before .before .before .before .before .before .before .before .before .before .before .before .before .if2 .left (c .before .before .before .before .before .before .before .before .before .before .before .before .before .before .before .before .before .before .before .shape-of .ensures .1 ∙ e)) (λ e. c .before .before .before .before .before .before .before .if3 .left (c .before .before .before .before .before .before .before .before .before .before .before .before .before .before .before .before .before .before .before .shape-of .ensures .1 ∙ e)) (c .before .before .before .read-at2 .ensures) (c .before .second .given .1)
+read-at-returns-5 t c =
+    let p1 = c .before in
+    let p2 = p1 .before .before in
+    let p3 = p2 .before .before .before .before in
+    let p4 = p3 .before in
+    let p5 = p4 .before in
+    let p6 = p5 .before in
+    let p7 = p6 .before .before in
+    let p8 = p7 .before .before .before .before .before .before .before .before in
+    end-first (hand t (p5) (p3 .passed2 .ensures)) (p8 .pre .1 .1) (p6 .kept .ensures) (p2 .read-at .ensures) (λ e. p4 .if2 .left (its-shape t (p7) .its-children ∙ e)) (p1 .first .given .1)
 
 read-at-returns-6 : (t : ℕ) → read-at-lts.Need-returns-6 (read-at-claims t) (read-at-at t) read-at.Post
-read-at-returns-6 t c = end-joined (hand t (c .before .before .before .before .before .before .before .before .before .before .before .before .before .before .before .before .before .before) (c .before .before .before .before .before .before .before .before .before .before .before .before .before .before .before .before .passed2 .ensures)) (c .before .before .before .before .before .before .before .before .before .before .before .before .before .before .before .before .before .before .before .before .before .before .before .before .before .before .pre .1 .1) (c .before .before .before .before .before .before .before .before .before .before .before .before .before .before .before .before .before .before .before .kept .ensures) (c .before .before .before .before .before .before .before .before .before .before .before .before .read-at .ensures) (c .before .before .before .before .before .before .before .before .before .before .first2 .given .1) (λ e. c .before .before .before .before .before .before .before .before .before .before .before .before .before .before .before .before .before .if2 .left (c .before .before .before .before .before .before .before .before .before .before .before .before .before .before .before .before .before .before .before .before .shape-of .ensures .1 ∙ e)) (λ e. c .before .before .before .before .before .before .before .before .if3 .left (c .before .before .before .before .before .before .before .before .before .before .before .before .before .before .before .before .before .before .before .before .shape-of .ensures .1 ∙ e)) (c .before .before .before .before .read-at2 .ensures) (c .before .before .second2 .given .1)
+read-at-returns-6 t c =
+    let p1 = c .before in
+    let p2 = p1 .before .before in
+    let p3 = p2 .before .before .before .before in
+    let p4 = p3 .before .before in
+    let p5 = p4 .before .before in
+    let p6 = p5 .before .before .before .before in
+    let p7 = p6 .before in
+    let p8 = p7 .before in
+    let p9 = p8 .before in
+    let p10 = p9 .before .before in
+    let p11 = p10 .before .before .before .before .before .before .before .before in
+    end-second (hand t (p8) (p6 .passed2 .ensures)) (p11 .pre .1 .1) (p9 .kept .ensures) (p5 .read-at .ensures) (p4 .first2 .given .1) (λ e. p7 .if2 .left (its-shape t (p10) .its-children ∙ e))
+    (λ e. p3 .if3 .left (its-shape t (p10) .its-children ∙ e)) (p2 .read-at2 .ensures) (p1 .second .given .1)
+
+read-at-returns-7 : (t : ℕ) → read-at-lts.Need-returns-7 (read-at-claims t) (read-at-at t) read-at.Post
+read-at-returns-7 t c =
+    let p1 = c .before .before in
+    let p2 = p1 .before .before in
+    let p3 = p2 .before .before .before .before in
+    let p4 = p3 .before .before in
+    let p5 = p4 .before .before in
+    let p6 = p5 .before .before .before .before in
+    let p7 = p6 .before in
+    let p8 = p7 .before in
+    let p9 = p8 .before in
+    let p10 = p9 .before .before in
+    let p11 = p10 .before .before .before .before .before .before .before .before in
+    end-joined (hand t (p8) (p6 .passed2 .ensures)) (p11 .pre .1 .1) (p9 .kept .ensures) (p5 .read-at .ensures) (p4 .first2 .given .1) (λ e. p7 .if2 .left (its-shape t (p10) .its-children ∙ e))
+    (λ e. p3 .if3 .left (its-shape t (p10) .its-children ∙ e)) (p2 .read-at2 .ensures) (p1 .second2 .given .1)
 
 pub +read-at-spec : {M : Type 1} → statement M
 +read-at-spec = close μ-read-at λ t. read-at-lts.spec (read-at-claims t)
@@ -200,6 +374,9 @@ pub +read-at-spec : {M : Type 1} → statement M
     (read-at-add-two-bytes-2 t)
     (read-at-two-bytes-requires-2 t)
     (read-at-shape-of-requires t)
+    (read-at-enum-known-shape t)
+    (read-at-enum-told t)
+    (read-at-returns-2 t)
     (read-at-mul-kinds t)
     (read-at-element-write-kinds t)
     (read-at-kept-requires t)
@@ -209,7 +386,7 @@ pub +read-at-spec : {M : Type 1} → statement M
     (read-at-mul-sizes t)
     (read-at-element-write-sizes t)
     (read-at-passed-requires t)
-    (read-at-returns-2 t)
+    (read-at-returns-3 t)
     (read-at-passed-requires-2 t)
     (read-at-read-at-requires t)
     (read-at-enum-known-first t)
@@ -218,7 +395,7 @@ pub +read-at-spec : {M : Type 1} → statement M
     (read-at-cast-sizes t)
     (read-at-mul-sizes-2 t)
     (read-at-element-write-sizes-2 t)
-    (read-at-returns-3 t)
+    (read-at-returns-4 t)
     (read-at-read-at-requires-2 t)
     (read-at-enum-known-second t)
     (read-at-enum-known-second-2 t)
@@ -226,6 +403,6 @@ pub +read-at-spec : {M : Type 1} → statement M
     (read-at-cast-sizes-2 t)
     (read-at-mul-sizes-3 t)
     (read-at-element-write-sizes-3 t)
-    (read-at-returns-4 t)
     (read-at-returns-5 t)
     (read-at-returns-6 t)
+    (read-at-returns-7 t)

@@ -23,7 +23,11 @@ two-bytes-requires-4 c κs = search needs
 
 returns : tie.Need-returns
 unfolding header
-returns c = λ i. record { version = c .before .before .before .two-bytes .ensures i; inputs = c .before .before .two-bytes2 .ensures i; outputs = c .before .two-bytes3 .ensures i; locals = c .two-bytes4 .ensures i }
+returns c =
+    let p1 = c .before in
+    let p2 = p1 .before in
+    let p3 = p2 .before in
+    λ i. record { version = p3 .two-bytes .ensures i; inputs = p2 .two-bytes2 .ensures i; outputs = p1 .two-bytes3 .ensures i; locals = c .two-bytes4 .ensures i }
 
 pub declared-spec : {M : Type 1} → statement M
 declared-spec =

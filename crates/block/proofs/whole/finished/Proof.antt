@@ -27,10 +27,15 @@ offset-of-requires c κs = search needs
 returns-3 : tie.Need-returns-3
 returns-3 c = λ t h.
     let n = found-some (lowest-endless t) _ _ (c .before .before .lowest-endless .ensures t h) (c .before .if3 .taken) in
-    end-loop _ _ t _ (c .before .before .before .before .before .before .if1 .left) (c .before .before .before .if2 .left) _ _ n (c .offset-of .ensures t (tabled-listed t h) (omega (arith, c .before .if3 .taken, h .counted)))
+    end-loop _ _ t _ (c .before .before .before .before .before .before .if1 .left) (c .before .before .before .if2 .left) _ _ n
+    (c .offset-of .ensures t (tabled-listed t h) (omega (arith, c .before .if3 .taken, h .counted)))
 
 returns-4 : tie.Need-returns-4
-returns-4 c = λ t h. end-good _ _ t _ (c .before .before .before .before .before .if1 .left) (c .before .before .if2 .left) (found-none t _ _ (h .counted) (c .before .lowest-endless .ensures t h) (c .if3 .left))
+returns-4 c =
+    let p1 = c .before in
+    let p2 = p1 .before in
+    let p3 = p2 .before .before .before in
+    λ t h. end-good _ _ t _ (p3 .if1 .left) (p2 .if2 .left) (found-none t _ _ (h .counted) (p1 .lowest-endless .ensures t h) (c .if3 .left))
 
 pub finished-spec : {M : Type 1} → statement M
 finished-spec =

@@ -1,6 +1,7 @@
 -- `whole::offset_of` meets its contract. The invariant is `Summed`: the offset of statement i so far. The measure is what is left of n.
 -- Assumes nothing.
 use Prim.Native.Nat.{_-_}
+use borrow.Author.Needs.{needs}
 use native.Mathlib.Omega.{arith}
 use lib.ListN.{getD}
 use denote.Ref.{now}
@@ -9,7 +10,7 @@ use Rattle.block.proofs.whole.offset_of.Statement.{statement}
 use Rattle.block.proofs.whole.offset_of.Tie as tie
 use Rattle.block.proofs.whole.offset_of.Reads as reads
 use Rattle.block.proofs.whole.offset_of.Lts as lts
-use Rattle.block.proofs.whole.record_length.Reads as record-length-reads
+use Rattle.block.proofs.kinds.record_length.Reads as record-length-reads
 
 abbrev Inv-loop : tie.InvT-loop
 Inv-loop kinds n at₀ i₀ at i = Summed kinds n at i
@@ -29,8 +30,15 @@ element-copy-out-record-length c = omega (arith, c .before .loop .inv .within, c
 record-length-requires : tie.Need-record-length-requires Inv-loop μ-loop
 record-length-requires c κs = tt
 
+cast-at : tie.Need-cast-at Inv-loop μ-loop
+cast-at c = search needs
+
 add-at : tie.Need-add-at Inv-loop μ-loop
-add-at c = omega (arith, c .before .before .before .loop .inv .bound, c .before .before .loop-test .taken, c .before .before .before .before .pre, c .record-length .ensures, length-small (getD (now (c .before .before .before .before .args .kinds)) (c .before .before .before .loop .i) 0))
+add-at c =
+    let p1 = c .before .before in
+    let p2 = p1 .before in
+    let p3 = p2 .before in
+    omega (arith, p2 .loop .inv .bound, p1 .loop-test .taken, p3 .pre, c .record-length .ensures, length-small (getD (now (p3 .args .kinds)) (p2 .loop .i) 0))
 
 add-i : tie.Need-add-i Inv-loop μ-loop
 add-i c = omega (arith, c .before .before .before .loop .inv .within, c .before .before .loop-test .taken, c .before .before .before .before .pre)
@@ -54,6 +62,7 @@ offset-of-spec =
     mul-record-length
     element-copy-out-record-length
     record-length-requires
+    cast-at
     add-at
     add-i
     loop-less

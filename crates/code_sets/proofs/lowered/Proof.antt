@@ -1,12 +1,12 @@
--- `codes::lowered` meets its contract: the digits are moved as the codes are.
+-- `code_sets::lowered` meets its contract: the digits are moved as the codes are.
 -- Assumes nothing.
 use native.Mathlib.Omega.{arith}
-use Rattle.block.proofs.CodeLaws.{lowered-digit, lowered-is}
+use Rattle.code_sets.proofs.Laws.{lowered-digit, lowered-is}
 use borrow.Author.Needs.{needs}
-use Rattle.block.proofs.codes.lowered.Statement.{statement}
-use Rattle.block.proofs.codes.lowered.Tie as tie
-use Rattle.block.proofs.codes.lowered.Reads as reads
-use Rattle.block.proofs.codes.lowered.Lts as lts
+use Rattle.code_sets.proofs.lowered.Statement.{statement}
+use Rattle.code_sets.proofs.lowered.Tie as tie
+use Rattle.code_sets.proofs.lowered.Reads as reads
+use Rattle.code_sets.proofs.lowered.Lts as lts
 
 mul-result : tie.Need-mul-result
 mul-result c = search needs

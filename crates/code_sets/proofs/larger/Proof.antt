@@ -1,11 +1,11 @@
--- `codes::larger` meets its contract: the two double shifts are the law of maxima in words of 32 bits, worked out in 64, and its result fits.
+-- `code_sets::larger` meets its contract: the two double shifts are the law of maxima in words of 32 bits, worked out in 64, and its result fits.
 -- Assumes nothing.
 use native.Mathlib.Omega.{arith}
 use lib.Bits.{or-lt}
 use lib.Count.{trailing-le}
 use Rattle.sets.proofs.Words.{maxima-is, maxima-lt}
-use Rattle.block.proofs.codes.larger.Statement.{statement}
-use Rattle.block.proofs.codes.larger.Tie as tie
+use Rattle.code_sets.proofs.larger.Statement.{statement}
+use Rattle.code_sets.proofs.larger.Tie as tie
 
 cast-either : tie.Need-cast-either
 cast-either c = record { fits = omega (arith, or-lt 32 (c .args .a) (c .args .b) (c .fits .a .fits) (c .fits .b .fits)) }

@@ -1,13 +1,13 @@
--- `codes::has_code` meets its contract: the code reads the bit.
+-- `code_sets::has_code` meets its contract: the code reads the bit.
 -- Assumes nothing.
 use mathlib.Core.Path.{_≡_, refl, sym, _∙_, ap}
 use native.Mathlib.Omega.{arith}
 use Rattle.sets.specs.Words.{bits}
 use borrow.Author.Needs.{needs}
-use Rattle.block.proofs.codes.has_code.Statement.{statement}
-use Rattle.block.proofs.codes.has_code.Tie as tie
-use Rattle.block.proofs.codes.has_code.Reads as reads
-use Rattle.block.proofs.codes.has_code.Lts as lts
+use Rattle.code_sets.proofs.has_code.Statement.{statement}
+use Rattle.code_sets.proofs.has_code.Tie as tie
+use Rattle.code_sets.proofs.has_code.Reads as reads
+use Rattle.code_sets.proofs.has_code.Lts as lts
 
 shr-result : tie.Need-shr-result
 shr-result c = search needs

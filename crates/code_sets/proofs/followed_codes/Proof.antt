@@ -1,15 +1,15 @@
--- `codes::followed_codes` meets its contract, by whether 0 is among the first codes.
+-- `code_sets::followed_codes` meets its contract, by whether 0 is among the first codes.
 -- Assumes nothing.
 use mathlib.Core.Path.{_≡_, refl, sym, _∙_, ap}
 use lib.Dec.{lit<}
-use Rattle.block.proofs.CodeLaws.{goes-on, stops}
+use Rattle.code_sets.proofs.Laws.{goes-on, stops}
 use borrow.Author.Needs.{needs}
-use Rattle.block.proofs.codes.followed_codes.Statement.{statement}
-use Rattle.block.proofs.codes.followed_codes.Tie as tie
-use Rattle.block.proofs.codes.followed_codes.Reads as reads
-use Rattle.block.proofs.codes.followed_codes.Lts as lts
-use Rattle.block.proofs.codes.has_code.Reads as has-code-reads
-use Rattle.block.proofs.codes.without_zero.Reads as without-zero-reads
+use Rattle.code_sets.proofs.followed_codes.Statement.{statement}
+use Rattle.code_sets.proofs.followed_codes.Tie as tie
+use Rattle.code_sets.proofs.followed_codes.Reads as reads
+use Rattle.code_sets.proofs.followed_codes.Lts as lts
+use Rattle.code_sets.proofs.has_code.Reads as has-code-reads
+use Rattle.code_sets.proofs.without_zero.Reads as without-zero-reads
 
 has-code-requires : tie.Need-has-code-requires
 has-code-requires c κs = search needs

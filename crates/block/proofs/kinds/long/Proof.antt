@@ -1,0 +1,14 @@
+-- `kinds::long` meets its contract by computation. Assumes nothing.
+use mathlib.Core.Path.{_≡_, refl, sym, ap, _∙_}
+use Rattle.block.specs.Told.{wire-of}
+use Rattle.block.proofs.kinds.long.Statement.{statement}
+use Rattle.block.proofs.kinds.long.Tie as tie
+use Rattle.block.proofs.kinds.long.Reads as reads
+use Rattle.block.proofs.kinds.long.Lts as lts
+
+returns : tie.Need-returns
+unfolding wire-of
+returns c = refl
+
+pub long-spec : {M : Type 1} → statement M
+long-spec = tie.close (tie.spec returns)

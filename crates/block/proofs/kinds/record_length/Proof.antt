@@ -1,0 +1,28 @@
+-- `kinds::record_length` meets its contract: the shape of an allowed kind has its length. Assumes nothing.
+use mathlib.Core.Path.{_≡_, refl, sym, ap, _∙_}
+use Rattle.block.proofs.Shapes.{shaped, not-known}
+use borrow.Author.Needs.{needs}
+use Rattle.block.proofs.kinds.record_length.Statement.{statement}
+use Rattle.block.proofs.kinds.record_length.Tie as tie
+use Rattle.block.proofs.kinds.record_length.Reads as reads
+use Rattle.block.proofs.kinds.record_length.Lts as lts
+use Rattle.block.proofs.kinds.shape_of.Reads as shape-of-reads
+
+shape-of-requires : tie.Need-shape-of-requires
+shape-of-requires c κs = search needs
+
+enum-known-s : tie.Need-enum-known-s
+enum-known-s c = search needs
+
+enum-told : tie.Need-enum-told
+enum-told c = search needs
+
+returns : tie.Need-returns
+returns c = shaped _ (sym (c .before .before .before .shape-of .ensures) ∙ c .before .s .given .1) .its-length
+
+returns-2 : tie.Need-returns-2
+returns-2 c = sym (not-known _ (sym (c .before .before .shape-of .ensures) ∙ c .enum-told .given .1))
+
+pub record-length-spec : {M : Type 1} → statement M
+record-length-spec =
+    tie.close (tie.spec shape-of-requires enum-known-s enum-told returns returns-2)

@@ -1,0 +1,31 @@
+-- `pages::statement` is safe: the page has room for the longest record. Assumes nothing.
+use native.Mathlib.Omega.{arith}
+use Rattle.block.proofs.Offsets.{length-small}
+use borrow.Author.Needs.{needs}
+use Rattle.checks.proofs.pages.statement.Statement.{statement}
+use Rattle.checks.proofs.pages.statement.Tie as tie
+use Rattle.checks.proofs.pages.statement.Reads as reads
+use Rattle.checks.proofs.pages.statement.Lts as lts
+use Rattle.writing.proofs.put_record.Reads as put-record-reads
+
+returns : tie.Need-returns
+returns c = search needs
+
+sub-if2 : tie.Need-sub-if2
+sub-if2 c = search needs
+
+returns-2 : tie.Need-returns-2
+returns-2 c = search needs
+
+put-record-requires : tie.Need-put-record-requires
+put-record-requires c κs = omega (arith, c .before .before .if1 .left, c .before .if2 .left, length-small (c .before .before .before .before .args .kind))
+
+same-length : tie.Need-same-length
+same-length c = search needs
+
+returns-3 : tie.Need-returns-3
+returns-3 c = search needs
+
+pub statement-spec : {M : Type 1} → statement M
+statement-spec =
+    tie.close (tie.spec returns sub-if2 returns-2 put-record-requires same-length returns-3)
