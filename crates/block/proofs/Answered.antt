@@ -1,5 +1,5 @@
 -- What the answer to a whole reading says of the reading, for those who call the reader.
-use mathlib.Core.Path.{_≡_, refl, sym, _∙_, ap, subst}
+use mathlib.Core.Path.{_≡_, refl, sym, _∙_, subst}
 use Prim.Native.Nat.{ℕ}
 use native.Mathlib.Omega.{arith}
 use Rattle.block.specs.Table.{Table, Has}

@@ -1,12 +1,11 @@
 -- What a record builds: kind, kept operand, statements, bytes and pauses of the statement, by the view of its kind.
-use mathlib.Core.Path.{_≡_, refl, sym, _∙_, ap}
+use mathlib.Core.Path.{_≡_, refl, ap}
 use mathlib.Core.Bool.{cond}
 use mathlib.Core.List.{List, [], _∷_, _++_}
 use Prim.Native.Nat.{ℕ, _+_}
 use native.Mathlib.Nat.{add-assoc}
 use native.Mathlib.Omega.{arith}
 use lib.Dec.{eqb}
-use lib.ListN.{length}
 use Rattle.sets.specs.Numbers.{listed}
 use Rattle.rules.specs.Statements.{Stmt, pauses}
 use Rattle.block.specs.Table.{kind-of, operand-of, statements}

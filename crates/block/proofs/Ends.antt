@@ -6,19 +6,18 @@ use mathlib.Core.List.{List}
 use Prim.Native.Nat.{ℕ, _+_, _≤_, _<_}
 use native.Mathlib.Nat.{zero-add}
 use native.Mathlib.Omega.{arith}
-use lib.Dec.{T, eqb, ltb}
+use lib.Dec.{eqb}
 use lib.ListN.{length}
 use borrow.Author.Tests.{eq-eqb, ne-eqb, lt-ltb, le-ltb}
-use Rattle.sets.specs.Numbers.{empty, lowest}
-use Rattle.sets.specs.Words.{bits}
+use Rattle.sets.specs.Numbers.{lowest}
 use Rattle.sets.proofs.Members.{ext, of-false}
 use Rattle.sets.proofs.Words.{bits-zero}
 use Rattle.sets.proofs.Counts.{lowest-some}
 use Rattle.rules.specs.Statements.{Stmt}
-use Rattle.block.specs.Table.{Table, Has, statements, Small}
-use Rattle.block.specs.Format.{Header, Around, Sofar, Got, got, refused, Good, Reading, good, turned-down, header, header-fault, read, ended, loops-checked, offset, numbered, endless}
-use Rattle.block.specs.Format.{lowest-endless, reading, outermost, begun}
-use Rattle.block.specs.Told.{header-of, sofar-of, around-of, cursor-of, table-of, told, Built, Full, Reads, Ready, summary-of, answer-to, Stands, ReadWhole}
+use Rattle.block.specs.Table.{Table, Has, statements}
+use Rattle.block.specs.Format.{Header, Around, Sofar, Got, got, Reading, turned-down, header, header-fault, read, ended, loops-checked, offset, numbered, endless}
+use Rattle.block.specs.Format.{lowest-endless, reading, outermost}
+use Rattle.block.specs.Told.{header-of, sofar-of, around-of, Built, Full, Reads, Ready, summary-of, answer-to, Stands, ReadWhole}
 use Rattle.block.specs.Codes.{Tabled, number-or}
 use Rattle.block.specs.declared.Declared.{Declared}
 use Rattle.block.specs.declared.Cursor.{Cursor}

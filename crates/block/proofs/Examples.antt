@@ -3,10 +3,10 @@ use mathlib.Core.Path.{_≡_, refl}
 use mathlib.Core.List.{List, [], _∷_, _++_}
 use Prim.Native.Nat.{ℕ}
 use Rattle.sets.specs.Numbers.{listed, lowest, some-to, maxima, downs}
-use Rattle.rules.specs.Statements.{depth, code, Stmt, nothing, pause, emit, present?_then_else_, suspend_on_, _⨾_, loop, _parallel_, trap, exit, local}
+use Rattle.rules.specs.Statements.{depth, code, pause, emit, suspend_on_, _⨾_, trap, exit, local}
 use Rattle.rules.specs.Loops.{codes-of}
 use Rattle.block.specs.Table.{kind-of, statements}
-use Rattle.block.specs.Format.{Reading, good, turned-down, reading, is-broken, header, header-fault, shape, length-of, children-of, over-limit, wrong-signal, wrong-exit}
+use Rattle.block.specs.Format.{good, turned-down, reading, is-broken, header, header-fault, shape, length-of, children-of, over-limit, wrong-signal, wrong-exit}
 use Rattle.block.specs.Format.{statement-fault, past, inside, leaf, above, joined, read, preorder, bytes, offset, endless, lowest-endless, loops-checked, ended}
 
 abbrev head : ℕ → ℕ → ℕ → List ℕ

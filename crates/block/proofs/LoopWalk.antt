@@ -1,7 +1,6 @@
 -- The walk over the table from the last statement to the first: what is known from statement i on, and one step of it.
-use mathlib.Core.Path.{_≡_, refl, sym, _∙_, ap, ap₂, subst}
+use mathlib.Core.Path.{_≡_, sym, _∙_, ap, ap₂, subst}
 use mathlib.Core.Bool.{Bool, true, false, cond, _&&_}
-use mathlib.Core.Option.{Option, none, some}
 use mathlib.Core.List.{List}
 use Prim.Native.Nat.{ℕ, _+_, _-_, _≤_, _<_}
 use native.Mathlib.Nat.{zero-add}
@@ -17,7 +16,7 @@ use Rattle.sets.proofs.Counts.{lowest-in, lowest-empty}
 use Rattle.rules.specs.Statements.{Stmt}
 use Rattle.rules.specs.Loops.{codes-of}
 use Rattle.block.specs.Table.{Table, Has, kind-of, operand-of, statements}
-use Rattle.block.specs.Format.{preorder, numbered, endless, lowest-endless}
+use Rattle.block.specs.Format.{numbered, endless, lowest-endless}
 use Rattle.block.specs.Codes.{codes-for, Fed, Tabled, number-or}
 use Rattle.block.proofs.Places.{At, at-number, has-row, fed, codes-right, endless-right, exit-small}
 

@@ -1,16 +1,15 @@
 -- Where the records of a tree lie: one offset after the other, and the part that a statement and all below it take.
 use mathlib.Core.Path.{_≡_, refl, sym, _∙_, ap, subst}
 use mathlib.Core.Logic.{⊎-elim}
-use mathlib.Core.List.{List, [], _∷_, _++_}
+use mathlib.Core.List.{List, [], _∷_}
 use mathlib.Core.Option.{Option}
-use Prim.Native.Nat.{ℕ, zero, suc, _+_, _*_, _≤_, _<_}
+use Prim.Native.Nat.{ℕ, _+_, _*_, _≤_, _<_}
 use native.Mathlib.Nat.{zero-add}
 use native.Mathlib.Numerals.{add-one}
 use native.Mathlib.Omega.{arith}
 use lib.Dec.{lit≤}
-use lib.ListN.{length, getD, take, drop, length-drop, take-append-drop, length-take}
+use lib.ListN.{length, getD, take, drop, length-drop, take-append-drop}
 use lib.Seq.{take-suc, take-add, take-all, getD-take, getD-drop, ext-getD, length-take-le}
-use Rattle.sets.specs.Numbers.{listed}
 use Rattle.rules.specs.Statements.{Stmt, nothing}
 use Rattle.block.specs.Table.{Table, Has, kind-of, statements}
 use Rattle.block.specs.Format.{Shape, shape, of-shape, length-of, preorder, numbered, bytes, offset}

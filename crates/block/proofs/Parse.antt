@@ -1,15 +1,13 @@
 -- The reading of a statement, one equation for each way through it, and as a relation: every fact of a good reading goes by
 -- induction on that.
 use mathlib.Core.Path.{_≡_, refl, sym, subst₂, _∙_}
-use mathlib.Core.Logic.{_⊎_, inl, inr, ⊎-elim}
-use mathlib.Core.Bool.{Bool, true, false}
+use mathlib.Core.Logic.{_⊎_, ⊎-elim}
 use mathlib.Core.List.{List}
-use Prim.Native.Nat.{ℕ, zero, suc, _+_}
-use lib.Dec.{eqb}
+use Prim.Native.Nat.{ℕ, zero, suc}
 use native.Mathlib.Omega.{arith}
 use borrow.Author.Tests.{eq-eqb, ne-eqb}
 use Rattle.rules.specs.Statements.{Stmt}
-use Rattle.block.specs.Format.{Header, Around, Sofar, Got, got, refused, and-then, with-children, kind-at, operand-at, statement-fault, length-of, children-of, past, inside, leaf, above}
+use Rattle.block.specs.Format.{Header, Around, Sofar, Got, got, refused, and-then, kind-at, operand-at, statement-fault, children-of, past, inside, leaf, above}
 use Rattle.block.specs.Format.{joined, read}
 use Rattle.block.proofs.Views.{Leaf, Above, Joined, Kind, leafs, aboves, joins, is?, leaf-children, above-children, joined-children}
 use Rattle.block.proofs.Passes.{passes}

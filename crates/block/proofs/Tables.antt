@@ -1,13 +1,12 @@
 -- The table: which rows a store changes, and that a statement stays in the table while its rows stay.
-use mathlib.Core.Path.{_≡_, refl, sym, _∙_, ap}
+use mathlib.Core.Path.{_≡_, refl, sym, _∙_}
 use mathlib.Core.List.{List}
 use Prim.Native.Nat.{ℕ, _+_, _≤_, _<_}
-use native.Mathlib.Nat.{add-assoc}
 use native.Mathlib.Omega.{arith}
-use lib.ListN.{length, getD, set, length-set}
+use lib.ListN.{getD, set, length-set}
 use lib.Seq.{getD-set-same, getD-set-other}
 use Rattle.rules.specs.Statements.{Stmt, nothing, pause, emit, present?_then_else_, suspend_on_, _⨾_, loop, _parallel_, trap, exit, local}
-use Rattle.block.specs.Table.{Table, Row, Has, kind-of, operand-of, statements}
+use Rattle.block.specs.Table.{Table, Row, Has, statements}
 use Rattle.block.specs.Format.{leaf, above, joined}
 use Rattle.block.specs.Told.{table-of, Same, Full, kept-operand}
 use Rattle.block.proofs.Views.{Leaf, Above, Joined, a-nothing, a-pause, an-emit, an-exit, a-suspend, a-loop, a-trap, a-local, a-present, a-sequence, a-parallel}

@@ -2,26 +2,26 @@
 -- rules ask. One induction on the reading; the kinds differ only in what their own record was tested for.
 use mathlib.Core.Path.{_≡_, refl, sym, subst, _∙_, ap}
 use mathlib.Core.Logic.{_⊎_, inl, inr, ⊎-elim}
-use mathlib.Core.Bool.{Bool, true, false, cond, _||_}
+use mathlib.Core.Bool.{Bool, true, false, cond}
 use mathlib.Core.List.{List, [], _∷_, _++_}
 use Prim.Native.Nat.{ℕ, zero, suc, _+_, _≤_, _<_}
-use native.Mathlib.Nat.{add-suc, suc-add, add-zero, zero-add}
+use native.Mathlib.Nat.{add-zero}
 use native.Mathlib.Numerals.{add-one}
 use native.Mathlib.Omega.{arith}
 use borrow.Author.Tests.{eqb-true}
 use lib.Dec.{T, eqb, ltb, eqb→eq, ltb→lt}
 use lib.ListN.{length, length-append}
-use Rattle.sets.specs.Numbers.{Numbers, union, single, listed}
+use Rattle.sets.specs.Numbers.{union, single}
 use Rattle.sets.proofs.Members.{or-out}
 use Rattle.rules.specs.Statements.{Stmt, pauses, from, Numbered, Trapped}
 use Rattle.block.specs.Table.{statements, Small}
-use Rattle.block.specs.Format.{Header, Around, Sofar, declared-here, length-of, past, inside, leaf, above, joined, preorder, bytes, kind-at, operand-at}
+use Rattle.block.specs.Format.{Header, Around, Sofar, declared-here, past, inside, leaf, above, joined, preorder, bytes, kind-at, operand-at}
 use Rattle.block.specs.Good.{Scoped, path, nested-traps, nested-locals, locals, Next}
 use Rattle.block.proofs.Views.{Leaf, Above, Joined, a-nothing, a-pause, an-emit, an-exit, a-suspend, a-loop, a-trap, a-local, a-present, a-sequence, a-parallel}
 use Rattle.block.proofs.Passes.{Passes, passes}
 use Rattle.block.proofs.Parse.{Parsed, at-leaf, at-above, at-joined}
 use Rattle.block.proofs.Nesting.{Nests, leaf-nests, above-nests, joined-nests, both-in-row, in-row, length-where}
-use Rattle.block.proofs.Built.{Builds, leaf-builds, above-builds, joined-builds}
+use Rattle.block.proofs.Built.{leaf-builds, above-builds, joined-builds}
 
 -- What the reading keeps of the counts, and of what stands around.
 pub record Counts (h : Header) (r : Sofar) : Type 0 where

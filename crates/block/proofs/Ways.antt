@@ -1,23 +1,21 @@
 -- One lemma for each way through the code that reads a statement: what the code has at its return is what it promises.
 use mathlib.Core.Path.{_≡_, refl, sym, _∙_, ap, subst, subst₂}
-use mathlib.Core.Logic.{_⊎_, inl, inr, ⊎-elim}
+use mathlib.Core.Logic.{_⊎_, ⊎-elim}
 use mathlib.Core.List.{List}
-use Prim.Native.Nat.{ℕ, zero, suc, _+_, _-_, _≤_, _<_}
+use Prim.Native.Nat.{ℕ, suc, _+_, _-_, _≤_, _<_}
 use native.Mathlib.Numerals.{add-one}
 use native.Mathlib.Omega.{arith}
-use lib.Dec.{T}
-use lib.ListN.{length, getD, set}
-use Rattle.sets.specs.Words.{bits}
+use lib.ListN.{length, set}
 use Rattle.rules.specs.Statements.{Stmt}
 use Rattle.block.specs.Table.{Table, Has, statements}
-use Rattle.block.specs.Format.{Header, Around, Sofar, Got, got, refused, and-then, kind-at, operand-at, length-of, children-of, statement-fault, past, inside, leaf, above, joined, read}
+use Rattle.block.specs.Format.{Header, Sofar, Got, got, refused, and-then, kind-at, operand-at, children-of, statement-fault, past, inside, leaf, above, joined, read}
 use Rattle.block.specs.Told.{header-of, sofar-of, around-of, cursor-of, table-of, told, Built, Same, Full, Reads, Ready, kept-operand}
 use Rattle.block.specs.declared.Declared.{Declared}
 use Rattle.block.specs.declared.Cursor.{Cursor}
 use Rattle.block.specs.declared.Context.{Context}
 use Rattle.block.specs.declared.reader.Read.{Read}
 use Rattle.block.specs.declared.reader.Read.the-variants.{Got as GotTo, Refused}
-use Rattle.block.proofs.Views.{Leaf, Above, Joined, Kind, is?, leaf?, above?, joined?, joined-children}
+use Rattle.block.proofs.Views.{Joined, is?, leaf?, above?, joined?, joined-children}
 use Rattle.block.proofs.Passes.{Passes, passes}
 use Rattle.block.proofs.Parse.{parsed, read-stop, read-leaf, read-above, read-joined}
 use Rattle.block.proofs.Built.{leaf-builds, above-builds, joined-builds}

@@ -1,11 +1,11 @@
 -- The block file and its reading: "The block file" of document 01, with the numbers 1 to 8 and their places. The reading is a
 -- function of the block's bytes. Assumes nothing.
-use mathlib.Core.Bool.{Bool, true, false, not, cond, _&&_, _||_}
-use mathlib.Core.List.{List, [], _∷_, _++_, map}
+use mathlib.Core.Bool.{Bool, false, not, cond, _&&_, _||_}
+use mathlib.Core.List.{List, [], _∷_, _++_}
 use mathlib.Core.Option.{Option, none, some}
 use Prim.Native.Nat.{ℕ, zero, suc, _+_, _-_, _*_}
 use lib.Dec.{eqb, ltb, leb}
-use lib.ListN.{length, getD, take, drop}
+use lib.ListN.{length, getD, take}
 use Rattle.sets.specs.Numbers.{Numbers, empty, single, union, listed, lowest}
 use Rattle.rules.specs.Statements.{depth, Stmt, nothing, pause, emit, present?_then_else_, suspend_on_, _⨾_, loop, _parallel_, trap, exit, local}
 use Rattle.rules.specs.Loops.{codes-of}

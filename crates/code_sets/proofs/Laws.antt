@@ -1,13 +1,11 @@
 -- The words that the functions make of sets of codes, bit by bit. Assumes nothing.
-use mathlib.Core.Path.{_≡_, refl, sym, _∙_, ap, ap₂, subst}
+use mathlib.Core.Path.{_≡_, refl, sym, _∙_, ap, ap₂}
 use mathlib.Core.Bool.{Bool, true, false, _&&_, _||_}
-use mathlib.Core.Logic.{_⊎_, inl, inr}
 use Prim.Native.Nat.{ℕ, zero, suc, _+_, _*_, _/_, _%_, _<_}
 use native.Mathlib.Omega.{arith}
 use lib.Dec.{eqb}
 use lib.Bits.{bitAnd, bitOr, bitXor, or-lt}
-use borrow.Author.Tests.{ne-eqb}
-use Rattle.sets.specs.Numbers.{Numbers, single, union, without, only-if, downs}
+use Rattle.sets.specs.Numbers.{Numbers, union, without, only-if, downs}
 use Rattle.sets.specs.Words.{bits}
 use Rattle.sets.proofs.Members.{ext}
 use Rattle.sets.proofs.Words.{bits-first, bits-suc, bits-or, is-set, is-bits, is-without}

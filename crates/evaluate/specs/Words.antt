@@ -1,7 +1,6 @@
 -- What the evaluator's words stand for: an event is two words, what must or can gives is a word of signals and one of codes, what is kept
 -- is a word of codes and a set of pauses. Assumes nothing.
 use mathlib.Core.Path.{_≡_}
-use mathlib.Core.Bool.{Bool, true, false}
 use Prim.Native.Nat.{ℕ, _-_}
 use Rattle.sets.specs.Numbers.{Numbers, empty, single, only-if}
 use Rattle.sets.specs.Words.{bits, set-of}

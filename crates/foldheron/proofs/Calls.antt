@@ -10,7 +10,6 @@ use native.Mathlib.Omega.{arith}
 use native.Mathlib.Decide.{ℕ-discrete}
 use lib.Dec.{lit≤}
 use lib.ListN.{length}
-use Rattle.sets.specs.Words.{bits}
 use Rattle.rules.specs.States.{State, active-of}
 use Rattle.rules.specs.Rounds.{answered, not-constructive, react}
 use Rattle.block.specs.Format.{Good, Reading, good, turned-down, reading}

@@ -11,7 +11,6 @@ use lib.Dec.{T, eqb, ltb}
 use lib.ListN.{length}
 use borrow.Author.Tests.{eqb-true, eqb-false, ltb-true, ltb-false}
 use Rattle.sets.specs.Numbers.{Numbers, listed}
-use Rattle.sets.specs.Words.{bits}
 use Rattle.rules.specs.States.{State, fresh, active-of}
 use Rattle.rules.specs.Rounds.{Answer, answered, not-constructive, react}
 use Rattle.block.specs.Format.{Good, Reading, good, turned-down, reading, preorder, numbered, bytes, offset}

@@ -9,7 +9,6 @@ use Prim.Native.Nat.{ℕ, _≤_, _<_}
 use native.Mathlib.Omega.{arith}
 use lib.Dec.{T, eqb, ltb, ltb→lt}
 use Rattle.sets.specs.Numbers.{Numbers, some-to, lowest}
-use Rattle.sets.specs.Words.{bits}
 use Rattle.sets.proofs.Members.{and-left, and-right}
 use Rattle.sets.proofs.Counts.{lowest-some}
 use Rattle.rules.specs.Statements.{Block, Stmt}

@@ -1,7 +1,7 @@
 -- One lemma for each way through an instant: what was found on the way decides the verdict, and the reply stands for it. Assumes nothing.
 use mathlib.Core.Path.{_≡_, refl, sym, _∙_, ap, ap₂, subst}
 use mathlib.Core.Bool.{Bool, true, false, true≢false}
-use mathlib.Core.List.{List, []}
+use mathlib.Core.List.{List}
 use mathlib.Core.Option.{Option}
 use Prim.Native.Nat.{ℕ, _+_, _^_, _≤_, _<_}
 use native.Mathlib.Omega.{arith}
@@ -42,7 +42,7 @@ use Rattle.evaluate.specs.declared.rounds.Phase.the-variants.{Fresh, Running, F
 use Rattle.evaluate.specs.declared.rounds.Reacted.{Reacted}
 use Rattle.reaction.specs.declared.Reply.the-variants.{Refused, Clash, Answered, NotConstructive}
 use Rattle.reaction.specs.declared.Outcome.{Outcome}
-use Rattle.reaction.specs.Instants.{Verdict, refused, clash, reacted, INPUT, ROOM, block-of, heard-of, try-inputs, try-clash, clash-tried, try-state, try-block, verdict, told-reaction, told}
+use Rattle.reaction.specs.Instants.{Verdict, refused, reacted, INPUT, ROOM, block-of, heard-of, try-inputs, try-clash, clash-tried, try-state, try-block, verdict, told-reaction, told}
 use Rattle.reaction.specs.Outcomes.{told-of, Writes, case-of, case-for, Comes, Opened, Begins}
 
 -- turned down

@@ -4,7 +4,7 @@ use mathlib.Core.List.{List}
 use Prim.Native.Nat.{ℕ}
 use Rattle.sets.specs.Words.{set-of}
 use Rattle.rules.specs.States.{State, active-of}
-use Rattle.rules.specs.Rounds.{Answer, answered, not-constructive}
+use Rattle.rules.specs.Rounds.{answered, not-constructive}
 use Rattle.block.specs.Table.{Table, Has}
 use Rattle.block.specs.Format.{Good, good, reading}
 use Rattle.block.specs.Told.{summary-of}

@@ -11,7 +11,6 @@ use native.Mathlib.Omega.{arith}
 use lib.Dec.{T}
 use lib.Seq.{ext-getD, getD-set-same, getD-set-other}
 use lib.ListN.{length, getD, set, length-set}
-use Rattle.sets.specs.Numbers.{Numbers}
 use Rattle.sets.proofs.Members.{is-true, is-false, of-true, of-false}
 use Rattle.rules.specs.Statements.{Block}
 use Rattle.rules.specs.Events.{Status, present, absent, unknown, event, Hearing}

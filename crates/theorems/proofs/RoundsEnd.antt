@@ -9,7 +9,6 @@ use native.Mathlib.Nat.{le-refl, not-suc-le-zero, suc-inj, suc-ne-zero, zero-lt-
 use native.Mathlib.Omega.{arith}
 use lib.Dec.{T}
 use lib.ListN.{length, getD, replicate}
-use Rattle.sets.specs.Numbers.{Numbers}
 use Rattle.sets.proofs.Members.{of-true, of-false}
 use Rattle.rules.specs.Statements.{Block}
 use Rattle.rules.specs.Events.{Status, present, absent, unknown, known, event, Hearing}

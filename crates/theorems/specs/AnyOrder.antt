@@ -5,7 +5,6 @@ use mathlib.Core.List.{List}
 use Prim.Native.Nat.{ℕ, suc, _+_, _<_}
 use lib.Dec.{T}
 use lib.ListN.{length, getD, set}
-use Rattle.sets.specs.Numbers.{Numbers}
 use Rattle.rules.specs.Statements.{Block}
 use Rattle.rules.specs.Events.{Status, present, absent, unknown, event, Hearing}
 use Rattle.rules.specs.Instant.{Step}

@@ -4,7 +4,6 @@ use mathlib.Core.Logic.{_⊎_}
 use mathlib.Core.List.{List}
 use Prim.Native.Nat.{ℕ, suc, _≤_, _<_}
 use lib.ListN.{length, getD}
-use Rattle.sets.specs.Numbers.{Numbers}
 use Rattle.rules.specs.Statements.{Block}
 use Rattle.rules.specs.Events.{Status, unknown, Hearing}
 use Rattle.rules.specs.Instant.{Step}

@@ -1,21 +1,19 @@
 -- Reading what was written gives the same tree back. A tree that fits where its records stand is read there, by the reading's
 -- equations for its own record and the same for its children; then the header, the size, the end and the loops. Assumes nothing.
 use mathlib.Core.Path.{_≡_, refl, sym, ap, ap₂, _∙_, subst, subst₂}
-use mathlib.Core.Bool.{Bool, true, false, cond, _&&_}
+use mathlib.Core.Bool.{Bool, false, cond, _&&_}
 use mathlib.Core.List.{List, [], _∷_, _++_, append-assoc, append-nil}
-use mathlib.Core.Option.{Option, none}
 use Prim.Native.Nat.{ℕ, zero, suc, _+_, _*_, _/_, _%_, _≤_, _<_}
 use native.Mathlib.Nat.{add-zero, zero-add}
 use native.Mathlib.Omega.{arith}
 use borrow.Author.Tests.{eq-eqb, le-ltb}
-use lib.Dec.{eqb, ltb}
+use lib.Dec.{eqb}
 use lib.ListN.{length, drop, length-append}
-use lib.Seq.{drop-at}
 use Rattle.sets.specs.Numbers.{listed}
-use Rattle.rules.specs.Statements.{depth, Stmt, nothing, pause, emit, present?_then_else_, suspend_on_, _⨾_, loop, _parallel_, trap, exit, local, pauses, from, Numbered, Trapped}
+use Rattle.rules.specs.Statements.{depth, Stmt, nothing, pause, emit, present?_then_else_, suspend_on_, _⨾_, loop, _parallel_, trap, exit, local, pauses, Numbered, Trapped}
 use Rattle.block.specs.Table.{kind-of, operand-of, statements}
-use Rattle.block.specs.Format.{LIMIT, Header, header, header-fault, is-broken, Around, Sofar, Got, got, and-then, Good, good, turned-down, reading, kind-at, operand-at, two-bytes, statement-fault}
-use Rattle.block.specs.Format.{shape, long, length-of, children-of, past, inside, leaf, above, joined, read, ended, loops-checked, lowest-endless, preorder, bytes, outermost, begun}
+use Rattle.block.specs.Format.{LIMIT, Header, header, header-fault, is-broken, Around, Sofar, Got, got, and-then, Good, good, turned-down, reading, operand-at, statement-fault}
+use Rattle.block.specs.Format.{shape, length-of, children-of, past, inside, leaf, above, joined, read, ended, loops-checked, lowest-endless, preorder, bytes, outermost, begun}
 use Rattle.block.specs.Good.{Scoped, path, locals, Next}
 use Rattle.block.proofs.Views.{Leaf, Above, Joined, Kind, leafs, aboves, joins, a-nothing, a-pause, an-emit, an-exit, a-suspend, a-loop, a-trap, a-local, a-present, a-sequence, a-parallel}
 use Rattle.block.proofs.Views.{leaf-children, above-children, joined-children}

@@ -1,10 +1,9 @@
 -- The bytes of small blocks, computed: the run program's block of document 01, and one with a local, a trap and an exit.
 -- Assumes nothing.
 use mathlib.Core.Path.{_≡_, refl}
-use mathlib.Core.List.{List, [], _∷_, _++_}
-use Prim.Native.Nat.{ℕ}
+use mathlib.Core.List.{[], _∷_}
 use Rattle.sets.specs.Numbers.{listed}
-use Rattle.rules.specs.Statements.{depth, Stmt, pause, emit, suspend_on_, _⨾_, trap, exit, local}
+use Rattle.rules.specs.Statements.{depth, pause, emit, suspend_on_, _⨾_, trap, exit, local}
 use Rattle.block.specs.Table.{kind-of, operand-of}
 use Rattle.block.specs.Format.{shape, preorder}
 use Rattle.records.specs.Numerals.{in-bytes}

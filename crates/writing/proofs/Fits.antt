@@ -1,10 +1,10 @@
 -- What a tree needs where it is to be read: room on the path, counts, nesting, and its exits, pauses, signals and locals in order.
 -- It goes over to the children, and a record of the tree passes. By the view of the record's kind. Assumes nothing.
-use mathlib.Core.Path.{_≡_, refl, sym, ap, _∙_, subst}
-use mathlib.Core.Logic.{_⊎_, inl, inr, ⊎-elim}
+use mathlib.Core.Path.{_≡_, sym, ap, _∙_, subst}
+use mathlib.Core.Logic.{_⊎_, ⊎-elim}
 use mathlib.Core.Bool.{Bool, true, false, cond}
-use mathlib.Core.List.{List, [], _∷_, _++_}
-use Prim.Native.Nat.{ℕ, zero, suc, _+_, _≤_, _<_, max}
+use mathlib.Core.List.{List, _∷_, _++_}
+use Prim.Native.Nat.{ℕ, suc, _+_, _≤_, _<_, max}
 use native.Mathlib.Nat.{add-zero}
 use native.Mathlib.Numerals.{add-one}
 use native.Mathlib.Omega.{arith}
@@ -15,11 +15,11 @@ use Rattle.rules.specs.Statements.{Stmt, pauses, from, Numbered, Trapped}
 use Rattle.block.specs.Table.{statements}
 use Rattle.block.specs.Format.{Header, Around, Sofar, declared-here, length-of, past, inside, leaf, above, joined, preorder, bytes}
 use Rattle.block.specs.Good.{Scoped, path, nested-traps, nested-locals, locals, Next}
-use Rattle.block.proofs.Views.{Leaf, Above, Joined, Kind, leafs, aboves, joins, a-nothing, a-pause, an-emit, an-exit, a-suspend, a-loop, a-trap, a-local, a-present, a-sequence, a-parallel}
+use Rattle.block.proofs.Views.{Leaf, Above, Joined, Kind, a-nothing, a-pause, an-emit, an-exit, a-suspend, a-loop, a-trap, a-local, a-present, a-sequence, a-parallel}
 use Rattle.block.proofs.Passes.{Passes}
-use Rattle.block.proofs.Built.{Builds, leaf-builds, above-builds, joined-builds}
-use Rattle.block.proofs.Nesting.{Nests, leaf-nests, above-nests, joined-nests, rows-of, row-tail}
-use Rattle.block.proofs.Trees.{above-no-pause, joined-no-pause, leaf-numbered, locals-counted}
+use Rattle.block.proofs.Built.{Builds, above-builds, joined-builds}
+use Rattle.block.proofs.Nesting.{Nests, above-nests, joined-nests, rows-of, row-tail}
+use Rattle.block.proofs.Trees.{above-no-pause, joined-no-pause, locals-counted}
 
 pub record Fits (room : ℕ) (h : Header) (a : Around) (r : Sofar) (t : Stmt) : Type 0 where
   pub path-fits : path t ≤ room

@@ -1,19 +1,19 @@
 -- A record's bytes in a block: what is read where they stand, and that a record that passes is made of them. Two bytes hold a
 -- number below 65,536, and no other two bytes hold it. Assumes nothing.
-use mathlib.Core.Path.{_≡_, refl, sym, ap, ap₂, _∙_, subst}
-use mathlib.Core.Logic.{_⊎_, inl, inr, ⊎-elim}
+use mathlib.Core.Path.{_≡_, refl, sym, ap, ap₂, _∙_}
+use mathlib.Core.Logic.{_⊎_, ⊎-elim}
 use mathlib.Core.List.{List, [], _∷_, _++_, append-assoc}
-use mathlib.Core.Option.{Option, none, some}
-use Prim.Native.Nat.{ℕ, zero, suc, _+_, _*_, _/_, _%_, _≤_, _<_}
+use mathlib.Core.Option.{Option}
+use Prim.Native.Nat.{ℕ, suc, _+_, _/_, _%_, _≤_, _<_}
 use native.Mathlib.Nat.{add-assoc, add-zero}
 use native.Mathlib.Numerals.{add-one}
 use native.Mathlib.Omega.{arith}
 use lib.ListN.{length, getD, drop, length-append, length-drop}
-use lib.Seq.{getD-drop, drop-cons, drop-drop, drop-at, drop-append-add}
+use lib.Seq.{getD-drop, drop-cons, drop-drop, drop-at}
 use Rattle.sets.specs.Numbers.{listed}
 use Rattle.rules.specs.Statements.{Stmt}
-use Rattle.block.specs.Table.{kind-of, operand-of, statements}
-use Rattle.block.specs.Format.{Shape, shape, short, long, of-shape, length-of, two-bytes, length-at, kind-at, operand-at, leaf, above, joined, preorder, bytes}
+use Rattle.block.specs.Table.{kind-of, operand-of}
+use Rattle.block.specs.Format.{Shape, shape, short, long, of-shape, length-of, two-bytes, length-at, kind-at, operand-at, leaf, above, joined, preorder}
 use Rattle.block.proofs.Views.{Leaf, Above, Joined, Kind, leafs, aboves, joins, a-nothing, a-pause, an-emit, an-exit, a-suspend, a-loop, a-trap, a-local, a-present, a-sequence, a-parallel, known}
 use Rattle.records.specs.Numerals.{in-bytes, Bytes}
 use Rattle.writing.specs.Written.{shaped-bytes, record-bytes, records}

@@ -1,23 +1,20 @@
 -- Writing a good reading gives the same bytes, and its header and tree can be written: each record that passed is made of its kind
 -- and operand, one after the other from the header to the last byte. Assumes nothing.
-use mathlib.Core.Path.{_≡_, refl, sym, ap, ap₂, _∙_, subst}
-use mathlib.Core.List.{List, [], _∷_, _++_, append-assoc, append-nil}
-use Prim.Native.Nat.{ℕ, suc, _+_, _≤_, _<_}
+use mathlib.Core.Path.{_≡_, sym, ap, ap₂, _∙_, subst}
+use mathlib.Core.List.{List, _++_, append-assoc, append-nil}
+use Prim.Native.Nat.{ℕ, suc, _+_, _<_}
 use native.Mathlib.Omega.{arith}
-use lib.ListN.{length, drop}
+use lib.ListN.{drop}
 use lib.Seq.{drop-length}
 use Rattle.rules.specs.Statements.{Stmt, pauses}
-use Rattle.block.specs.Table.{statements}
-use Rattle.block.specs.Format.{Header, header, header-fault, Around, Sofar, Good, good, reading, two-bytes, kind-at, operand-at, statement-fault, length-of, past, leaf, above, joined, preorder}
+use Rattle.block.specs.Format.{Header, header, Around, Sofar, Good, good, reading, two-bytes, kind-at, operand-at, statement-fault, past, preorder}
 use Rattle.block.specs.Format.{outermost, begun}
-use Rattle.block.proofs.Views.{Kind, leafs, aboves, joins}
 use Rattle.block.proofs.Passes.{passes, right-length}
 use Rattle.block.proofs.Parse.{Parsed, at-leaf, at-above, at-joined, parsed}
-use Rattle.block.proofs.GoodReadings.{Headed, headed, Sound, sound, Whole, read-whole}
+use Rattle.block.proofs.GoodReadings.{Headed, headed, sound, read-whole}
 use Rattle.records.specs.Numerals.{in-bytes, Bytes}
-use Rattle.writing.specs.Written.{record-bytes, records, header-bytes, block-bytes, Writable, written}
+use Rattle.writing.specs.Written.{record-bytes, records, header-bytes, block-bytes, Writable}
 use Rattle.writing.proofs.Records.{next-two, two-small, record-back, leaf-records, above-records, joined-records}
-use Rattle.writing.proofs.Back.{read-back}
 
 module _ (b : List ℕ) (s : Bytes b) where
   -- A record that passed, and what lies behind it.

@@ -1,11 +1,10 @@
 -- Writing the header and a record: the stores of the fields, one after the other, make the whole of it. Assumes nothing.
-use mathlib.Core.Path.{_≡_, refl, sym, ap, ap₂, _∙_}
+use mathlib.Core.Path.{_≡_, refl, sym, ap, _∙_}
 use mathlib.Core.Logic.{_⊎_, inl, inr, ⊎-elim}
 use mathlib.Core.Bool.{Bool, cond}
 use mathlib.Core.List.{List, [], _∷_, _++_, append-nil}
 use mathlib.Core.Option.{Option, none, some}
 use Prim.Native.Nat.{ℕ, _+_, _≤_, _<_}
-use native.Mathlib.Nat.{add-assoc}
 use native.Mathlib.Omega.{arith}
 use borrow.Author.Tests.{lt-ltb, le-ltb}
 use lib.ListN.{length, length-append}
@@ -15,10 +14,9 @@ use Rattle.block.specs.Table.{kind-of, operand-of}
 use Rattle.block.specs.Format.{preorder, bytes, Header, Shape, shape, short, long, of-shape, length-of, operands-of}
 use Rattle.block.specs.Told.{wire-of}
 use Rattle.block.specs.declared.kinds.Shape.{Shape as Coded}
-use Rattle.block.specs.declared.kinds.Wire.{Wire}
 use Rattle.block.specs.declared.kinds.Wire.the-variants.{Allowed, Unknown}
-use Rattle.block.proofs.Shapes.{Shaped, shaped, not-known}
-use Rattle.block.proofs.Views.{Kind, shape?, known}
+use Rattle.block.proofs.Shapes.{Shaped, shaped}
+use Rattle.block.proofs.Views.{shape?, known}
 use Rattle.records.specs.Numerals.{in-bytes}
 use Rattle.records.proofs.Bytes.{sets-append, sets-front}
 use Rattle.writing.specs.Answers.{writes, refuses, roomed, out-owed}

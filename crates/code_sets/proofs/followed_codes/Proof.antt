@@ -1,6 +1,6 @@
 -- `code_sets::followed_codes` meets its contract, by whether 0 is among the first codes.
 -- Assumes nothing.
-use mathlib.Core.Path.{_≡_, refl, sym, _∙_, ap}
+use mathlib.Core.Path.{sym, _∙_}
 use lib.Dec.{lit<}
 use Rattle.code_sets.proofs.Laws.{goes-on, stops}
 use borrow.Author.Needs.{needs}

@@ -1,6 +1,6 @@
 -- `code_sets::has_code` meets its contract: the code reads the bit.
 -- Assumes nothing.
-use mathlib.Core.Path.{_≡_, refl, sym, _∙_, ap}
+use mathlib.Core.Path.{refl}
 use native.Mathlib.Omega.{arith}
 use Rattle.sets.specs.Words.{bits}
 use borrow.Author.Needs.{needs}

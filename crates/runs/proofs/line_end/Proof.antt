@@ -1,7 +1,6 @@
 -- `runs::line_end` meets its contract. The loop's invariant: `i` is from `from` on and within the list. The measure is what is left
 -- of the list. Assumes nothing.
-use Prim.Native.Nat.{_+_, _≤_, _-_}
-use mathlib.Core.Path.{_≡_}
+use Prim.Native.Nat.{_≤_, _-_}
 use lib.ListN.{length}
 use borrow.Author.Needs.{needs}
 use Rattle.runs.proofs.line_end.Statement.{statement}

@@ -1,6 +1,6 @@
 -- `runs::put` meets its contract. The loop's invariant: `i` is at most the length of what is put, `end` is within `out`, and `out`
 -- keeps its length. The measure is what is left to put. Assumes nothing.
-use Prim.Native.Nat.{_+_, _≤_, _-_}
+use Prim.Native.Nat.{_≤_, _-_}
 use mathlib.Core.Path.{_≡_}
 use lib.ListN.{length, length-set}
 use native.Mathlib.Omega.{arith}

@@ -1,7 +1,6 @@
 -- `runs::run_folders` is safe and ends. The loop's invariant: `at` is at most one past the list. The measure is what is left of the
 -- list. Assumes nothing.
 use Prim.Native.Nat.{_+_, _≤_, _-_}
-use mathlib.Core.Path.{_≡_}
 use lib.ListN.{length}
 use borrow.Author.Needs.{needs}
 use Rattle.runs.proofs.run_folders.Statement.{statement}

@@ -1,9 +1,7 @@
 -- `in_room`: the test of the lent bytes is the definition's. Assumes nothing.
-use mathlib.Core.Path.{_≡_, refl, sym, ap, _∙_}
-use mathlib.Core.List.{List, [], _∷_}
-use Prim.Native.Nat.{ℕ, _≤_, _<_}
+use mathlib.Core.Path.{sym, ap, _∙_}
+use mathlib.Core.List.{[], _∷_}
 use native.Mathlib.Omega.{arith}
-use lib.ListN.{length}
 use Rattle.writing.specs.Answers.{wrote-values, wrote-owed}
 use Rattle.writing.proofs.Stores.{too-few, enough}
 use Rattle.writing.proofs.in_room.Statement.{statement}

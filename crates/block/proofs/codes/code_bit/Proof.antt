@@ -1,6 +1,5 @@
 -- `codes::code_bit` meets its contract: one bit is shifted to its place.
 -- Assumes nothing.
-use mathlib.Core.Path.{_≡_, refl, sym, _∙_, ap}
 use native.Mathlib.Omega.{arith}
 use Rattle.sets.proofs.Words.{is-set, is-shift}
 use borrow.Author.Needs.{needs}

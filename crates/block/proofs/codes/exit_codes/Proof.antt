@@ -1,6 +1,6 @@
 -- `codes::exit_codes` meets its contract: the depth is turned into its code, which is below 32.
 -- Assumes nothing.
-use mathlib.Core.Path.{_≡_, refl, sym, _∙_, ap}
+use mathlib.Core.Path.{_∙_, ap}
 use native.Mathlib.Omega.{arith}
 use Prim.Native.Nat.{ℕ}
 use Rattle.sets.specs.Numbers.{single}

@@ -1,6 +1,6 @@
 -- `faults::exit_wrong` meets its contract: only an exit is tested.
 -- Assumes nothing.
-use mathlib.Core.Path.{_≡_, refl, sym, _∙_, ap}
+use mathlib.Core.Path.{sym}
 use Rattle.block.proofs.Tests.{exit-depth, exit-none}
 use Rattle.block.proofs.faults.exit_wrong.Statement.{statement}
 use Rattle.block.proofs.faults.exit_wrong.Tie as tie

@@ -1,6 +1,6 @@
 -- `faults::header_fault` meets its contract: at each return the tests before it passed and the last one failed.
 -- Assumes nothing.
-use mathlib.Core.Path.{_≡_, refl, sym, _∙_, ap}
+use mathlib.Core.Path.{sym, _∙_}
 use mathlib.Core.Bool.{true, false}
 use Rattle.block.proofs.Tests.{header-broken, header-kind, header-length, header-edition, header-signals}
 use borrow.Author.Needs.{needs}

@@ -1,6 +1,6 @@
 -- `faults::in_scope` meets its contract: the code reads the bit, and a word has none at or above 64.
 -- Assumes nothing.
-use mathlib.Core.Path.{_≡_, refl, sym, _∙_, ap}
+use mathlib.Core.Path.{refl, sym}
 use Rattle.sets.specs.Words.{bits}
 use Rattle.sets.proofs.Words.{bits-high}
 use borrow.Author.Needs.{needs}

@@ -1,6 +1,6 @@
 -- `faults::limit_passed` meets its contract: the path and the count first, then the limit of the kind.
 -- Assumes nothing.
-use mathlib.Core.Path.{_≡_, refl, sym, _∙_, ap}
+use mathlib.Core.Path.{sym}
 use Rattle.block.proofs.Tests.{no-room, too-many, pause-limit, trap-limit, local-limit, no-limit}
 use Rattle.block.proofs.faults.limit_passed.Statement.{statement}
 use Rattle.block.proofs.faults.limit_passed.Tie as tie

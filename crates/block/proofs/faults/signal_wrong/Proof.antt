@@ -1,6 +1,6 @@
 -- `faults::signal_wrong` meets its contract: each kind has its own test.
 -- Assumes nothing.
-use mathlib.Core.Path.{_≡_, refl, sym, _∙_, ap}
+use mathlib.Core.Path.{sym, _∙_, ap}
 use mathlib.Core.Bool.{not}
 use native.Mathlib.Omega.{arith}
 use Rattle.block.proofs.Shapes.{nineteen-or-twenty}

@@ -1,6 +1,6 @@
 -- `faults::statement_fault` meets its contract: at each return the tests before it passed and the last one failed.
 -- Assumes nothing.
-use mathlib.Core.Path.{_≡_, refl, sym, _∙_, ap}
+use mathlib.Core.Path.{sym, _∙_}
 use Rattle.block.proofs.Tests.{fault-shape, fault-broken, fault-kind, fault-limit, fault-signal, fault-exit, fault-none}
 use borrow.Author.Needs.{needs}
 use Rattle.block.proofs.faults.statement_fault.Statement.{statement}

@@ -1,5 +1,5 @@
 -- `kinds::record_length` meets its contract: the shape of an allowed kind has its length. Assumes nothing.
-use mathlib.Core.Path.{_≡_, refl, sym, ap, _∙_}
+use mathlib.Core.Path.{sym, _∙_}
 use Rattle.block.proofs.Shapes.{shaped, not-known}
 use borrow.Author.Needs.{needs}
 use Rattle.block.proofs.kinds.record_length.Statement.{statement}

@@ -1,5 +1,5 @@
 -- `kinds::shape_of` meets its contract: each arm by the law of its range. Assumes nothing.
-use mathlib.Core.Path.{_≡_, refl, sym, ap, _∙_}
+use mathlib.Core.Path.{sym, ap, _∙_}
 use native.Mathlib.Omega.{arith}
 use Rattle.block.specs.Told.{wire-of}
 use Rattle.block.specs.Format.{short, long}

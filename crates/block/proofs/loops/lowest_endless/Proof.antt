@@ -7,7 +7,7 @@ use Prim.Native.Nat.{ℕ, _+_, _-_}
 use lib.ListN.{length-replicate}
 use denote.Ref.{now}
 use Rattle.block.specs.Told.{table-of}
-use Rattle.block.proofs.LoopWalk.{Walked, walk-start, Step, second-word, walk-step, walk-end}
+use Rattle.block.proofs.LoopWalk.{Walked, walk-start, second-word, walk-step, walk-end}
 use Rattle.block.proofs.loops.lowest_endless.Statement.{statement}
 use Rattle.block.proofs.loops.lowest_endless.Tie as tie
 use Rattle.block.proofs.loops.lowest_endless.Reads as reads

@@ -1,6 +1,5 @@
 -- `steps::declared` meets its contract, field by field.
 -- Assumes nothing.
-use mathlib.Core.Path.{_≡_, refl, sym, _∙_, ap}
 use Rattle.block.specs.Format.{header}
 use borrow.Author.Needs.{needs}
 use Rattle.block.proofs.steps.declared.Statement.{statement}

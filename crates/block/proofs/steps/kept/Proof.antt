@@ -1,6 +1,6 @@
 -- `steps::kept` meets its contract: a pause keeps its number, a record with an operand that operand.
 -- Assumes nothing.
-use mathlib.Core.Path.{_≡_, refl, sym, _∙_, ap}
+use mathlib.Core.Path.{sym, _∙_}
 use borrow.Author.Tests.{eq-eqb}
 use Rattle.block.specs.Told.{kept-operand}
 use Rattle.block.proofs.Shapes.{kept-at, kept-none}

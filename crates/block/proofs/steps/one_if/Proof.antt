@@ -1,6 +1,6 @@
 -- `steps::one_if` meets its contract: the test is the condition.
 -- Assumes nothing.
-use mathlib.Core.Path.{_≡_, refl, sym, _∙_, ap}
+use mathlib.Core.Path.{sym}
 use borrow.Author.Needs.{needs}
 use borrow.Author.Tests.{eq-eqb, ne-eqb}
 use Rattle.block.proofs.steps.one_if.Statement.{statement}

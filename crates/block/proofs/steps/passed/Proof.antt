@@ -1,6 +1,5 @@
 -- `steps::passed` meets its contract, field by field.
 -- Assumes nothing.
-use mathlib.Core.Path.{_≡_, refl, sym, _∙_, ap}
 use native.Mathlib.Omega.{arith}
 use Prim.Native.Nat.{_+_}
 use Rattle.block.specs.Format.{past}

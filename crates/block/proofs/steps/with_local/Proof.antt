@@ -1,6 +1,6 @@
 -- `steps::with_local` meets its contract: the bit of a new local is added.
 -- Assumes nothing.
-use mathlib.Core.Path.{_≡_, refl, sym, _∙_, ap}
+use mathlib.Core.Path.{sym}
 use borrow.Author.Tests.{eq-eqb, ne-eqb}
 use Rattle.block.proofs.Scopes.{added}
 use Rattle.block.proofs.steps.with_local.Statement.{statement}

@@ -1,7 +1,6 @@
 -- `lines::bar_after` meets its contract: the measure is what is left of the text.
 -- Assumes nothing.
-use mathlib.Core.Path.{_≡_, refl, _∙_}
-use Prim.Native.Nat.{_-_, _<_}
+use Prim.Native.Nat.{_-_}
 use native.Mathlib.Omega.{arith}
 use lib.ListN.{length}
 use Rattle.checks.proofs.lines.bar_after.Statement.{statement}

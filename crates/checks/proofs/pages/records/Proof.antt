@@ -1,7 +1,7 @@
 -- `pages::records` is safe and ends: the page keeps its length, and the measure is what is left of the numbers.
 -- Assumes nothing.
 use mathlib.Core.Path.{_≡_, refl, _∙_}
-use Prim.Native.Nat.{_-_, _<_}
+use Prim.Native.Nat.{_-_}
 use native.Mathlib.Omega.{arith}
 use lib.ListN.{length}
 use Rattle.checks.proofs.pages.records.Statement.{statement}
