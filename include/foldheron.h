@@ -36,11 +36,12 @@
 extern "C" {
 #endif
 
-/* The version of the calls, the records and this header: the first number rises where a program has to change. */
+/* The version of the calls, the records and this header: the first number rises where a program has to change, the second where some answers are
+ * others than before. */
 #define FOLDHERON_VERSION_MAJOR 1
-#define FOLDHERON_VERSION_MINOR 0
+#define FOLDHERON_VERSION_MINOR 1
 #define FOLDHERON_VERSION_PATCH 0
-#define FOLDHERON_VERSION "1.0.0"
+#define FOLDHERON_VERSION "1.1.0"
 
 /* The numbers of refusals, the first that applies in this order. 1 to 8, the block: every call; 9, the state: fresh and the instants; 10, 11
  * and 13: the instants; 12: the one with a log, before 13; 14: an excerpt. 64, the answer's bytes, comes before all of them. */

@@ -96,7 +96,7 @@ static void try_names(void)
         const char *wanted = number >= 1 && number <= 14 ? names[number - 1] : number == 64 ? "ANSWER" : NULL, *name = foldheron_name(number);
         EXPECT(wanted == NULL ? name == NULL : name != NULL && strcmp(name, wanted) == 0);
     }
-    EXPECT(strcmp(FOLDHERON_VERSION, "1.0.0") == 0);
+    EXPECT(strcmp(FOLDHERON_VERSION, "1.1.0") == 0);
     EXPECT(FOLDHERON_VERSION_MAJOR == 1 && FOLDHERON_VERSION_MINOR == 0 && FOLDHERON_VERSION_PATCH == 0);
 }
 

@@ -1,7 +1,7 @@
 //! Foldheron from Rust: the calls of the proved static library as safe functions. No dependencies.
 //!
-//! `tools/archive` proves the library and writes `target/staticlib/libfoldheron.a`, for x86-64 Linux. With Cargo, name its folder by its full path
-//! in the variable FOLDHERON_ARCHIVE; with rustc alone, link it with `-C link-arg=target/staticlib/libfoldheron.a`. What a call gives back is
+//! `tools/archive` proves the library and writes `target/staticlib/libfoldheron.a`, for x86-64 Linux. With Cargo, name it, or its folder, by its full
+//! path in the variable FOLDHERON_ARCHIVE; with rustc alone, link it with `-C link-arg=target/staticlib/libfoldheron.a`. What a call gives back is
 //! what `include/foldheron.h` documents.
 //! The three things that a C caller must see to hold by themselves here: a slice's bytes are all there, and what is lent as `&mut`
 //! overlaps nothing else that is lent and is touched by no other thread.
@@ -99,7 +99,7 @@ pub struct Logged {
 }
 
 /// The version of the library's calls and records, as FOLDHERON_VERSION in `include/foldheron.h`.
-pub const VERSION: &str = "1.0.0";
+pub const VERSION: &str = "1.1.0";
 /// How many bytes a block has at most.
 pub const BLOCK_MOST: usize = 3086;
 /// How many bytes a state has.

@@ -31,10 +31,17 @@ pub fn one_line() -> String {
     format!("the subcommands: {}", names.join(", "))
 }
 
+/// The first digits of the SHA-256 of the library that is linked, as tools/tool gives them to the compiler.
+const LIBRARY: Option<&str> = option_env!("FOLDHERON_LIBRARY");
+
 pub fn version(out: &mut Out) -> Outcome<Status> {
     let most = grouped(BLOCK_MOST as u64);
-    let text = format!("foldheron {}\nblocks of edition 1, up to {} bytes; states of {} bytes; log records of {} bytes\n", foldheron::VERSION, most, STATE, RECORD);
-    out.text(&text)?;
+    out.line(&format!("foldheron {}", foldheron::VERSION))?;
+    out.line(&format!("blocks of edition 1, up to {} bytes; states of {} bytes; log records of {} bytes", most, STATE, RECORD))?;
+    match LIBRARY {
+        Some(digits) => out.line(&format!("the static library that it was linked with: SHA-256 {}..", digits))?,
+        None => out.line("the static library that it was linked with was not told when it was compiled")?,
+    }
     Ok(Status::Good)
 }
 
