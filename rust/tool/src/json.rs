@@ -28,6 +28,11 @@ impl Object {
         self.put(key, if value { "true" } else { "false" })
     }
 
+    /// A value that there is none of.
+    pub fn null(self, key: &str) -> Object {
+        self.put(key, "null")
+    }
+
     pub fn text(self, key: &str, value: &str) -> Object {
         let text = quoted(value);
         self.put(key, &text)
@@ -68,8 +73,8 @@ mod tests {
 
     #[test]
     fn an_object() {
-        let object = Object::new().number("n", 7u64).text("t", "a\"b\\c\n\u{1}ä").flag("f", true).texts("l", &["x".into(), "y".into()]);
-        assert_eq!(object.done(), r#"{"n":7,"t":"a\"b\\c\n\u0001ä","f":true,"l":["x","y"]}"#);
+        let object = Object::new().number("n", 7u64).text("t", "a\"b\\c\n\u{1}ä").flag("f", true).texts("l", &["x".into(), "y".into()]).null("z");
+        assert_eq!(object.done(), r#"{"n":7,"t":"a\"b\\c\n\u0001ä","f":true,"l":["x","y"],"z":null}"#);
         assert_eq!(Object::new().texts("l", &[]).done(), r#"{"l":[]}"#);
     }
 }

@@ -1,4 +1,5 @@
-//! An object an instant, each on a line of its own, and a last one on the whole run.
+//! An object an instant, each on a line of its own, and a last one on the whole run. A refused instant has null for its outputs: a list without
+//! a name, or a text, would read as low.
 
 use super::style::{Step, Style, Tally};
 use crate::block::Report;
@@ -6,7 +7,6 @@ use crate::commands::check;
 use crate::json::Object;
 use crate::labels::{members, Labels};
 use crate::output::Out;
-use crate::sets::UNKNOWN;
 use crate::trouble::Outcome;
 use foldheron::{name_of, Doubt, Instant};
 
@@ -35,10 +35,10 @@ impl Style for Json<'_> {
                 object.number("active", r.active).number("rounds", r.rounds)
             }
             Instant::NotConstructive(d) => {
-                let object = object.text("name", name_of(number).unwrap_or("")).text("outputs", UNKNOWN);
+                let object = object.text("name", name_of(number).unwrap_or("")).null("outputs");
                 object.texts("undecided", &self.names(self.undecided(d), Labels::output)).number("rounds", d.rounds)
             }
-            _ => object.text("name", name_of(number).unwrap_or("")).text("outputs", UNKNOWN),
+            _ => object.text("name", name_of(number).unwrap_or("")).null("outputs"),
         };
         out.line(&object.done())
     }

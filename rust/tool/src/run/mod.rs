@@ -35,7 +35,7 @@ pub static COMMAND: Command = Command {
         with("--in", "SETS", "the sets in words, as \"DEMAND; DEMAND FAULT; -\": semicolons between sets, - for a set without an\ninput; an input is called by its name, or by its number as i0"),
         flag("--plain", "exactly the lines of the run program; a missing file is empty"),
         flag("--csv", "a line an instant with a column for each signal: 1, 0, or x for the outputs of a refused instant"),
-        flag("--json", "an object an instant, on a line of its own; the outputs of a refused instant are \"x\""),
+        flag("--json", "an object an instant, on a line of its own; the outputs of a refused instant are null"),
         with("--expect", "FILE", "compare with FILE, which has the lines of --plain, and say which is the first that differs;\nrefused instants that are expected count as good"),
         with("--from", "STATE", "go on from the state in STATE; without it the run begins afresh"),
         with("--to", "STATE", "save the next state in STATE, which may be the file of --from"),
