@@ -7,6 +7,8 @@ use std::fs::File;
 use std::io::{self, ErrorKind, Read};
 use std::path::{Path, PathBuf};
 
+/// The block's file in a folder.
+const BLOCK: &str = "block.bin";
 /// The word for standard input.
 pub const STDIN: &str = "-";
 
@@ -41,7 +43,7 @@ pub fn first(path: &Path, most: usize) -> io::Result<Vec<u8>> {
 pub fn block_path(word: &OsStr) -> PathBuf {
     let path = PathBuf::from(word);
     if path.is_dir() {
-        path.join("block.bin")
+        path.join(BLOCK)
     } else {
         path
     }
@@ -61,10 +63,16 @@ pub fn state(path: &Path) -> Outcome<Vec<u8>> {
 pub fn unread(path: &Path, why: &io::Error) -> Trouble {
     let trouble = Trouble::file(shown(path), why);
     match why.kind() {
+        ErrorKind::NotFound if is_folder_without_block(path) => trouble.advise("the folder is there, and it has no block.bin: name the block's file"),
         ErrorKind::NotFound => trouble.advise("look at the spelling; a path is taken from the folder you are in"),
         ErrorKind::PermissionDenied => trouble.advise("ask for the right to read it, or copy it elsewhere"),
         _ => trouble,
     }
+}
+
+/// Whether this is the block of a folder that is there.
+fn is_folder_without_block(path: &Path) -> bool {
+    path.file_name() == Some(OsStr::new(BLOCK)) && path.parent().map_or(false, Path::is_dir)
 }
 
 /// How many bytes a file has, where it is one that has an end.

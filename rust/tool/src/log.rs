@@ -1,7 +1,7 @@
 //! A log: records one after the other. Read one at a time, or appended to.
 
 use crate::files::{self, shown};
-use crate::layout::{begins_log_record, HEAD, LOG_KIND, RECORD};
+use crate::layout::{begins_log_record, begins_state, Header, HEAD, LOG_KIND, RECORD, STATE};
 use crate::replace::flush_folder;
 use crate::status::Status;
 use crate::trouble::{reason, Outcome, Trouble};
@@ -113,7 +113,7 @@ fn look_at(path: &Path, file: &mut File, length: u64) -> Outcome<()> {
 pub enum Next {
     Record([u8; RECORD]),
     /// Some bytes that are no whole record.
-    Short(usize),
+    Short(Vec<u8>),
     End,
 }
 
@@ -132,12 +132,33 @@ pub fn next(reader: &mut dyn Read, path: &Path) -> Outcome<Next> {
     Ok(match filled {
         0 => Next::End,
         RECORD => Next::Record(record),
-        _ => Next::Short(filled),
+        _ => Next::Short(record[..filled].to_vec()),
     })
+}
+
+/// What a file is that begins with these bytes in the place of its first record, where that can be told, and what shows it.
+pub fn other_file(number: u64, bytes: &[u8]) -> Option<(&'static str, &'static str)> {
+    if number != 1 {
+        None
+    } else if Header::of(bytes).is_some() {
+        Some(("a block", "show"))
+    } else if begins_state(bytes, STATE as u64) {
+        Some(("a state", "state"))
+    } else {
+        None
+    }
+}
+
+/// A file that is something else than a log.
+pub fn no_log(path: &Path, (what, shows): (&str, &str)) -> Trouble {
+    Trouble::new(Status::Refused, format!("{} is no log: this is {}", shown(path), what)).advise(format!("foldheron {} shows it; name the log here", shows))
 }
 
 /// A record of a log that is none.
 pub fn no_record(path: &Path, number: u64, record: &[u8]) -> Trouble {
+    if let Some(other) = other_file(number, record) {
+        return no_log(path, other);
+    }
     let bytes: Vec<String> = record.iter().take(8).map(|byte| format!("{:02X}", byte)).collect();
     let at = (number - 1) * RECORD as u64;
     let said = format!("{}: record {}, at offset {}, is no log record", shown(path), grouped(number), grouped(at));

@@ -6,7 +6,8 @@ use crate::files;
 use crate::hash::sha256;
 use crate::labels::{Labels, Sort, SORTS};
 use crate::output::warn;
-use crate::trouble::{reason, Outcome};
+use crate::status::Status;
+use crate::trouble::{reason, Outcome, Trouble};
 use foldheron::Summary;
 use std::io::ErrorKind;
 use std::path::{Path, PathBuf};
@@ -43,6 +44,9 @@ pub fn written(block: &[u8], summary: &Summary, labels: &Labels) -> String {
 /// Reads a names file's text for a block; answers why it cannot be used.
 pub fn read(text: &str, block: &[u8], summary: &Summary) -> Result<Labels, String> {
     let mut lines = text.lines().enumerate().map(|(n, line)| (n + 1, line.trim())).filter(|(_, line)| !line.is_empty() && !line.starts_with('#'));
+    if text.starts_with('\u{FEFF}') {
+        return Err("it begins with a byte order mark (BOM): save it as UTF-8 without one".to_string());
+    }
     if lines.next().map(|(_, line)| line) != Some(FIRST) {
         return Err(format!("its first line is not '{}'", FIRST));
     }
@@ -69,7 +73,10 @@ fn settle(wanted: &mut Vec<(&'static str, String)>, key: &str, value: &str) -> R
     if ours == value {
         return Ok(());
     }
-    Err(format!("it is for another block: its {} is {}, and this block's is {}", key, value, ours))
+    Err(match key {
+        "statements" => format!("it is for another block: it has {} statements, and this block has {}", value, ours),
+        _ => format!("it is for another block: its {} is {}, and this block's is {}", key, value, ours),
+    })
 }
 
 fn name_signal(labels: &mut Labels, sort: &str, number: &str, name: &str) -> Result<(), String> {
@@ -90,8 +97,13 @@ const NO_NAMES: &str = "--no-names";
 pub const OPTION: Opt = with(NAMES, "FILE", "take the signals' names from FILE, not from the file beside the block");
 pub const NO_OPTION: Opt = flag(NO_NAMES, "call the signals by their numbers: i0, o1, s2");
 
-/// What the signals of a good block are called in this call: by the file of --names or the one beside the block. One that cannot be used is
-/// told as a warning, and the signals go by their numbers.
+/// Whether a names file is asked for.
+pub fn is_named(words: &Words) -> bool {
+    words.has(NAMES)
+}
+
+/// What the signals of a good block are called in this call: by the file of --names or the one beside the block. Of one beside it that cannot be
+/// used a warning tells, and the signals go by their numbers; one that is named and cannot be used ends the command.
 pub fn labels(words: &Words, path: &Path, block: &[u8], summary: &Summary) -> Outcome<Labels> {
     let numbered = Labels::numbered(summary);
     let asked = words.at_most_one(&[NAMES, NO_NAMES])?;
@@ -101,6 +113,10 @@ pub fn labels(words: &Words, path: &Path, block: &[u8], summary: &Summary) -> Ou
     }
     let file = named.clone().unwrap_or_else(|| beside(path));
     let unused = |why: String| {
+        if named.is_some() {
+            let said = format!("{} cannot be used: {}", files::shown(&file), why);
+            return Err(Trouble::new(Status::Refused, said).advise("name the names file of this very block, or say --no-names"));
+        }
         warn(format!("{} is not used: {}", files::shown(&file), why), "signals go by their numbers: i0, o1, ..");
         Ok(numbered.clone())
     };

@@ -1,5 +1,6 @@
 //! Sets of signals as people write and read them.
 
+use crate::args::nearest;
 use crate::labels::{members, number_name, Labels, Sort};
 use crate::trouble::{Outcome, Trouble};
 
@@ -69,8 +70,20 @@ fn input(word: &str, labels: &Labels) -> Outcome<usize> {
         (Some(signal), _) if labels.sort(signal) == Some(Sort::Input) => Ok(signal),
         (Some(signal), _) => Err(wrong(format!("{} is no input but {} {}", word, article(labels, signal), "of the block"))),
         (None, Some(('i', number))) if number < 64 => Ok(number),
-        (None, _) => Err(wrong(format!("the block has no input '{}'", word))),
+        (None, _) => {
+            let near = near(word, labels).map(|name| format!("is {} meant?", name));
+            let mut trouble = wrong(format!("the block has no input '{}'", word));
+            trouble.lines.splice(1..1, near);
+            Err(trouble)
+        }
     }
+}
+
+/// The input that is called so in other letters, small for capital, or nearly so.
+fn near(word: &str, labels: &Labels) -> Option<String> {
+    let names: Vec<String> = labels.inputs().map(|n| labels.signal(n)).collect();
+    let same = names.iter().find(|name| name.eq_ignore_ascii_case(word)).map(String::as_str);
+    same.or_else(|| nearest(word, names.iter().map(String::as_str))).map(str::to_string)
 }
 
 fn article(labels: &Labels, signal: usize) -> &'static str {

@@ -19,11 +19,11 @@ const MEANINGS: [(Status, u8, &str); 8] = [
     (Good, 0, "all good"),
     (BlockRefused, 1, "a block was refused (1 to 8)"),
     (WrongCall, 2, "wrong call; nothing was written"),
-    (InstantRefused, 3, "some instant, or the state it was to begin from, was refused (9 to 13)"),
+    (InstantRefused, 3, "some instant, or a state, was refused (9 to 13)"),
     (Short, 4, "the inputs end within a set; every whole set was run"),
     (File, 5, "a file, or standard output, could not be read or written"),
-    (Refused, 8, "something else that was asked for was refused (14; a log or a state that is none)"),
-    (NotExpected, 9, "not as expected (run --expect)"),
+    (Refused, 8, "something else asked was refused (14; a log that is none; names that do not fit)"),
+    (NotExpected, 9, "not as expected: with run --expect, 9 stands in place of 1, 3 and 4, but for a refused state of --from"),
 ];
 
 impl Status {

@@ -7,7 +7,7 @@ use crate::files;
 use crate::json::Object;
 use crate::labels::{members, Labels};
 use crate::layout::{LogRecord, RECORD};
-use crate::log::{next, no_record, Next};
+use crate::log::{next, no_log, no_record, other_file, Next};
 use crate::names;
 use crate::output::Out;
 use crate::run::words::{code, columns};
@@ -30,7 +30,8 @@ pub static COMMAND: Command = Command {
         names::NO_OPTION,
     ],
     more: "A log has a record for each answered instant and none for a refused one, so its records are numbered by themselves. What\n\
-           changed since the record before is marked: + came, - went. A log does not name its block: whose it is, is yours to say.\n",
+           changed since the record before is marked: + came, - went. In the first record what was before is not known, and nothing\n\
+           is marked. A log does not name its block: whose it is, is yours to say.\n",
     run,
 };
 
@@ -48,7 +49,7 @@ fn run(words: &Words, out: &mut Out) -> Outcome<Status> {
     loop {
         match next(&mut reader, path)? {
             Next::End => return printer.end(number, out),
-            Next::Short(left) => return Err(short(path, number, left)),
+            Next::Short(bytes) => return Err(short(path, number, &bytes)),
             Next::Record(bytes) => {
                 number += 1;
                 let record = LogRecord::of(&bytes).ok_or_else(|| no_record(path, number, &bytes))?;
@@ -58,8 +59,12 @@ fn run(words: &Words, out: &mut Out) -> Outcome<Status> {
     }
 }
 
-fn short(path: &Path, number: u64, left: usize) -> Trouble {
-    let said = format!("{}: after {} there are {}, and a record has {}", files::shown(path), counted(number, "record"), counted(left as u64, "byte"), RECORD);
+fn short(path: &Path, number: u64, bytes: &[u8]) -> Trouble {
+    if let Some(other) = other_file(number + 1, bytes) {
+        return no_log(path, other);
+    }
+    let left = counted(bytes.len() as u64, "byte");
+    let said = format!("{}: after {} there are {}, and a record has {}", files::shown(path), counted(number, "record"), left, RECORD);
     Trouble::new(Status::Refused, said).advise("it is cut off there, or it is no log")
 }
 

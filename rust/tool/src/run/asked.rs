@@ -5,10 +5,11 @@ use super::style::Tally;
 use crate::args::Words;
 use crate::block::Block;
 use crate::files;
+use crate::output::say;
 use crate::sets;
 use crate::status::Status;
-use crate::trouble::{Outcome, Trouble};
-use std::io::ErrorKind;
+use crate::trouble::{reason, Outcome, Trouble};
+use std::io::{Error, ErrorKind};
 use std::path::{Path, PathBuf};
 
 #[derive(Clone, Copy, PartialEq, Eq)]
@@ -21,6 +22,8 @@ pub enum Form {
 
 enum Inputs {
     File(PathBuf),
+    /// The file beside the block, where none is named.
+    Beside(PathBuf),
     Sets(String),
 }
 
@@ -87,7 +90,7 @@ impl Asked {
 
     pub fn inputs_file(&self) -> Option<&Path> {
         match &self.inputs {
-            Inputs::File(path) => Some(path),
+            Inputs::File(path) | Inputs::Beside(path) => Some(path),
             Inputs::Sets(_) => None,
         }
     }
@@ -109,7 +112,10 @@ impl Asked {
 
     pub fn block_bytes(&self) -> Outcome<Vec<u8>> {
         match files::first(&self.block, crate::layout::BLOCK_MOST + 1) {
-            Err(why) if self.is_lenient() && why.kind() == ErrorKind::NotFound => Ok(Vec::new()),
+            Err(why) if self.is_lenient() && why.kind() == ErrorKind::NotFound => {
+                taken_for_empty(&self.block, &why);
+                Ok(Vec::new())
+            }
             read => read.map_err(|why| files::unread(&self.block, &why)),
         }
     }
@@ -117,10 +123,16 @@ impl Asked {
     pub fn source(&self, block: &Block) -> Outcome<Source> {
         let path = match &self.inputs {
             Inputs::Sets(text) => return sets::parse(text, &block.labels).map(Source::of_sets),
-            Inputs::File(path) => path,
+            Inputs::File(path) | Inputs::Beside(path) => path,
         };
         match Source::open(path) {
-            Err(why) if self.is_lenient() && why.kind() == ErrorKind::NotFound => Ok(Source::of_sets(Vec::new())),
+            Err(why) if self.is_lenient() && why.kind() == ErrorKind::NotFound => {
+                taken_for_empty(path, &why);
+                Ok(Source::of_sets(Vec::new()))
+            }
+            Err(why) if matches!(self.inputs, Inputs::Beside(_)) && why.kind() == ErrorKind::NotFound => {
+                Err(Trouble::file(files::shown(path), &why).advise("no inputs.bin beside the block: name one with --inputs, or give sets with --in"))
+            }
             Err(why) => Err(files::unread(path, &why).advise("the sets of inputs: --inputs FILE, or in words --in \"A; B C; -\"")),
             Ok(source) => Ok(source),
         }
@@ -144,6 +156,11 @@ impl Asked {
     }
 }
 
+/// Says of a missing file what is made of it: what is printed is the run program's, which says nothing.
+fn taken_for_empty(path: &Path, why: &Error) {
+    say(&[format!("{}: {}; taken for empty, as --plain does", files::shown(path), reason(why))]);
+}
+
 /// The inputs: a file, or sets in words; without either the file inputs.bin beside the block.
 fn inputs_of(words: &Words, block: &Path) -> Outcome<Inputs> {
     words.at_most_one(&["--inputs", "--in"])?;
@@ -154,6 +171,6 @@ fn inputs_of(words: &Words, block: &Path) -> Outcome<Inputs> {
     match words.value("--inputs") {
         Some(file) => Ok(Inputs::File(PathBuf::from(file))),
         None if block == Path::new(files::STDIN) => Err(Trouble::call("the block comes from standard input: say --inputs or --in")),
-        None => Ok(Inputs::File(block.with_file_name("inputs.bin"))),
+        None => Ok(Inputs::Beside(block.with_file_name("inputs.bin"))),
     }
 }

@@ -5,7 +5,7 @@ use super::style::{Step, Style, Tally};
 use crate::block::Report;
 use crate::files;
 use crate::labels::{members, Labels};
-use crate::output::{put_error, Out};
+use crate::output::{put_error, warn, Out};
 use crate::status::Status;
 use crate::trouble::{Outcome, Trouble};
 use crate::walk::{counted, grouped};
@@ -52,6 +52,9 @@ impl<'a> Expect<'a> {
     /// Compares a line that the run has, or that it has none more.
     fn compare(&mut self, got: Option<&str>) -> Outcome<()> {
         let expected = self.next()?;
+        if expected.is_none() && self.lines == 0 {
+            warn(format!("{} has no line: there is nothing to compare", files::shown(&self.path)), "it wants the lines of a run that was looked at, as --plain prints them");
+        }
         if expected.as_deref() == got {
             self.lines += u64::from(got.is_some());
             return Ok(());

@@ -33,7 +33,7 @@ pub static COMMAND: Command = Command {
     options: &[
         with("--inputs", "FILE", "sets of 8 bytes each, read as they come; without it, and without --in, inputs.bin beside the block"),
         with("--in", "SETS", "the sets in words, as \"DEMAND; DEMAND FAULT; -\": semicolons between sets, - for a set without an\ninput; an input is called by its name, or by its number as i0"),
-        flag("--plain", "exactly the lines of the run program; a missing file is empty"),
+        flag("--plain", "exactly the lines of the run program; a missing file is empty, and a line on standard error says so"),
         flag("--csv", "a line an instant with a column for each signal: 1, 0, or x for the outputs of a refused instant"),
         flag("--json", "an object an instant, on a line of its own; the outputs of a refused instant are null"),
         with("--expect", "FILE", "compare with FILE, which has the lines of --plain, and say which is the first that differs;\nrefused instants that are expected count as good"),
@@ -48,6 +48,7 @@ pub static COMMAND: Command = Command {
 };
 
 const MORE: &str = "In the table + marks what came and - what went: of inputs since the instant before, of outputs since the last answered one.
+In the first instant after --from what was before is not known, and nothing is marked.
 A refused instant has no outputs: x stands in their place, and the state is as it was, so the next instant goes on from there.
 
 What is saved: the state is written beside STATE, flushed to the disk and put in its place in one step, after the last
@@ -65,7 +66,7 @@ fn run(words: &Words, out: &mut Out) -> Outcome<Status> {
         return refused(&asked, &Report::of(&asked.block, &bytes, why), out);
     }
     let path = asked.block.clone();
-    let block = if asked.wants_names() { block::checked(words, path, bytes)? } else { block::unnamed(path, bytes)? };
+    let block = if asked.wants_names() || names::is_named(words) { block::checked(words, path, bytes)? } else { block::unnamed(path, bytes)? };
     let mut source = asked.source(&block)?;
     let mut kept = Kept::open(&asked, &block)?;
     let mut style = style::of(&asked, &block)?;
