@@ -97,7 +97,7 @@ static void try_names(void)
         EXPECT(wanted == NULL ? name == NULL : name != NULL && strcmp(name, wanted) == 0);
     }
     EXPECT(strcmp(FOLDHERON_VERSION, "1.1.0") == 0);
-    EXPECT(FOLDHERON_VERSION_MAJOR == 1 && FOLDHERON_VERSION_MINOR == 0 && FOLDHERON_VERSION_PATCH == 0);
+    EXPECT(FOLDHERON_VERSION_MAJOR == 1 && FOLDHERON_VERSION_MINOR == 1 && FOLDHERON_VERSION_PATCH == 0);
 }
 
 static void try_check(void)
