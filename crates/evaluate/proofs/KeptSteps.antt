@@ -13,25 +13,17 @@ use Rattle.rules.specs.Instant.{Step, test, catch, scope, chain, beside, held}
 use Rattle.rules.specs.MustCan.{plus, must, can, local-status, gives}
 use Rattle.rules.specs.States.{kept, executed-as}
 use Rattle.block.specs.Table.{Table}
-use Rattle.evaluate.specs.declared.words.Heard.{Heard}
-use Rattle.evaluate.specs.declared.words.MustCan.{MustCan}
+use Rattle.words.specs.declared.events.Heard.{Heard}
+use Rattle.words.specs.declared.given.MustCan.{MustCan}
 use Rattle.block.specs.declared.kinds.Depth.{Depth}
-use Rattle.evaluate.specs.declared.pauses.Kept.{Kept}
-use Rattle.evaluate.specs.declared.form.Part.{Part}
-use Rattle.evaluate.specs.declared.form.Form.{Form}
-use Rattle.evaluate.specs.declared.form.Form.the-variants.{Done, Stay, Keep, Say, Leave, Test, Catch, Scope, Chain, Beside, Same}
-use Rattle.evaluate.specs.Words.{event-of, given-of, KeptWith}
-use Rattle.evaluate.specs.Forms.{At, Shows, Formed}
-use Rattle.evaluate.specs.Walks.{Walked, KeptAs, Keeping}
-
-pub kept-of : {r : Kept} {c : ℕ} {C A B : Numbers} → r .codes ≡ c → set-of (r .pauses) ≡ only-if (bits c 1) B → bits c ≡ C → B ≡ A → KeptWith r C A
-kept-of h k f g = record { codes-are = ap bits h ∙ f; pauses-are = k ∙ ap₂ (λ (D X : Numbers). only-if (D 1) X) f g }
-
-pub with-later : (z : Bool) (X Y : Numbers) → z ≡ true → union X Y ≡ union X (only-if z Y)
-with-later z X Y e = ap (λ (b : Bool). union X (only-if b Y)) (sym e)
-
-pub without-later : (z : Bool) (X Y : Numbers) → z ≡ false → X ≡ union X (only-if z Y)
-without-later z X Y e = ext (λ n. sym (or-false (X n))) ∙ ap (λ (b : Bool). union X (only-if b Y)) (sym e)
+use Rattle.words.specs.declared.pauses.Kept.{Kept}
+use Rattle.forms.specs.declared.form.Part.{Part}
+use Rattle.forms.specs.declared.form.Form.{Form}
+use Rattle.forms.specs.declared.form.Form.the-variants.{Done, Stay, Keep, Say, Leave, Test, Catch, Scope, Chain, Beside, Same}
+use Rattle.words.specs.Words.{event-of, given-of, KeptWith}
+use Rattle.forms.specs.Forms.{At, Shows, Formed}
+use Rattle.walk.specs.Walks.{Walked}
+use Rattle.evaluate.specs.Next.{KeptAs, Keeping}
 
 same-kept : {r : Kept} {E : Event} {p q : Step} → p ≡ q → KeptAs r q E → KeptAs r p E
 same-kept {r} {E} e k = subst⁻¹ (λ (y : Step). KeptAs r y E) e k

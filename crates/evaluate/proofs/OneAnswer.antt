@@ -11,7 +11,7 @@ use Rattle.rules.specs.Statements.{Block}
 use Rattle.rules.specs.Rounds.{Answer, answered, not-constructive}
 use Rattle.evaluate.specs.declared.rounds.Reacted.{Reacted}
 use Rattle.evaluate.specs.Reacts.{Answers}
-use Rattle.evaluate.proofs.PauseLaws.{low-pause, high-pause}
+use Rattle.words.proofs.PauseLaws.{low-pause, high-pause}
 
 -- Two answers whose fields are equal; of the two words kept, the elements are.
 pub record SameAnswer (r s : Reacted) : Type 0 where

@@ -27,20 +27,21 @@ use Rattle.block.specs.Table.{Table}
 use Rattle.theorems.specs.Reach.{Reached, at-first, settling}
 use Rattle.theorems.proofs.Reach.{round-settles}
 use Rattle.theorems.proofs.RoundsEnd.{nothing-left}
-use Rattle.evaluate.specs.declared.words.Heard.{Heard}
-use Rattle.evaluate.specs.declared.words.MustCan.{MustCan}
-use Rattle.evaluate.specs.declared.form.Part.{Part}
-use Rattle.evaluate.specs.declared.form.Form.the-variants.{Same}
-use Rattle.evaluate.specs.declared.pauses.Kept.{Kept}
+use Rattle.words.specs.declared.events.Heard.{Heard}
+use Rattle.words.specs.declared.given.MustCan.{MustCan}
+use Rattle.forms.specs.declared.form.Part.{Part}
+use Rattle.forms.specs.declared.form.Form.the-variants.{Same}
+use Rattle.words.specs.declared.pauses.Kept.{Kept}
 use Rattle.evaluate.specs.declared.rounds.Ended.{Ended}
 use Rattle.evaluate.specs.declared.rounds.Phase.{Phase}
 use Rattle.evaluate.specs.declared.rounds.Reacted.{Reacted}
-use Rattle.evaluate.specs.Words.{event-of, given-of, hearing-of}
-use Rattle.evaluate.specs.Forms.{At, Live, step-of, Does, Shows}
-use Rattle.evaluate.specs.Walks.{Walked, Keeping}
+use Rattle.words.specs.Words.{event-of, given-of, hearing-of}
+use Rattle.forms.specs.Forms.{At, Live, step-of, Does, Shows}
+use Rattle.walk.specs.Walks.{Walked}
+use Rattle.evaluate.specs.Next.{Keeping}
 use Rattle.rules.specs.Rounds.{undecided, outputs-with}
 use Rattle.evaluate.specs.Reacts.{outs-from, statuses, marks-of, Fine, Marks, Sized, Rounded, Ends, state-of, Stands, Answered, Undecided, Answers, Reacts}
-use Rattle.evaluate.proofs.WordLaws.{shifted, power-of}
+use Rattle.words.proofs.WordLaws.{shifted, power-of}
 
 -- Masks.
 pub shift-pos : (w s : ℕ) → s < w → 1 ≤ (1 * 2 ^ s) % 2 ^ w

@@ -1,4 +1,2 @@
-pub mod Words
-pub mod Forms
-pub mod Walks
+pub mod Next
 pub mod Reacts

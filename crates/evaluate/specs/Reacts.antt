@@ -13,15 +13,15 @@ use Rattle.rules.specs.MustCan.{marked}
 use Rattle.rules.specs.States.{State, fresh, running, finished, active-of, next}
 use Rattle.rules.specs.Rounds.{round, begin, settle, outputs-with, Answer, answered, not-constructive, react, undecided}
 use Rattle.block.specs.Table.{Table}
-use Rattle.evaluate.specs.declared.words.Heard.{Heard}
-use Rattle.evaluate.specs.declared.words.MustCan.{MustCan}
-use Rattle.evaluate.specs.declared.form.Part.{Part}
+use Rattle.words.specs.declared.events.Heard.{Heard}
+use Rattle.words.specs.declared.given.MustCan.{MustCan}
+use Rattle.forms.specs.declared.form.Part.{Part}
 use Rattle.evaluate.specs.declared.rounds.Ended.{Ended}
 use Rattle.evaluate.specs.declared.rounds.Phase.{Phase}
 use Rattle.evaluate.specs.declared.rounds.Phase.the-variants.{Fresh, Running, Finished}
 use Rattle.evaluate.specs.declared.rounds.Reacted.{Reacted}
-use Rattle.evaluate.specs.Words.{event-of, hearing-of}
-use Rattle.evaluate.specs.Forms.{Live, Does}
+use Rattle.words.specs.Words.{event-of, hearing-of}
+use Rattle.forms.specs.Forms.{Live, Does}
 
 -- The outputs' signals: n of them from i on.
 abbrev pub outs-from : ℕ → ℕ → Numbers

@@ -1,32 +1,32 @@
 // The next state: must's code and the pauses kept, by one walk at the final event ("Next state").
-use crate::active::held_pauses;
-use crate::form::Form;
-use crate::form::Going;
-use crate::form::Part;
-use crate::form::resumed_form;
-use crate::form::started_form;
-use crate::pauses::Kept;
-use crate::pauses::kept_again;
-use crate::pauses::kept_beside;
-use crate::pauses::kept_caught;
-use crate::pauses::kept_chain;
-use crate::pauses::kept_here;
-use crate::pauses::kept_none;
-use crate::pauses::kept_unknown;
-use crate::pauses::one_pause;
-use crate::walk::must_can;
-use crate::words::Heard;
-use crate::words::Mark;
-use crate::words::Seen;
-use crate::words::gives_zero;
-use crate::words::heard_with;
-use crate::words::settled_for;
-use crate::words::status_at;
 use block::kinds::Code;
 use block::kinds::code_of;
+use forms::active::held_pauses;
+use forms::form::Form;
+use forms::form::Going;
+use forms::form::Part;
+use forms::form::resumed_form;
+use forms::form::started_form;
+use walk::must_can;
+use words::events::Heard;
+use words::events::Seen;
+use words::events::heard_with;
+use words::events::status_at;
+use words::given::Mark;
+use words::given::gives_zero;
+use words::given::settled_for;
+use words::pauses::Kept;
+use words::pauses::kept_again;
+use words::pauses::kept_beside;
+use words::pauses::kept_caught;
+use words::pauses::kept_chain;
+use words::pauses::kept_here;
+use words::pauses::kept_none;
+use words::pauses::kept_unknown;
+use words::pauses::one_pause;
 ghost use Rattle.sets.specs.Words.{set-of};
-ghost use Rattle.evaluate.specs.Forms.{table, Placed, Formed};
-ghost use Rattle.evaluate.specs.Walks.{Keeping};
+ghost use Rattle.forms.specs.Forms.{table, Placed, Formed};
+ghost use Rattle.evaluate.specs.Next.{Keeping};
 
 // What the part has to do, as `form_of` says it. Each walk has a function of its own for that: with one caller it is compiled into its walk,
 // and a round takes a fifth less time.

@@ -1,16 +1,16 @@
 // The rounds of an instant, and its answer ("Rounds", "Next state").
-use crate::active::actives;
-use crate::form::Going;
-use crate::form::Part;
 use crate::next::next_kept;
-use crate::pauses::Kept;
-use crate::pauses::members_of;
-use crate::pauses::pause_count;
-use crate::walk::must_can;
-use crate::words::Heard;
-use crate::words::Mark;
-use crate::words::MustCan;
 use block::kinds::Code;
+use forms::active::actives;
+use forms::form::Going;
+use forms::form::Part;
+use walk::must_can;
+use words::events::Heard;
+use words::given::Mark;
+use words::given::MustCan;
+use words::pauses::Kept;
+use words::pauses::members_of;
+use words::pauses::pause_count;
 ghost use mathlib.Core.Path.{_≡_};
 ghost use mathlib.Core.Bool.{cond, _&&_};
 ghost use mathlib.Core.Option.{some};
@@ -22,8 +22,8 @@ ghost use Rattle.rules.specs.Statements.{Block, Stmt};
 ghost use Rattle.rules.specs.Events.{all-heard, event};
 ghost use Rattle.rules.specs.States.{step};
 ghost use Rattle.rules.specs.Rounds.{undecided, answer, code-width};
-ghost use Rattle.evaluate.specs.Words.{event-of, hearing-of};
-ghost use Rattle.evaluate.specs.Forms.{table, At, Placed, step-of};
+ghost use Rattle.words.specs.Words.{event-of, hearing-of};
+ghost use Rattle.forms.specs.Forms.{table, At, Placed, step-of};
 ghost use Rattle.evaluate.specs.Reacts.{outs-from, statuses, marks-of, Fine, Marks, Sized, Rounded, Ends, state-of, Answers, Reacts};
 
 // A state's phase; the active set stands beside it.

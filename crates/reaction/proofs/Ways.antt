@@ -33,9 +33,9 @@ use Rattle.records.specs.Clashing.{pair-of, Searchable, Bounded}
 use Rattle.records.specs.declared.clash.Clash.{Clash as Clashing}
 use Rattle.records.specs.declared.clash.Clash.the-variants.{None, Pair}
 use Rattle.records.proofs.Writing.{written-state}
-use Rattle.evaluate.specs.Words.{hearing-of}
-use Rattle.evaluate.specs.Forms.{At}
-use Rattle.evaluate.specs.declared.words.Heard.{Heard}
+use Rattle.words.specs.Words.{hearing-of}
+use Rattle.forms.specs.Forms.{At}
+use Rattle.words.specs.declared.events.Heard.{Heard}
 use Rattle.evaluate.specs.Reacts as evaluate
 use Rattle.evaluate.specs.declared.rounds.Phase.{Phase}
 use Rattle.evaluate.specs.declared.rounds.Phase.the-variants.{Fresh, Running, Finished}

@@ -4,9 +4,10 @@ use mathlib.Core.Path.{sym, ap, _∙_}
 use lib.Dec.{lit<}
 use lib.ListN.{getD}
 use Rattle.sets.specs.Words.{set-of}
-use Rattle.evaluate.specs.Words.{seen-as}
-use Rattle.evaluate.specs.Forms.{Below}
-use Rattle.evaluate.proofs.Steps.{formed, call-part, told-as}
+use Rattle.words.specs.Words.{seen-as}
+use Rattle.forms.specs.Forms.{Below}
+use Rattle.words.proofs.WordLaws.{told-as}
+use Rattle.forms.proofs.FormLaws.{formed, call-part}
 use Rattle.evaluate.proofs.KeptSteps.{keep-form, keep-done, keep-say, keep-leave, keep-stay, keep-held, keep-present, keep-absent, keep-unknown, keep-catch, keep-beside, keep-chain, keep-skip, keep-scope}
 use Prim.Native.Nat.{ℕ, _<_}
 use borrow.Fn.Kinds.{In}
@@ -14,22 +15,22 @@ use borrow.Fn.PlainCycle.{Measures, is, falls, and}
 use Rattle.evaluate.proofs.next.next_kept.Reads as next-kept
 use Rattle.evaluate.proofs.next.next_kept.Kinds as next-kept-kinds
 use Rattle.evaluate.proofs.next.+next_kept.Lts-next_kept as next-kept-lts
-use Rattle.evaluate.proofs.active.held_pauses.Reads as held-pauses-reads
+use Rattle.forms.proofs.active.held_pauses.Reads as held-pauses-reads
 use Rattle.evaluate.proofs.next.kept_form.Reads as kept-form-reads
-use Rattle.evaluate.proofs.pauses.kept_again.Reads as kept-again-reads
-use Rattle.evaluate.proofs.pauses.kept_beside.Reads as kept-beside-reads
-use Rattle.evaluate.proofs.pauses.kept_caught.Reads as kept-caught-reads
-use Rattle.evaluate.proofs.pauses.kept_chain.Reads as kept-chain-reads
-use Rattle.evaluate.proofs.pauses.kept_here.Reads as kept-here-reads
-use Rattle.evaluate.proofs.pauses.kept_none.Reads as kept-none-reads
-use Rattle.evaluate.proofs.pauses.kept_unknown.Reads as kept-unknown-reads
-use Rattle.evaluate.proofs.pauses.one_pause.Reads as one-pause-reads
-use Rattle.evaluate.proofs.walk.must_can.Reads as must-can-reads
+use Rattle.words.proofs.pauses.kept_again.Reads as kept-again-reads
+use Rattle.words.proofs.pauses.kept_beside.Reads as kept-beside-reads
+use Rattle.words.proofs.pauses.kept_caught.Reads as kept-caught-reads
+use Rattle.words.proofs.pauses.kept_chain.Reads as kept-chain-reads
+use Rattle.words.proofs.pauses.kept_here.Reads as kept-here-reads
+use Rattle.words.proofs.pauses.kept_none.Reads as kept-none-reads
+use Rattle.words.proofs.pauses.kept_unknown.Reads as kept-unknown-reads
+use Rattle.words.proofs.pauses.one_pause.Reads as one-pause-reads
+use Rattle.walk.proofs.must_can.Reads as must-can-reads
 use Rattle.block.proofs.kinds.code_of.Reads as code-of-reads
-use Rattle.evaluate.proofs.words.gives_zero.Reads as gives-zero-reads
-use Rattle.evaluate.proofs.words.heard_with.Reads as heard-with-reads
-use Rattle.evaluate.proofs.words.settled_for.Reads as settled-for-reads
-use Rattle.evaluate.proofs.words.status_at.Reads as status-at-reads
+use Rattle.words.proofs.given.gives_zero.Reads as gives-zero-reads
+use Rattle.words.proofs.events.heard_with.Reads as heard-with-reads
+use Rattle.words.proofs.given.settled_for.Reads as settled-for-reads
+use Rattle.words.proofs.events.status_at.Reads as status-at-reads
 use Rattle.evaluate.proofs.next.+next_kept.{statement}
 use Rattle.evaluate.proofs.next.+next_kept.Tie.{close}
 

@@ -1,7 +1,7 @@
 -- `evaluate::next::kept_form` meets its contract, as `form_of` does: by how the part is taken.
 -- Assumes nothing.
-use Rattle.evaluate.proofs.FormLaws.{idle-formed, keep-formed, going-formed}
-use Rattle.evaluate.specs.declared.form.Going.the-variants.{Started, Resumed}
+use Rattle.forms.proofs.FormLaws.{idle-formed, keep-formed, going-formed}
+use Rattle.forms.specs.declared.form.Going.the-variants.{Started, Resumed}
 use borrow.Author.Needs.{needs}
 use Rattle.evaluate.proofs.next.kept_form.Statement.{statement}
 use Rattle.evaluate.proofs.next.kept_form.Tie as tie

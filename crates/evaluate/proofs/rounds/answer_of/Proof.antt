@@ -4,7 +4,7 @@ use Rattle.evaluate.proofs.RoundLaws.{stands, not-known, is-known, kept
 use mathlib.Core.Path.{refl}
 use Rattle.sets.specs.Numbers.{lowest}
 use Rattle.sets.specs.Words.{bits, set-of}
-use Rattle.evaluate.proofs.PauseLaws.{none-kept}
+use Rattle.words.proofs.PauseLaws.{none-kept}
 use borrow.Author.Needs.{needs}
 use Rattle.evaluate.proofs.rounds.answer_of.Statement.{statement}
 use Rattle.evaluate.proofs.rounds.answer_of.Tie as tie

@@ -3,7 +3,7 @@
 use mathlib.Core.Path.{sym, ap}
 use Rattle.rules.specs.Instant.{started}
 use Rattle.rules.specs.States.{step}
-use Rattle.evaluate.specs.Forms.{step-of}
+use Rattle.forms.specs.Forms.{step-of}
 use Rattle.evaluate.specs.Reacts.{state-of}
 use borrow.Author.Needs.{needs}
 use Rattle.evaluate.proofs.rounds.going_of.Statement.{statement}

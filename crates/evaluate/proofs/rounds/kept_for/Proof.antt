@@ -5,7 +5,7 @@ use mathlib.Core.Bool.{Bool, cond}
 use borrow.Author.Tests.{eq-eqb, ne-eqb}
 use Rattle.sets.specs.Numbers.{Numbers, empty}
 use Rattle.sets.specs.Words.{set-of}
-use Rattle.evaluate.proofs.PauseLaws.{none-kept}
+use Rattle.words.proofs.PauseLaws.{none-kept}
 use Rattle.evaluate.proofs.rounds.kept_for.Statement.{statement}
 use Rattle.evaluate.proofs.rounds.kept_for.Tie as tie
 

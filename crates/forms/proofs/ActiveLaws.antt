@@ -1,0 +1,221 @@
+-- Which statements hold an active pause, and the pauses of a run of rows. Assumes nothing.
+use mathlib.Core.Path.{_≡_, refl, sym, ap, ap₂, _∙_, subst, subst₂}
+use mathlib.Core.Bool.{Bool, true, false, cond, _&&_, _||_, or-false, or-assoc, and-true, and-false, and-or-distrib-left}
+use mathlib.Core.Logic.{_⊎_, inl, inr}
+use mathlib.Core.List.{List, [], _∷_, _++_, append-nil, append-assoc}
+use Prim.Native.Nat.{ℕ, zero, suc, _+_, _-_, _≤_, _<_}
+use native.Mathlib.Nat.{add-zero, add-suc, add-assoc}
+use native.Mathlib.Numerals.{add-one}
+use native.Mathlib.Decide.{ℕ-discrete}
+use native.Mathlib.Omega.{arith}
+use lib.Dec.{T, eqb, ltb, lt→ltb, ltb→lt}
+use lib.ListN.{length, getD, set}
+use lib.Seq.{getD-set-same, getD-set-other}
+use borrow.Author.Tests.{eq-eqb, ne-eqb}
+use Rattle.sets.specs.Numbers.{Numbers, empty, single, union, listed}
+use Rattle.sets.proofs.Members.{is-true, of-true, ext, same, and-right, or-out, and-in, and-left}
+use Rattle.sets.proofs.Counts.{listed-append}
+use Rattle.rules.specs.Statements.{depth, Stmt, nothing, pause, emit, present?_then_else_, suspend_on_, _⨾_, loop, _parallel_, trap, exit, local, pauses}
+use Rattle.rules.specs.Instant.{any, active, held}
+use Rattle.block.specs.Table.{Table, kind-of, operand-of, statements, Has, Small}
+use Rattle.forms.specs.Forms.{At, Live, LiveFrom, row-pauses, pauses-in, among}
+use Rattle.forms.proofs.FormLaws.{row, in-table, Second, Kids, kids, Flags}
+
+-- Active pauses, part by part.
+any-append : (A : Numbers) (xs ys : List ℕ) → any A (xs ++ ys) ≡ (any A xs || any A ys)
+unfolding any
+any-append A [] ys = refl
+any-append A (x ∷ xs) ys = ap (λ (b : Bool). A x || b) (any-append A xs ys) ∙ sym (or-assoc (A x) (any A xs) (any A ys))
+
+abbrev pub active-flag : ℕ → Bool → Bool → Bool → Bool
+active-flag k a lp lq =
+    cond (eqb k 17) a
+    (cond (eqb k 19) (lp || lq)
+    (cond (eqb k 20) lp (cond (eqb k 21) (lp || lq) (cond (eqb k 22) lp (cond (eqb k 23) (lp || lq) (cond (eqb k 24) lp (cond (eqb k 26) lp false)))))))
+
+module _ (tab : Table) (A : Numbers) (i n : ℕ) (lp lq : Bool) (f : Flags tab A i n lp lq) where
+  flag-is : (t : Stmt) → Kids tab i n t → active-flag (kind-of t) (ltb (operand-of t) 128 && A (operand-of t)) lp lq ≡ active A t
+  unfolding Kids kind-of operand-of active any pauses
+  flag-is nothing k = refl
+  flag-is (pause m) k = ap (λ (b : Bool). b && A m) (is-true (ltb m 128) (lt→ltb m 128 k)) ∙ sym (or-false (A m))
+  flag-is (emit s) k = refl
+  flag-is (present? s then p else q) k =
+      ap₂ (λ (x y : Bool). x || y) (f .on-first p (k .1 .there)) (f .on-next q (k .2 .after) (k .2 .there)) ∙ sym (any-append A (pauses p) (pauses q))
+  flag-is (suspend p on s) k = f .on-first p (k .1 .there)
+  flag-is (p ⨾ q) k = ap₂ (λ (x y : Bool). x || y) (f .on-first p (k .0 .there)) (f .on-next q (k .1 .after) (k .1 .there)) ∙ sym (any-append A (pauses p) (pauses q))
+  flag-is (loop p) k = f .on-first p (k .there)
+  flag-is (p parallel q) k =
+      ap₂ (λ (x y : Bool). x || y) (f .on-first p (k .0 .there)) (f .on-next q (k .1 .after) (k .1 .there)) ∙ sym (any-append A (pauses p) (pauses q))
+  flag-is (trap p) k = f .on-first p (k .there)
+  flag-is (exit (depth d)) k = refl
+  flag-is (local s p) k = f .on-first p (k .1 .there)
+
+-- The code's arm for the kind k.
+pub active-at : {tab : Table} {A : Numbers} {live : List Bool} {i : ℕ} (n : ℕ) (lp lq : Bool) → LiveFrom tab A live (i + 1) → Second tab i n → (i + 1 < 512 → lp ≡ getD live (i + 1) false) → (n < 512 → lq ≡ getD live n false)
+    → (k : ℕ) → getD (tab .kinds) i 0 ≡ k → (t : Stmt) → At tab i t → active-flag k (ltb (getD (tab .operands) i 0) 128 && A (getD (tab .operands) i 0)) lp lq ≡ active A t
+active-at {tab} {A} {live} {i} n lp lq l s g h k e t a =
+    subst₂ (λ (x y : ℕ). active-flag x (ltb y 128 && A y) lp lq ≡ active A t) (sym (row t (a .has) .its-kind) ∙ e) (sym (row t (a .has) .its-operand))
+    (flag-is tab A i n lp lq flags t (kids s t a))
+  where
+    flags : Flags tab A i n lp lq
+    flags = record {
+      on-first = λ p b. g (in-table (record { tree = p; there = b })) ∙ l .says (i + 1) p (omega arith) b;
+      on-next = λ q c b. h (in-table (record { tree = q; there = b })) ∙ l .says n q (omega arith) b;
+    }
+
+pub live-none : {tab : Table} {A : Numbers} {live : List Bool} → LiveFrom tab A live 512
+live-none = record { says = λ i t h a. let l = in-table (record { tree = t; there = a }) in absurd (omega arith) }
+
+pub live-more : {tab : Table} {A : Numbers} (live : List Bool) (i : ℕ) (b : Bool) → i < length live → LiveFrom tab A live (i + 1) → ((t : Stmt) → At tab i t → b ≡ active A t) → LiveFrom tab A (set live i b) i
+live-more {tab} {A} live i b l f g = record { says = λ j t h a. go j t h a (ℕ-discrete j i) }
+  where
+    go : (j : ℕ) (t : Stmt) → i ≤ j → At tab j t → Dec (j ≡ i) → getD (set live i b) j false ≡ active A t
+    go j t h a (yes e) =
+        ap (λ (x : ℕ). getD (set live i b) x false) e ∙ getD-set-same live i b false l ∙ g t (subst (λ (x : ℕ). At tab x t) e a)
+    go j t h a (no e) = getD-set-other live i j b false e ∙ f .says j t (omega arith) a
+
+pub live-all : {tab : Table} {A : Numbers} {live : List Bool} {i : ℕ} → i ≡ 0 → LiveFrom tab A live i → Live tab A live
+live-all e f = record { says = λ i t a. f .says i t (omega arith) a }
+
+-- The rows of a statement have its pauses.
+pauses-add : (tab : Table) (i m n : ℕ) → pauses-in tab i (m + n) ≡ pauses-in tab i m ++ pauses-in tab (i + m) n
+unfolding pauses-in
+pauses-add tab i m zero = ap (pauses-in tab i) (add-zero m) ∙ sym (append-nil (pauses-in tab i m))
+pauses-add tab i m (suc n) =
+    ap (pauses-in tab i) (add-suc m n)
+    ∙ ap₂ (λ (x : List ℕ) (y : ℕ). x ++ row-pauses tab y) (pauses-add tab i m n) (sym (add-assoc i m n))
+    ∙ append-assoc (pauses-in tab i m) (pauses-in tab (i + m) n) (row-pauses tab (i + m + n))
+
+row-first : (tab : Table) (i : ℕ) → pauses-in tab i 1 ≡ row-pauses tab i
+unfolding pauses-in
+row-first tab i = ap (row-pauses tab) (add-zero i)
+
+row-other : (tab : Table) (i : ℕ) (k : ℕ) → getD (tab .kinds) i 0 ≡ k → eqb k 17 ≡ false → row-pauses tab i ≡ []
+unfolding row-pauses
+row-other tab i k e f = ap (λ (b : Bool). cond b (getD (tab .operands) i 0 ∷ []) []) (ap (λ (x : ℕ). eqb x 17) e ∙ f)
+
+own-pause : (tab : Table) (i n : ℕ) → getD (tab .kinds) i 0 ≡ 17 → getD (tab .operands) i 0 ≡ operand-of (pause n) → row-pauses tab i ≡ n ∷ []
+unfolding row-pauses operand-of
+own-pause tab i n e o = ap₂ (λ (k m : ℕ). cond (eqb k 17) (m ∷ []) []) e o
+
+one-child : (tab : Table) (i : ℕ) (p : Stmt) (k : ℕ) → getD (tab .kinds) i 0 ≡ k → eqb k 17 ≡ false → pauses-in tab (i + 1) (statements p) ≡ pauses p → pauses-in tab i (1 + statements p) ≡ pauses p
+one-child tab i p k e f h =
+    pauses-add tab i 1 (statements p) ∙ ap₂ (λ (x y : List ℕ). x ++ y) (row-first tab i ∙ row-other tab i k e f) h
+
+two-children : (tab : Table) (i : ℕ) (p q : Stmt) (k : ℕ) → getD (tab .kinds) i 0 ≡ k → eqb k 17 ≡ false → pauses-in tab (i + 1) (statements p) ≡ pauses p
+    → pauses-in tab (i + 1 + statements p) (statements q) ≡ pauses q → pauses-in tab i (1 + statements p + statements q) ≡ pauses p ++ pauses q
+two-children tab i p q k e f g h =
+    pauses-add tab i (1 + statements p) (statements q)
+    ∙ ap₂ (λ (x y : List ℕ). x ++ y) (one-child tab i p k e f g) (ap (λ (x : ℕ). pauses-in tab x (statements q)) (sym (add-assoc i 1 (statements p))) ∙ h)
+
+pub pauses-found : (tab : Table) (i : ℕ) (t : Stmt) → Has tab i t → pauses-in tab i (statements t) ≡ pauses t
+unfolding Has statements pauses kind-of
+pauses-found tab i nothing h = row-first tab i ∙ row-other tab i 16 (h .its-kind) refl
+pauses-found tab i (pause n) h = row-first tab i ∙ own-pause tab i n (h .its-kind) (h .its-operand)
+pauses-found tab i (emit s) h = row-first tab i ∙ row-other tab i 18 (h .its-kind) refl
+pauses-found tab i (present? s then p else q) h = two-children tab i p q 19 (h .0 .its-kind) refl (pauses-found tab (i + 1) p (h .1)) (pauses-found tab (i + 1 + statements p) q (h .2))
+pauses-found tab i (suspend p on s) h = one-child tab i p 20 (h .0 .its-kind) refl (pauses-found tab (i + 1) p (h .1))
+pauses-found tab i (p ⨾ q) h = two-children tab i p q 21 (h .0 .its-kind) refl (pauses-found tab (i + 1) p (h .1)) (pauses-found tab (i + 1 + statements p) q (h .2))
+pauses-found tab i (loop p) h = one-child tab i p 22 (h .0 .its-kind) refl (pauses-found tab (i + 1) p (h .1))
+pauses-found tab i (p parallel q) h = two-children tab i p q 23 (h .0 .its-kind) refl (pauses-found tab (i + 1) p (h .1)) (pauses-found tab (i + 1 + statements p) q (h .2))
+pauses-found tab i (trap p) h = one-child tab i p 24 (h .0 .its-kind) refl (pauses-found tab (i + 1) p (h .1))
+pauses-found tab i (exit d) h = row-first tab i ∙ row-other tab i 25 (h .its-kind) refl
+pauses-found tab i (local s p) h = one-child tab i p 26 (h .0 .its-kind) refl (pauses-found tab (i + 1) p (h .1))
+
+-- Active pauses among them.
+in-either : (xs ys : List ℕ) (m : ℕ) → (T (listed xs m) → m < 128) → (T (listed ys m) → m < 128) → T (listed (xs ++ ys) m) → m < 128
+in-either xs ys m f g h = pick (or-out (listed xs m) (listed ys m) (subst T (listed-append xs ys m) h))
+  where
+    pick : T (listed xs m) ⊎ T (listed ys m) → m < 128
+    pick (inl t) = f t
+    pick (inr t) = g t
+
+small-listed : (t : Stmt) → Small t → (m : ℕ) → T (listed (pauses t) m) → m < 128
+unfolding Small pauses listed
+small-listed nothing s m h = absurd h
+small-listed (pause n) s m h = let e = lib.Dec.eqb→eq m n (subst T (or-false (eqb m n)) h) in omega arith
+small-listed (emit x) s m h = absurd h
+small-listed (present? x then p else q) s m h = in-either (pauses p) (pauses q) m (small-listed p (s .1) m) (small-listed q (s .2) m) h
+small-listed (suspend p on x) s m h = small-listed p (s .1) m h
+small-listed (p ⨾ q) s m h = in-either (pauses p) (pauses q) m (small-listed p (s .0) m) (small-listed q (s .1) m) h
+small-listed (loop p) s m h = small-listed p s m h
+small-listed (p parallel q) s m h = in-either (pauses p) (pauses q) m (small-listed p (s .0) m) (small-listed q (s .1) m) h
+small-listed (trap p) s m h = small-listed p s m h
+small-listed (exit d) s m h = absurd h
+small-listed (local x p) s m h = small-listed p (s .1) m h
+
+pub among-none : (A : Numbers) → among A [] ≡ empty
+unfolding listed
+among-none A = ext (λ m. ap (λ (b : Bool). ltb m 128 && b) (and-false (A m)) ∙ and-false (ltb m 128))
+
+pub among-more : (A : Numbers) (xs ys : List ℕ) → union (among A xs) (among A ys) ≡ among A (xs ++ ys)
+among-more A xs ys =
+    ext (λ m. sym (
+    ap (λ (b : Bool). ltb m 128 && (A m && b)) (listed-append xs ys m)
+    ∙ ap (λ (b : Bool). ltb m 128 && b) (and-or-distrib-left (A m) (listed xs m) (listed ys m))
+    ∙ and-or-distrib-left (ltb m 128) (A m && listed xs m) (A m && listed ys m)
+    ))
+
+pub among-held : (A : Numbers) (t : Stmt) → Small t → among A (pauses t) ≡ held A t
+unfolding held
+among-held A t s = ext (λ m. same (ltb m 128 && (A m && listed (pauses t) m)) (A m && listed (pauses t) m) (and-right (ltb m 128) (A m && listed (pauses t) m))
+    (λ h. and-in (ltb m 128) (A m && listed (pauses t) m) (lt→ltb m 128 (small-listed t s m (and-right (A m) (listed (pauses t) m) h))) h))
+
+among-one : (A : Numbers) (o m : ℕ) → among A (o ∷ []) m ≡ (eqb m o && (ltb o 128 && A o))
+unfolding listed
+among-one A o m = go (ℕ-discrete m o)
+  where
+    go : Dec (m ≡ o) → (ltb m 128 && (A m && (eqb m o || false))) ≡ (eqb m o && (ltb o 128 && A o))
+    go (yes e) =
+        ap (λ (b : Bool). ltb m 128 && (A m && (b || false))) (eq-eqb m o e) ∙ ap (λ (b : Bool). ltb m 128 && b) (and-true (A m))
+        ∙ ap (λ (x : ℕ). ltb x 128 && A x) e ∙ ap (λ (b : Bool). b && (ltb o 128 && A o)) (sym (eq-eqb m o e))
+    go (no f) =
+        ap (λ (b : Bool). ltb m 128 && (A m && (b || false))) (ne-eqb m o f) ∙ ap (λ (b : Bool). ltb m 128 && b) (and-false (A m)) ∙ and-false (ltb m 128)
+        ∙ ap (λ (b : Bool). b && (ltb o 128 && A o)) (sym (ne-eqb m o f))
+
+pub one-held : (A : Numbers) (o : ℕ) {w : Numbers} → (ltb o 128 && A o) ≡ true → (o < 128 → w ≡ single o) → w ≡ among A (o ∷ [])
+one-held A o h f =
+    f (ltb→lt o 128 (and-left (ltb o 128) (A o) (of-true h))) ∙ ext (λ m. sym (and-true (eqb m o)) ∙ ap (λ (b : Bool). eqb m o && b) (sym h) ∙ sym (among-one A o m))
+
+pub one-idle : (A : Numbers) (o : ℕ) → (ltb o 128 && A o) ≡ false → empty ≡ among A (o ∷ [])
+one-idle A o h = ext (λ m. sym (and-false (eqb m o)) ∙ ap (λ (b : Bool). eqb m o && b) (sym h) ∙ sym (among-one A o m))
+
+-- A row, by its kind.
+module _ (tab : Table) (i : ℕ) (A : Numbers) where
+  pub row-own : getD (tab .kinds) i 0 ≡ 17 → among A (getD (tab .operands) i 0 ∷ []) ≡ among A (row-pauses tab i)
+  unfolding row-pauses
+  row-own e = ap (λ (b : Bool). among A (cond b (getD (tab .operands) i 0 ∷ []) [])) (sym (eq-eqb (getD (tab .kinds) i 0) 17 e))
+
+  pub row-none : (getD (tab .kinds) i 0 ≡ 17 → ⊥) → empty ≡ among A (row-pauses tab i)
+  unfolding row-pauses
+  row-none f = sym (ap (λ (b : Bool). among A (cond b (getD (tab .operands) i 0 ∷ []) [])) (ne-eqb (getD (tab .kinds) i 0) 17 f) ∙ among-none A)
+
+-- One row more of a statement.
+pub rows-none : (tab : Table) (i : ℕ) (A : Numbers) → empty ≡ among A (pauses-in tab i 0)
+unfolding pauses-in
+rows-none tab i A = sym (among-none A)
+
+pub rows-more : (tab : Table) (i n : ℕ) (A : Numbers) → union (among A (pauses-in tab i n)) (among A (row-pauses tab (i + n))) ≡ among A (pauses-in tab i (n + 1))
+unfolding pauses-in
+rows-more tab i n A = among-more A (pauses-in tab i n) (row-pauses tab (i + n)) ∙ ap (λ (x : ℕ). among A (pauses-in tab i x)) (sym (add-one n))
+
+pub rows-all : (tab : Table) (i n : ℕ) (A : Numbers) (t : Stmt) → At tab i t → n ≡ getD (tab .sizes) i 0 → among A (pauses-in tab i n) ≡ held A t
+rows-all tab i n A t a e =
+    ap (λ (x : ℕ). among A (pauses-in tab i x)) (e ∙ row t (a .has) .its-size) ∙ ap (among A) (pauses-found tab i t (a .has)) ∙ among-held A t (a .small)
+
+-- One turn of the pass: the row before i.
+pub live-step : {tab : Table} {A : Numbers} (live : List Bool) (i : ℕ) (b : Bool) → 0 < i → i ≤ 512 → length live ≡ 512 → LiveFrom tab A live i
+    → (LiveFrom tab A live (i - 1 + 1) → (t : Stmt) → At tab (i - 1) t → b ≡ active A t) → LiveFrom tab A (set live (i - 1) b) (i - 1)
+live-step {tab} {A} live i b h l e f g =
+    let back : LiveFrom tab A live (i - 1 + 1) = subst (LiveFrom tab A live) (omega arith) f in
+    live-more live (i - 1) b (omega arith) back (g back)
+
+-- Numbers of a loop that counts down, and of one that has reached its end.
+pub pred-less : (i : ℕ) → 0 < i → i - 1 < i
+pred-less i h = omega arith
+
+pub none-left : (i : ℕ) → i ≤ 0 → i ≡ 0
+none-left i h = omega arith
+
+pub both-ways : {m n : ℕ} → m ≤ n → n ≤ m → m ≡ n
+both-ways h l = omega arith

@@ -1,0 +1,335 @@
+-- The forms of a statement, started and resumed: one case for each kind. Assumes nothing.
+use mathlib.Core.Path.{_≡_, refl, sym, ap, _∙_, subst, subst₂}
+use mathlib.Core.Bool.{Bool, true, false, cond}
+use mathlib.Core.List.{List}
+use Prim.Native.Nat.{ℕ, _+_, _≤_, _<_}
+use native.Mathlib.Omega.{arith}
+use lib.Dec.{eqb}
+use lib.ListN.{getD}
+use Rattle.sets.specs.Numbers.{Numbers}
+use Rattle.rules.specs.Statements.{depth, Stmt, nothing, pause, emit, present?_then_else_, suspend_on_, _⨾_, loop, _parallel_, trap, exit, local}
+use Rattle.rules.specs.Instant.{done, stay, chain, active, held, started, resumed}
+use Rattle.block.specs.Table.{Table, kind-of, operand-of, statements, Row, Has, Small}
+use Rattle.forms.specs.declared.form.Going.{Going}
+use Rattle.forms.specs.declared.form.Going.the-variants.{Started, Resumed, Held, Idle}
+use Rattle.forms.specs.declared.form.Part.{Part}
+use Rattle.forms.specs.declared.form.Form.{Form}
+use Rattle.forms.specs.declared.form.Form.the-variants.{Done, Stay, Keep, Say, Leave, Test, Catch, Scope, Chain, Beside, Same}
+use Rattle.forms.specs.Forms.{At, Placed, Live, step-of, Does, Shows, Under, Below, Formed}
+
+-- A statement's own row.
+pub row : {tab : Table} {i : ℕ} (t : Stmt) → Has tab i t → Row tab i t
+unfolding Has
+row nothing h = h
+row (pause n) h = h
+row (emit s) h = h
+row (present? s then p else q) h = h .0
+row (suspend p on s) h = h .0
+row (p ⨾ q) h = h .0
+row (loop p) h = h .0
+row (p parallel q) h = h .0
+row (trap p) h = h .0
+row (exit d) h = h
+row (local s p) h = h .0
+
+pub statements-pos : (t : Stmt) → 1 ≤ statements t
+unfolding statements
+statements-pos nothing = omega arith
+statements-pos (pause n) = omega arith
+statements-pos (emit s) = omega arith
+statements-pos (present? s then p else q) = omega arith
+statements-pos (suspend p on s) = omega arith
+statements-pos (p ⨾ q) = omega arith
+statements-pos (loop p) = omega arith
+statements-pos (p parallel q) = omega arith
+statements-pos (trap p) = omega arith
+statements-pos (exit d) = omega arith
+statements-pos (local s p) = omega arith
+
+-- Every statement has one of the eleven kinds.
+pub some-kind : (t : Stmt) → (kind-of t ≡ 16 → ⊥) → (kind-of t ≡ 17 → ⊥) → (kind-of t ≡ 18 → ⊥) → (kind-of t ≡ 19 → ⊥) → (kind-of t ≡ 20 → ⊥) → (kind-of t ≡ 21 → ⊥) → (kind-of t ≡ 22 → ⊥) → (kind-of t ≡ 23 → ⊥) → (kind-of t ≡ 24 → ⊥) → (kind-of t ≡ 25 → ⊥) → (kind-of t ≡ 26 → ⊥) → ⊥
+unfolding kind-of
+some-kind nothing f0 f1 f2 f3 f4 f5 f6 f7 f8 f9 f10 = f0 refl
+some-kind (pause n) f0 f1 f2 f3 f4 f5 f6 f7 f8 f9 f10 = f1 refl
+some-kind (emit s) f0 f1 f2 f3 f4 f5 f6 f7 f8 f9 f10 = f2 refl
+some-kind (present? s then p else q) f0 f1 f2 f3 f4 f5 f6 f7 f8 f9 f10 = f3 refl
+some-kind (suspend p on s) f0 f1 f2 f3 f4 f5 f6 f7 f8 f9 f10 = f4 refl
+some-kind (p ⨾ q) f0 f1 f2 f3 f4 f5 f6 f7 f8 f9 f10 = f5 refl
+some-kind (loop p) f0 f1 f2 f3 f4 f5 f6 f7 f8 f9 f10 = f6 refl
+some-kind (p parallel q) f0 f1 f2 f3 f4 f5 f6 f7 f8 f9 f10 = f7 refl
+some-kind (trap p) f0 f1 f2 f3 f4 f5 f6 f7 f8 f9 f10 = f8 refl
+some-kind (exit d) f0 f1 f2 f3 f4 f5 f6 f7 f8 f9 f10 = f9 refl
+some-kind (local s p) f0 f1 f2 f3 f4 f5 f6 f7 f8 f9 f10 = f10 refl
+
+pub in-table : {tab : Table} {i : ℕ} → Placed tab i → i < 512
+in-table {i = i} h = omega (arith, h .there .room, statements-pos (h .tree))
+
+-- A child: it stands at j and is smaller than the statement at i.
+pub record Kid (tab : Table) (i j : ℕ) (t : Stmt) : Type 0 where
+  pub there : At tab j t
+  pub smaller : getD (tab .sizes) j 0 < getD (tab .sizes) i 0
+  pub after : i < j
+
+pub kid-under : {tab : Table} {i j : ℕ} {t : Stmt} (g : Going) → Kid tab i j t → Under tab i (record { at = j; going = g })
+kid-under {t = t} g k = record { placed = record { tree = t; there = k .there }; smaller = k .smaller }
+
+pub kid-does : {tab : Table} (A : Numbers) {i j : ℕ} {t : Stmt} (g : Going) → Kid tab i j t → Does tab A (record { at = j; going = g }) (step-of g A t)
+kid-does A {t = t} g k = record { tree = t; there = k .there; its-step = refl }
+
+-- The second child's place, as the code finds it.
+abbrev pub Second : Table → ℕ → ℕ → Type 0
+Second tab i n = i + 1 < 512 → n ≡ i + 1 + getD (tab .sizes) (i + 1) 0
+
+first-kid : {tab : Table} {i : ℕ} (m : ℕ) (p : Stmt) → getD (tab .sizes) i 0 ≡ m → statements p < m → i + m ≤ 512 → Has tab (i + 1) p → Small p → Kid tab i (i + 1) p
+first-kid {tab} {i} m p e l h k s = record {
+  there = record { has = k; small = s; room = omega arith };
+  smaller = omega (arith, row p k .its-size);
+  after = omega arith;
+}
+
+second-kid : {tab : Table} {i n : ℕ} (m : ℕ) (p q : Stmt) → Second tab i n → getD (tab .sizes) i 0 ≡ m → m ≡ 1 + statements p + statements q → i + m ≤ 512
+    → Has tab (i + 1) p → Has tab (i + 1 + statements p) q → Small q → Kid tab i n q
+second-kid {tab} {i} {n} m p q f e l h k g s =
+    subst (λ (j : ℕ). Kid tab i j q) (sym place) (record {
+      there = record { has = g; small = s; room = omega arith };
+      smaller = omega (arith, row q g .its-size);
+      after = omega arith;
+    })
+  where
+    place : n ≡ i + 1 + statements p
+    place = f (omega (arith, statements-pos p)) ∙ ap (λ (x : ℕ). i + 1 + x) (row p k .its-size)
+
+-- What is known of a statement's numbers and children.
+unfoldable pub Kids : Table → ℕ → ℕ → Stmt → Type 0
+Kids tab i n nothing = Unit {0}
+Kids tab i n (pause m) = m < 128
+Kids tab i n (emit s) = s < 64
+Kids tab i n (present? s then p else q) = (s < 64) × Kid tab i (i + 1) p × Kid tab i n q
+Kids tab i n (suspend p on s) = (s < 64) × Kid tab i (i + 1) p
+Kids tab i n (p ⨾ q) = Kid tab i (i + 1) p × Kid tab i n q
+Kids tab i n (loop p) = Kid tab i (i + 1) p
+Kids tab i n (p parallel q) = Kid tab i (i + 1) p × Kid tab i n q
+Kids tab i n (trap p) = Kid tab i (i + 1) p
+Kids tab i n (exit (depth d)) = d < 16
+Kids tab i n (local s p) = (s < 64) × Kid tab i (i + 1) p
+
+pub kids : {tab : Table} {i n : ℕ} → Second tab i n → (t : Stmt) → At tab i t → Kids tab i n t
+unfolding Kids Has Small statements
+kids f nothing h = tt
+kids f (pause m) h = h .small
+kids f (emit s) h = h .small
+kids f (present? s then p else q) h =
+    (h .small .0, first-kid (1 + statements p + statements q) p (h .has .0 .its-size) (omega (arith, statements-pos q)) (h .room) (h .has .1) (h .small .1), second-kid (1 + statements p + statements q) p q f (h .has .0 .its-size) refl (h .room) (h .has .1) (h .has .2) (h .small .2))
+kids f (suspend p on s) h = (h .small .0, first-kid (1 + statements p) p (h .has .0 .its-size) (omega arith) (h .room) (h .has .1) (h .small .1))
+kids f (p ⨾ q) h =
+    (first-kid (1 + statements p + statements q) p (h .has .0 .its-size) (omega (arith, statements-pos q)) (h .room) (h .has .1) (h .small .0), second-kid (1 + statements p + statements q) p q f (h .has .0 .its-size) refl (h .room) (h .has .1) (h .has .2) (h .small .1))
+kids f (loop p) h = first-kid (1 + statements p) p (h .has .0 .its-size) (omega arith) (h .room) (h .has .1) (h .small)
+kids f (p parallel q) h =
+    (first-kid (1 + statements p + statements q) p (h .has .0 .its-size) (omega (arith, statements-pos q)) (h .room) (h .has .1) (h .small .0), second-kid (1 + statements p + statements q) p q f (h .has .0 .its-size) refl (h .room) (h .has .1) (h .has .2) (h .small .1))
+kids f (trap p) h = first-kid (1 + statements p) p (h .has .0 .its-size) (omega arith) (h .room) (h .has .1) (h .small)
+kids f (exit (depth d)) h = h .small
+kids f (local s p) h = (h .small .0, first-kid (1 + statements p) p (h .has .0 .its-size) (omega arith) (h .room) (h .has .1) (h .small .1))
+
+-- Started: the form by kind and operand.
+abbrev pub started-form : ℕ → ℕ → Part → Part → Form
+started-form k o p q =
+    cond (eqb k 17) (Stay o)
+    (cond (eqb k 18) (Say o)
+    (cond (eqb k 19) (Test o p q)
+    (cond (eqb k 20) (Same p)
+    (cond (eqb k 21) (Chain p q)
+    (cond (eqb k 22) (Same p)
+    (cond (eqb k 23) (Beside p q) (cond (eqb k 24) (Catch p) (cond (eqb k 25) (Leave (record { 0 = o })) (cond (eqb k 26) (Scope o p) Done)))))))))
+
+module _ (tab : Table) (i n : ℕ) where
+  abbrev pub first-part : Going → Part
+  first-part g = record { at = i + 1; going = g }
+
+  abbrev pub next-part : Going → Part
+  next-part g = record { at = n; going = g }
+
+  pub started-shows : (A : Numbers) (t : Stmt) → Kids tab i n t → Shows tab A (started-form (kind-of t) (operand-of t) (first-part Started) (next-part Started)) (started t)
+  unfolding Kids Shows kind-of operand-of started step-of
+  started-shows A nothing k = refl
+  started-shows A (pause m) k = (k, refl)
+  started-shows A (emit s) k = (k, refl)
+  started-shows A (present? s then p else q) k =
+      (k .0, record { first = started p; later = started q; made = refl; left = kid-does A Started (k .1); right = kid-does A Started (k .2) })
+  started-shows A (suspend p on s) k = kid-does A Started (k .1)
+  started-shows A (p ⨾ q) k = record { first = started p; later = started q; made = refl; left = kid-does A Started (k .0); right = kid-does A Started (k .1) }
+  started-shows A (loop p) k = kid-does A Started k
+  started-shows A (p parallel q) k = record { first = started p; later = started q; made = refl; left = kid-does A Started (k .0); right = kid-does A Started (k .1) }
+  started-shows A (trap p) k = record { inner = started p; made = refl; does = kid-does A Started k }
+  started-shows A (exit (depth d)) k = (k, refl)
+  started-shows A (local s p) k = (k .0, record { inner = started p; made = refl; does = kid-does A Started (k .1) })
+
+  pub started-below : (t : Stmt) → Kids tab i n t → Below tab i (started-form (kind-of t) (operand-of t) (first-part Started) (next-part Started))
+  unfolding Kids Below kind-of operand-of
+  started-below nothing k = tt
+  started-below (pause m) k = tt
+  started-below (emit s) k = tt
+  started-below (present? s then p else q) k = (kid-under Started (k .1), kid-under Started (k .2))
+  started-below (suspend p on s) k = kid-under Started (k .1)
+  started-below (p ⨾ q) k = (kid-under Started (k .0), kid-under Started (k .1))
+  started-below (loop p) k = kid-under Started k
+  started-below (p parallel q) k = (kid-under Started (k .0), kid-under Started (k .1))
+  started-below (trap p) k = kid-under Started k
+  started-below (exit (depth d)) k = tt
+  started-below (local s p) k = kid-under Started (k .1)
+
+  -- The code's arm for the kind k.
+  pub started-formed : Placed tab i → Second tab i n → (k : ℕ) → getD (tab .kinds) i 0 ≡ k → (live : List Bool)
+      → Formed tab live (record { at = i; going = Started }) (started-form k (getD (tab .operands) i 0) (first-part Started) (next-part Started))
+  unfolding step-of
+  started-formed pl f k e live = record {
+    below = subst₂ (λ (x y : ℕ). Below tab i (started-form x y (first-part Started) (next-part Started)))
+        (sym (row (pl .tree) (pl .there .has) .its-kind) ∙ e) (sym (row (pl .tree) (pl .there .has) .its-operand)) (started-below (pl .tree) (kids f (pl .tree) (pl .there)));
+    shows = λ A l p d.
+        subst (Shows tab A (started-form k (getD (tab .operands) i 0) (first-part Started) (next-part Started))) (sym (d .its-step))
+        (subst₂ (λ (x y : ℕ). Shows tab A (started-form x y (first-part Started) (next-part Started)) (started (d .tree)))
+        (sym (row (d .tree) (d .there .has) .its-kind) ∙ e) (sym (row (d .tree) (d .there .has) .its-operand)) (started-shows A (d .tree) (kids f (d .tree) (d .there))));
+  }
+
+-- Resumed.
+abbrev pub arm-part : Bool → ℕ → Part
+arm-part b j = record { at = j; going = cond b Resumed Idle }
+
+abbrev pub resumed-form : ℕ → ℕ → ℕ → ℕ → Bool → Bool → Form
+resumed-form k o i n lp lq =
+    cond (eqb k 19) (Same (cond lp (record { at = i + 1; going = Resumed }) (record { at = n; going = Resumed })))
+    (cond (eqb k 20) (Test o (record { at = i + 1; going = Held }) (record { at = i + 1; going = Resumed }))
+    (cond (eqb k 21) (cond lp (Chain (record { at = i + 1; going = Resumed }) (record { at = n; going = Started })) (Same (record { at = n; going = Resumed })))
+    (cond (eqb k 22) (Chain (record { at = i + 1; going = Resumed }) (record { at = i + 1; going = Started }))
+    (cond (eqb k 23) (Beside (arm-part lp (i + 1)) (arm-part lq n))
+    (cond (eqb k 24) (Catch (record { at = i + 1; going = Resumed })) (cond (eqb k 26) (Scope o (record { at = i + 1; going = Resumed })) Done))))))
+
+-- What the code's two flags say of the children.
+pub record Flags (tab : Table) (A : Numbers) (i n : ℕ) (lp lq : Bool) : Type 0 where
+  pub on-first : (p : Stmt) → At tab (i + 1) p → lp ≡ active A p
+  pub on-next : (q : Stmt) → i < n → At tab n q → lq ≡ active A q
+
+module _ (tab : Table) (i n : ℕ) where
+  either-does : (A : Numbers) (b : Bool) {p q : Stmt} → Kid tab i (i + 1) p → Kid tab i n q
+      → Does tab A (cond b (record { at = i + 1; going = Resumed }) (record { at = n; going = Resumed })) (cond b (resumed A p) (resumed A q))
+  unfolding step-of
+  either-does A true k l = kid-does A Resumed k
+  either-does A false k l = kid-does A Resumed l
+
+  either-chain : (A : Numbers) (b : Bool) (p q : Stmt) → Kid tab i (i + 1) p → Kid tab i n q
+      → Shows tab A (cond b (Chain (record { at = i + 1; going = Resumed }) (record { at = n; going = Started })) (Same (record { at = n; going = Resumed })))
+      (cond b (chain (resumed A p) (started q)) (resumed A q))
+  unfolding Shows step-of
+  either-chain A true p q k l = record { first = resumed A p; later = started q; made = refl; left = kid-does A Resumed k; right = kid-does A Started l }
+  either-chain A false p q k l = kid-does A Resumed l
+
+  arm-does : (A : Numbers) (b : Bool) {j : ℕ} {p : Stmt} → Kid tab i j p → Does tab A (arm-part b j) (cond b (resumed A p) done)
+  unfolding step-of
+  arm-does A true k = kid-does A Resumed k
+  arm-does A false k = kid-does A Idle k
+
+  pub resumed-shows : (A : Numbers) (lp lq : Bool) → Flags tab A i n lp lq → (t : Stmt) → Kids tab i n t → Shows tab A (resumed-form (kind-of t) (operand-of t) i n lp lq) (resumed A t)
+  unfolding Kids Shows kind-of operand-of resumed step-of
+  resumed-shows A lp lq f nothing k = refl
+  resumed-shows A lp lq f (pause m) k = refl
+  resumed-shows A lp lq f (emit s) k = refl
+  resumed-shows A lp lq f (present? s then p else q) k =
+      subst (λ (b : Bool). Does tab A (cond lp (record { at = i + 1; going = Resumed }) (record { at = n; going = Resumed })) (cond b (resumed A p) (resumed A q)))
+      (f .on-first p (k .1 .there)) (either-does A lp (k .1) (k .2))
+  resumed-shows A lp lq f (suspend p on s) k =
+      (k .0, record { first = stay (held A p); later = resumed A p; made = refl; left = kid-does A Held (k .1); right = kid-does A Resumed (k .1) })
+  resumed-shows A lp lq f (p ⨾ q) k =
+      subst (λ (b : Bool). Shows tab A (resumed-form 21 0 i n lp lq) (cond b (chain (resumed A p) (started q)) (resumed A q)))
+      (f .on-first p (k .0 .there)) (either-chain A lp p q (k .0) (k .1))
+  resumed-shows A lp lq f (loop p) k = record { first = resumed A p; later = started p; made = refl; left = kid-does A Resumed k; right = kid-does A Started k }
+  resumed-shows A lp lq f (p parallel q) k = record {
+    first = cond (active A p) (resumed A p) done;
+    later = cond (active A q) (resumed A q) done;
+    made = refl;
+    left = subst (λ (b : Bool). Does tab A (arm-part lp (i + 1)) (cond b (resumed A p) done)) (f .on-first p (k .0 .there)) (arm-does A lp (k .0));
+    right = subst (λ (b : Bool). Does tab A (arm-part lq n) (cond b (resumed A q) done)) (f .on-next q (k .1 .after) (k .1 .there)) (arm-does A lq (k .1));
+  }
+  resumed-shows A lp lq f (trap p) k = record { inner = resumed A p; made = refl; does = kid-does A Resumed k }
+  resumed-shows A lp lq f (exit (depth d)) k = refl
+  resumed-shows A lp lq f (local s p) k = (k .0, record { inner = resumed A p; made = refl; does = kid-does A Resumed (k .1) })
+
+  either-under : (b : Bool) {p q : Stmt} → Kid tab i (i + 1) p → Kid tab i n q → Under tab i (cond b (record { at = i + 1; going = Resumed }) (record { at = n; going = Resumed }))
+  either-under true k l = kid-under Resumed k
+  either-under false k l = kid-under Resumed l
+
+  chain-below : (b : Bool) {p q : Stmt} → Kid tab i (i + 1) p → Kid tab i n q
+      → Below tab i (cond b (Chain (record { at = i + 1; going = Resumed }) (record { at = n; going = Started })) (Same (record { at = n; going = Resumed })))
+  unfolding Below
+  chain-below true k l = (kid-under Resumed k, kid-under Started l)
+  chain-below false k l = kid-under Resumed l
+
+  pub resumed-below : (lp lq : Bool) (t : Stmt) → Kids tab i n t → Below tab i (resumed-form (kind-of t) (operand-of t) i n lp lq)
+  unfolding Kids Below kind-of operand-of
+  resumed-below lp lq nothing k = tt
+  resumed-below lp lq (pause m) k = tt
+  resumed-below lp lq (emit s) k = tt
+  resumed-below lp lq (present? s then p else q) k = either-under lp (k .1) (k .2)
+  resumed-below lp lq (suspend p on s) k = (kid-under Held (k .1), kid-under Resumed (k .1))
+  resumed-below lp lq (p ⨾ q) k = chain-below lp (k .0) (k .1)
+  resumed-below lp lq (loop p) k = (kid-under Resumed k, kid-under Started k)
+  resumed-below lp lq (p parallel q) k = (kid-under (cond lp Resumed Idle) (k .0), kid-under (cond lq Resumed Idle) (k .1))
+  resumed-below lp lq (trap p) k = kid-under Resumed k
+  resumed-below lp lq (exit (depth d)) k = tt
+  resumed-below lp lq (local s p) k = kid-under Resumed (k .1)
+
+  pub resumed-formed : Placed tab i → Second tab i n → (live : List Bool) (lp lq : Bool) → (i + 1 < 512 → lp ≡ getD live (i + 1) false) → (n < 512 → lq ≡ getD live n false) → (k : ℕ) → getD (tab .kinds) i 0 ≡ k
+      → Formed tab live (record { at = i; going = Resumed }) (resumed-form k (getD (tab .operands) i 0) i n lp lq)
+  unfolding step-of
+  resumed-formed pl f live lp lq g h k e = record {
+    below = subst₂ (λ (x y : ℕ). Below tab i (resumed-form x y i n lp lq))
+        (sym (row (pl .tree) (pl .there .has) .its-kind) ∙ e) (sym (row (pl .tree) (pl .there .has) .its-operand)) (resumed-below lp lq (pl .tree) (kids f (pl .tree) (pl .there)));
+    shows = λ A l p d.
+        subst (Shows tab A (resumed-form k (getD (tab .operands) i 0) i n lp lq)) (sym (d .its-step))
+        (subst₂ (λ (x y : ℕ). Shows tab A (resumed-form x y i n lp lq) (resumed A (d .tree)))
+        (sym (row (d .tree) (d .there .has) .its-kind) ∙ e) (sym (row (d .tree) (d .there .has) .its-operand)) (resumed-shows A lp lq (flags A l) (d .tree) (kids f (d .tree) (d .there))));
+  }
+    where
+      flags : (A : Numbers) → Live tab A live → Flags tab A i n lp lq
+      flags A l = record {
+        on-first = λ p a. g (in-table (record { tree = p; there = a })) ∙ l .says (i + 1) p a;
+        on-next = λ q b a. h (in-table (record { tree = q; there = a })) ∙ l .says n q a;
+      }
+
+-- The kinds that have nothing to do when resumed.
+pub resumed-done : (A : Numbers) (t : Stmt) → (kind-of t ≡ 19 → ⊥) → (kind-of t ≡ 20 → ⊥) → (kind-of t ≡ 21 → ⊥) → (kind-of t ≡ 22 → ⊥) → (kind-of t ≡ 23 → ⊥) → (kind-of t ≡ 24 → ⊥) → (kind-of t ≡ 26 → ⊥) → resumed A t ≡ done
+unfolding resumed kind-of
+resumed-done A nothing a b c d e f g = refl
+resumed-done A (pause m) a b c d e f g = refl
+resumed-done A (emit s) a b c d e f g = refl
+resumed-done A (present? s then p else q) a b c d e f g = absurd (a refl)
+resumed-done A (suspend p on s) a b c d e f g = absurd (b refl)
+resumed-done A (p ⨾ q) a b c d e f g = absurd (c refl)
+resumed-done A (loop p) a b c d e f g = absurd (d refl)
+resumed-done A (p parallel q) a b c d e f g = absurd (e refl)
+resumed-done A (trap p) a b c d e f g = absurd (f refl)
+resumed-done A (exit x) a b c d e f g = refl
+resumed-done A (local s p) a b c d e f g = absurd (g refl)
+
+pub done-formed : {tab : Table} {live : List Bool} {c : Part} → ((A : Numbers) (t : Stmt) → At tab (c .at) t → step-of (c .going) A t ≡ done) → Formed tab live c Done
+unfolding Below Shows
+done-formed f = record { below = tt; shows = λ A l p d. d .its-step ∙ f A (d .tree) (d .there) }
+
+pub idle-formed : {tab : Table} {live : List Bool} (c : Part) → c .going ≡ Idle → Formed tab live c Done
+unfolding step-of
+idle-formed c e = done-formed (λ A t h. ap (λ (g : Going). step-of g A t) e)
+
+pub going-formed : {tab : Table} {live : List Bool} (c : Part) (g : Going) (f : Form) → c .going ≡ g → Formed tab live (record { at = c .at; going = g }) f → Formed tab live c f
+going-formed {tab} {live} c g f e h = subst (λ (x : Going). Formed tab live (record { at = c .at; going = x }) f) (sym e) h
+
+pub keep-formed : {tab : Table} {live : List Bool} (c : Part) → Placed tab (c .at) → c .going ≡ Held → Formed tab live c (Keep (c .at))
+unfolding Below Shows step-of
+keep-formed c pl e = record {
+  below = pl;
+  shows = λ A l p d. record { tree = d .tree; there = d .there; made = d .its-step ∙ ap (λ (g : Going). step-of g A (d .tree)) e };
+}
+
+pub formed : {tab : Table} {live : List Bool} {c : Part} {f g : Form} → Formed tab live c f → f ≡ g → Formed tab live c g
+formed {tab} {live} {c} h e = subst (Formed tab live c) e h
+
+-- A call on a part: the part is placed, and smaller.
+pub call-part : {tab : Table} {i t : ℕ} {p : Part} → Under tab i p → getD (tab .sizes) i 0 ≡ t → (getD (tab .sizes) (p .at) 0 < t) × Placed tab (p .at)
+call-part u e = (omega (arith, u .smaller), u .placed)

@@ -1,0 +1,52 @@
+-- `forms::form::form_of` meets its contract: by how the part is taken.
+-- Assumes nothing.
+use Rattle.forms.proofs.FormLaws.{idle-formed, keep-formed, going-formed}
+use Rattle.forms.specs.declared.form.Going.the-variants.{Started, Resumed}
+use borrow.Author.Needs.{needs}
+use Rattle.forms.proofs.form.form_of.Statement.{statement}
+use Rattle.forms.proofs.form.form_of.Tie as tie
+
+enum-told : tie.Need-enum-told
+enum-told c = search needs
+
+started-form-requires : tie.Need-started-form-requires
+started-form-requires c κs = search needs
+
+enum-told-2 : tie.Need-enum-told-2
+enum-told-2 c = search needs
+
+resumed-form-requires : tie.Need-resumed-form-requires
+resumed-form-requires c κs = search needs
+
+enum-told-3 : tie.Need-enum-told-3
+enum-told-3 c = search needs
+
+enum-told-4 : tie.Need-enum-told-4
+enum-told-4 c = search needs
+
+returns : tie.Need-returns
+returns c = going-formed (c .before .before .before .args .part) Started (c .started-form .result) (c .before .enum-told .given .1) (c .started-form .ensures (c .before .before .before .args .live .now))
+
+returns-2 : tie.Need-returns-2
+returns-2 c = going-formed (c .before .before .before .args .part) Resumed (c .resumed-form .result) (c .before .enum-told2 .given .1) (c .resumed-form .ensures)
+
+returns-3 : tie.Need-returns-3
+returns-3 c = keep-formed (c .before .before .args .part) (c .before .before .pre) (c .enum-told3 .given .1)
+
+returns-4 : tie.Need-returns-4
+returns-4 c = idle-formed (c .before .before .args .part) (c .enum-told4 .given .1)
+
+pub form-of-spec : {M : Type 1} → statement M
+form-of-spec =
+    tie.close
+    (tie.spec
+    enum-told
+    started-form-requires
+    enum-told-2
+    resumed-form-requires
+    enum-told-3
+    enum-told-4
+    returns
+    returns-2
+    returns-3
+    returns-4)

@@ -1,0 +1,117 @@
+// The active pauses over the table: which statements hold one, and those that a suspended body holds.
+use crate::form::live_at;
+use crate::form::second;
+use block::kinds::wide;
+use words::pauses::has_pause;
+use words::pauses::joined;
+use words::pauses::no_pause;
+use words::pauses::one_pause;
+ghost use mathlib.Core.Path.{_≡_};
+ghost use mathlib.Core.Bool.{_||_};
+ghost use mathlib.Core.List.{List, [], _∷_};
+ghost use Prim.Native.Nat.{ℕ, _+_, _<_};
+ghost use Rattle.sets.specs.Words.{set-of};
+ghost use Rattle.rules.specs.Statements.{Stmt};
+ghost use Rattle.rules.specs.Instant.{active, held};
+ghost use Rattle.forms.specs.Forms.{table, At, Placed, Live, LiveFrom, row-pauses, among};
+
+fn or(a: bool, b: bool) -> bool
+    ensures { λ r. ⌜ r ≡ (a || b) ⌝ }
+{
+    if a { true } else { b }
+}
+
+// Whether the statement at a place holds an active pause, where that is known of all later ones.
+fn holds_active(
+    kinds: &[u16; 512],
+    operands: &[u16; 512],
+    sizes: &[u16; 512],
+    live: &[bool; 512],
+    set: [u64; 2],
+    at: usize,
+) -> bool
+    requires { ⌜ at < 512 ⌝ }
+    ensures { λ r. ⌜ (LiveFrom (table (now (kinds .entry)) (now (operands .entry)) (now (sizes .entry))) (set-of set) (now (live .entry)) (at + 1) → (t : Stmt) → At (table (now (kinds .entry)) (now (operands .entry)) (now (sizes .entry))) at t → r ≡ active (set-of set) t) ⌝ }
+{
+    let kind = kinds[at];
+    let first = live_at(live, at + 1);
+    match kind {
+        16 => false,
+        17 => has_pause(set, operands[at]),
+        18 => false,
+        19 => or(first, live_at(live, second(sizes, at))),
+        20 => first,
+        21 => or(first, live_at(live, second(sizes, at))),
+        22 => first,
+        23 => or(first, live_at(live, second(sizes, at))),
+        24 => first,
+        25 => false,
+        26 => first,
+        _ => false,
+    }
+}
+
+// Which statements hold an active pause: from the last row to the first, so that a statement's children are done before it.
+pub fn actives(
+    kinds: &[u16; 512],
+    operands: &[u16; 512],
+    sizes: &[u16; 512],
+    set: [u64; 2],
+) -> [bool; 512]
+    ensures { λ r. ⌜ Live (table (now (kinds .entry)) (now (operands .entry)) (now (sizes .entry))) (set-of set) r ⌝ }
+{
+    let mut live = [false; 512];
+    let mut i = 512;
+    while 0 < i {
+        i -= 1;
+        let b = holds_active(kinds, operands, sizes, &live, set, i);
+        live[i] = b;
+    }
+    live
+}
+
+// A pause, if it is active.
+fn held_one(set: [u64; 2], n: u16) -> [u64; 2]
+    ensures { λ r. ⌜ set-of r ≡ among (set-of set) (n ∷ []) ⌝ }
+{
+    if has_pause(set, n) {
+        one_pause(n)
+    } else {
+        no_pause()
+    }
+}
+
+// A row's pause, if it is one and is active.
+fn held_row(kinds: &[u16; 512], operands: &[u16; 512], set: [u64; 2], at: usize) -> [u64; 2]
+    requires { ⌜ at < 512 ⌝ }
+    ensures { λ r. ⌜ ((sizes : List ℕ) → set-of r ≡ among (set-of set) (row-pauses (table (now (kinds .entry)) (now (operands .entry)) sizes) at)) ⌝ }
+{
+    if kinds[at] == 17 {
+        held_one(set, operands[at])
+    } else {
+        no_pause()
+    }
+}
+
+// The active pauses that the statement at a place holds.
+pub fn held_pauses(
+    kinds: &[u16; 512],
+    operands: &[u16; 512],
+    sizes: &[u16; 512],
+    set: [u64; 2],
+    at: usize,
+) -> [u64; 2]
+    requires { ⌜ Placed (table (now kinds) (now operands) (now sizes)) at ⌝ }
+    ensures { λ r. ⌜ ((t : Stmt) → At (table (now (kinds .entry)) (now (operands .entry)) (now (sizes .entry))) at t → set-of r ≡ held (set-of set) t) ⌝ }
+{
+    let size = wide(sizes[at]);
+    let mut kept = no_pause();
+    let mut n = 0;
+    while n < size {
+        let row = held_row(kinds, operands, set, at + n);
+        let more = joined(kept, row);
+        kept = more;
+        n += 1;
+    }
+    kept
+}

@@ -1,0 +1,166 @@
+// Must and can of a statement at an event, in one walk.
+use block::kinds::Code;
+use block::kinds::code_of;
+use forms::form::Form;
+use forms::form::Part;
+use forms::form::form_of;
+use words::events::Heard;
+use words::events::Seen;
+use words::events::heard_with;
+use words::events::status_at;
+use words::events::still_unknown;
+use words::given::Mark;
+use words::given::MustCan;
+use words::given::Told;
+use words::given::both_told;
+use words::given::caught_told;
+use words::given::either_told;
+use words::given::followed_told;
+use words::given::goes_on;
+use words::given::hidden_told;
+use words::given::mark_onward;
+use words::given::nothing_told;
+use words::given::saying;
+use words::given::settled_for;
+use words::given::silent;
+ghost use mathlib.Core.Path.{_≡_};
+ghost use Prim.Native.Nat.{_<_};
+ghost use Rattle.words.specs.Words.{mark-of};
+ghost use Rattle.forms.specs.Forms.{table, Placed};
+ghost use Rattle.walk.specs.Walks.{Caught, Beside, Followed, Hidden, Doubted, Walked};
+
+// What is known to be given: must and can agree.
+fn sure(a: Told) -> MustCan
+    ensures { λ r. ⌜ (r .must ≡ a) × (r .can ≡ a) ⌝ }
+{
+    MustCan { must: a, can: a }
+}
+
+// A status that is not known: must is empty with no code, can is the union.
+fn doubted(p: Told, q: Told) -> MustCan
+    ensures { λ r. ⌜ Doubted r p q ⌝ }
+{
+    let must = nothing_told();
+    let can = either_told(p, q);
+    MustCan { must, can }
+}
+
+fn caught(a: MustCan) -> MustCan
+    ensures { λ r. ⌜ Caught r a ⌝ }
+{
+    let must = caught_told(a.must);
+    let can = caught_told(a.can);
+    MustCan { must, can }
+}
+
+fn beside(a: MustCan, b: MustCan) -> MustCan
+    ensures { λ r. ⌜ Beside r a b ⌝ }
+{
+    let must = both_told(a.must, b.must);
+    let can = both_told(a.can, b.can);
+    MustCan { must, can }
+}
+
+fn followed(a: MustCan, m: Told, c: Told) -> MustCan
+    ensures { λ r. ⌜ Followed r a m c ⌝ }
+{
+    let must = followed_told(a.must, m);
+    let can = followed_told(a.can, c);
+    MustCan { must, can }
+}
+
+fn hidden(s: u16, a: MustCan) -> MustCan
+    ensures { λ r. ⌜ (s < 64 → Hidden r s a) ⌝ }
+{
+    let must = hidden_told(s, a.must);
+    let can = hidden_told(s, a.can);
+    MustCan { must, can }
+}
+
+// Can under a mark, and must if the mark is plus.
+pub fn must_can(
+    kinds: &[u16; 512],
+    operands: &[u16; 512],
+    sizes: &[u16; 512],
+    live: &[bool; 512],
+    mark: Mark,
+    part: Part,
+    e: Heard,
+) -> MustCan
+    requires { ⌜ Placed (table (now kinds) (now operands) (now sizes)) (part .at) ⌝ }
+    ensures { λ r. ⌜ Walked (mark-of mark) (table (now (kinds .entry)) (now (operands .entry)) (now (sizes .entry))) (now (live .entry)) (Form.Same part) e r ⌝ }
+{
+    let form = form_of(kinds, operands, sizes, live, part);
+    match form {
+        Form::Done => sure(silent(Code(0))),
+        Form::Stay(_) => sure(silent(Code(1))),
+        Form::Keep(_) => sure(silent(Code(1))),
+        Form::Say(s) => sure(saying(s)),
+        Form::Leave(d) => sure(silent(code_of(d))),
+        Form::Test(s, p, q) => match status_at(e, s) {
+            Seen::Present => must_can(kinds, operands, sizes, live, mark, p, e),
+            Seen::Absent => must_can(kinds, operands, sizes, live, mark, q, e),
+            Seen::Unknown => {
+                let a = must_can(kinds, operands, sizes, live, Mark::Open, p, e);
+                let b = must_can(kinds, operands, sizes, live, Mark::Open, q, e);
+                doubted(a.can, b.can)
+            }
+        },
+        Form::Catch(p) => caught(must_can(kinds, operands, sizes, live, mark, p, e)),
+        Form::Scope(s, p) => must_can_local(kinds, operands, sizes, live, mark, s, p, e),
+        Form::Chain(p, q) => must_can_chain(kinds, operands, sizes, live, mark, p, q, e),
+        Form::Beside(p, q) => {
+            let a = must_can(kinds, operands, sizes, live, mark, p, e);
+            beside(a, must_can(kinds, operands, sizes, live, mark, q, e))
+        }
+        Form::Same(p) => must_can(kinds, operands, sizes, live, mark, p, e),
+    }
+}
+
+// A local: its body under its own mark with the signal unknown, and once more unless that is the answer.
+fn must_can_local(
+    kinds: &[u16; 512],
+    operands: &[u16; 512],
+    sizes: &[u16; 512],
+    live: &[bool; 512],
+    mark: Mark,
+    s: u16,
+    p: Part,
+    e: Heard,
+) -> MustCan
+    requires { ⌜ Placed (table (now kinds) (now operands) (now sizes)) (p .at) ⌝ }
+    ensures { λ r. ⌜ Walked (mark-of mark) (table (now (kinds .entry)) (now (operands .entry)) (now (sizes .entry))) (now (live .entry)) (Form.Scope s p) e r ⌝ }
+{
+    let doubt = heard_with(e, s, Seen::Unknown);
+    let a = must_can(kinds, operands, sizes, live, mark, p, doubt);
+    let v = settled_for(mark, s, a);
+    if still_unknown(v) {
+        return hidden(s, a);
+    }
+    let known = heard_with(e, s, v);
+    hidden(s, must_can(kinds, operands, sizes, live, mark, p, known))
+}
+
+// A sequence: the second part is asked under plus only if the first must give 0, and not at all if the first cannot.
+fn must_can_chain(
+    kinds: &[u16; 512],
+    operands: &[u16; 512],
+    sizes: &[u16; 512],
+    live: &[bool; 512],
+    mark: Mark,
+    p: Part,
+    q: Part,
+    e: Heard,
+) -> MustCan
+    requires { ⌜ Placed (table (now kinds) (now operands) (now sizes)) (p .at) × Placed (table (now kinds) (now operands) (now sizes)) (q .at) ⌝ }
+    ensures { λ r. ⌜ Walked (mark-of mark) (table (now (kinds .entry)) (now (operands .entry)) (now (sizes .entry))) (now (live .entry)) (Form.Chain p q) e r ⌝ }
+{
+    let a = must_can(kinds, operands, sizes, live, mark, p, e);
+    let onward = mark_onward(mark, a.must.codes);
+    if goes_on(onward, a.can.codes) {
+        let b = must_can(kinds, operands, sizes, live, onward, q, e);
+        return followed(a, b.must, b.can);
+    }
+    let nothing = nothing_told();
+    followed(a, nothing, nothing)
+}
