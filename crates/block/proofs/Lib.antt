@@ -17,3 +17,4 @@ pub mod GoodReadings
 pub mod Offsets
 pub mod Ends
 pub mod Answered
+pub mod Rows

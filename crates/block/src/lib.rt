@@ -2,7 +2,7 @@
 pub mod codes;
 mod faults;
 pub mod kinds;
-mod loops;
+pub mod loops;
 pub mod reader;
 mod records;
 mod steps;

@@ -22,7 +22,7 @@ fn word_at(codes: &[u32; 512], at: usize) -> u32
 }
 
 // The second child's number, after the first child and all below it.
-fn second_at(sizes: &[u16; 512], at: usize) -> usize
+pub fn second_at(sizes: &[u16; 512], at: usize) -> usize
     requires { ⌜ at < 512 ⌝ }
     ensures { λ r. ⌜ (at + 1 < 512 → r ≡ at + 1 + getD (now (sizes .entry)) (at + 1) 0) × (512 ≤ at + 1 → r ≡ at + 1) ⌝ }
 {

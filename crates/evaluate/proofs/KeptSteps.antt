@@ -17,7 +17,7 @@ use Rattle.words.specs.declared.events.Heard.{Heard}
 use Rattle.words.specs.declared.given.MustCan.{MustCan}
 use Rattle.block.specs.declared.kinds.Depth.{Depth}
 use Rattle.words.specs.declared.pauses.Kept.{Kept}
-use Rattle.forms.specs.declared.form.Part.{Part}
+use Rattle.forms.specs.declared.form.Task.{Task}
 use Rattle.forms.specs.declared.form.Form.{Form}
 use Rattle.forms.specs.declared.form.Form.the-variants.{Done, Stay, Keep, Say, Leave, Test, Catch, Scope, Chain, Beside, Same}
 use Rattle.words.specs.Words.{event-of, given-of, KeptWith}
@@ -29,7 +29,7 @@ same-kept : {r : Kept} {E : Event} {p q : Step} → p ≡ q → KeptAs r q E →
 same-kept {r} {E} e k = subst⁻¹ (λ (y : Step). KeptAs r y E) e k
 
 module _ {A : Numbers} {tab : Table} {live : List Bool} {e : Heard} {r : Kept} where
-  pub keep-form : {c : Part} {f : Form} → Formed tab live c f → Keeping A tab live f e r → Keeping A tab live (Same c) e r
+  pub keep-form : {c : Task} {f : Form} → Formed tab live c f → Keeping A tab live f e r → Keeping A tab live (Same c) e r
   unfolding Shows
   keep-form h g = record { at = λ l p d. g .at l p (h .shows A l p d) }
 
@@ -127,44 +127,44 @@ scope-kept s p E F e w k = record {
 }
 
 module _ {A : Numbers} {tab : Table} {live : List Bool} {e : Heard} {r : Kept} where
-  pub keep-present : {s : ℕ} {p q : Part} {a : Kept} → (s < 64 → present ≡ event-of e s) → KeptWith r (bits (a .codes)) (set-of (a .pauses)) → Keeping A tab live (Same p) e a → Keeping A tab live (Test s p q) e r
+  pub keep-present : {s : ℕ} {p q : Task} {a : Kept} → (s < 64 → present ≡ event-of e s) → KeptWith r (bits (a .codes)) (set-of (a .pauses)) → Keeping A tab live (Same p) e a → Keeping A tab live (Test s p q) e r
   unfolding Shows
   keep-present {s} v w k = record {
     at = λ l p d. let t = d .1 in same-kept (t .made) (present-kept s (t .first) (t .later) (event-of e) (v (d .0)) w (k .at l (t .first) (t .left)));
   }
 
-  pub keep-absent : {s : ℕ} {p q : Part} {a : Kept} → (s < 64 → absent ≡ event-of e s) → KeptWith r (bits (a .codes)) (set-of (a .pauses)) → Keeping A tab live (Same q) e a → Keeping A tab live (Test s p q) e r
+  pub keep-absent : {s : ℕ} {p q : Task} {a : Kept} → (s < 64 → absent ≡ event-of e s) → KeptWith r (bits (a .codes)) (set-of (a .pauses)) → Keeping A tab live (Same q) e a → Keeping A tab live (Test s p q) e r
   unfolding Shows
   keep-absent {s} v w k = record {
     at = λ l p d. let t = d .1 in same-kept (t .made) (absent-kept s (t .first) (t .later) (event-of e) (v (d .0)) w (k .at l (t .later) (t .right)));
   }
 
-  pub keep-unknown : {s : ℕ} {p q : Part} → (s < 64 → unknown ≡ event-of e s) → bits (r .codes) ≡ empty → set-of (r .pauses) ≡ empty → Keeping A tab live (Test s p q) e r
+  pub keep-unknown : {s : ℕ} {p q : Task} → (s < 64 → unknown ≡ event-of e s) → bits (r .codes) ≡ empty → set-of (r .pauses) ≡ empty → Keeping A tab live (Test s p q) e r
   unfolding Shows
   keep-unknown {s} v c z = record { at = λ l p d. let t = d .1 in same-kept (t .made) (unknown-kept s (t .first) (t .later) (event-of e) (v (d .0)) c z) }
 
-  pub keep-catch : {p : Part} {a : Kept} → KeptWith r (downs (bits (a .codes))) (set-of (a .pauses)) → Keeping A tab live (Same p) e a → Keeping A tab live (Catch p) e r
+  pub keep-catch : {p : Task} {a : Kept} → KeptWith r (downs (bits (a .codes))) (set-of (a .pauses)) → Keeping A tab live (Same p) e a → Keeping A tab live (Catch p) e r
   unfolding Shows
   keep-catch w k = record { at = λ l p t. same-kept (t .made) (catch-kept (t .inner) (event-of e) w (k .at l (t .inner) (t .does))) }
 
-  pub keep-beside : {p q : Part} {a b : Kept} → KeptWith r (maxima (bits (a .codes)) (bits (b .codes))) (union (set-of (a .pauses)) (set-of (b .pauses))) → Keeping A tab live (Same p) e a → Keeping A tab live (Same q) e b
+  pub keep-beside : {p q : Task} {a b : Kept} → KeptWith r (maxima (bits (a .codes)) (bits (b .codes))) (union (set-of (a .pauses)) (set-of (b .pauses))) → Keeping A tab live (Same p) e a → Keeping A tab live (Same q) e b
       → Keeping A tab live (Beside p q) e r
   unfolding Shows
   keep-beside w j k = record {
     at = λ l p t. same-kept (t .made) (beside-kept (t .first) (t .later) (event-of e) w (j .at l (t .first) (t .left)) (k .at l (t .later) (t .right)));
   }
 
-  pub keep-chain : {p q : Part} {a b : Kept} → Chained r a b → Keeping A tab live (Same p) e a → Keeping A tab live (Same q) e b → Keeping A tab live (Chain p q) e r
+  pub keep-chain : {p q : Task} {a b : Kept} → Chained r a b → Keeping A tab live (Same p) e a → Keeping A tab live (Same q) e b → Keeping A tab live (Chain p q) e r
   unfolding Shows
   keep-chain w j k = record {
     at = λ l p t. same-kept (t .made) (chain-kept (t .first) (t .later) (event-of e) w (j .at l (t .first) (t .left)) (k .at l (t .later) (t .right)));
   }
 
-  pub keep-skip : {p q : Part} {a : Kept} (b : Kept) → Chained r a b → bits (a .codes) 0 ≡ false → Keeping A tab live (Same p) e a → Keeping A tab live (Chain p q) e r
+  pub keep-skip : {p q : Task} {a : Kept} (b : Kept) → Chained r a b → bits (a .codes) 0 ≡ false → Keeping A tab live (Same p) e a → Keeping A tab live (Chain p q) e r
   unfolding Shows
   keep-skip b w z j = record { at = λ l p t. same-kept (t .made) (skip-kept (t .first) (t .later) (event-of e) b w z (j .at l (t .first) (t .left))) }
 
-  pub keep-scope : {s : ℕ} {p : Part} {u h : Heard} {m : MustCan} {a : Kept} (v : Status) → KeptWith r (bits (a .codes)) (set-of (a .pauses)) → (s < 64 → event-of u ≡ giving (event-of e) s unknown)
+  pub keep-scope : {s : ℕ} {p : Task} {u h : Heard} {m : MustCan} {a : Kept} (v : Status) → KeptWith r (bits (a .codes)) (set-of (a .pauses)) → (s < 64 → event-of u ≡ giving (event-of e) s unknown)
       → Walked plus tab live (Same p) u m → (s < 64 → v ≡ local-status (can plus) s (given-of (m .must)) (given-of (m .can))) → (s < 64 → event-of h ≡ giving (event-of e) s v) → Keeping A tab live (Same p) h a
       → Keeping A tab live (Scope s p) e r
   unfolding Shows

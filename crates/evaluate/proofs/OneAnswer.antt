@@ -10,7 +10,7 @@ use Rattle.sets.proofs.Words.{bits-ext, bits-ext-to}
 use Rattle.rules.specs.Statements.{Block}
 use Rattle.rules.specs.Rounds.{Answer, answered, not-constructive}
 use Rattle.evaluate.specs.declared.rounds.Reacted.{Reacted}
-use Rattle.evaluate.specs.Reacts.{Answers}
+use Rattle.evaluate.specs.Reacts.{IsAnswer}
 use Rattle.words.proofs.PauseLaws.{low-pause, high-pause}
 
 -- Two answers whose fields are equal; of the two words kept, the elements are.
@@ -40,16 +40,16 @@ high-eq v w e = bits-ext go
         ∙ high-pause w (64 + n) (omega arith) ∙ ap (bits (getD w 1 0)) (omega arith)
 
 module _ (b : Block) (r s : Reacted) (h : getD (r .kept) 0 0 < 2 ^ 64) (l : getD (s .kept) 0 0 < 2 ^ 64) where
-  pub one-answer : (a : Answer) → Answers b a r → Answers b a s → SameAnswer r s
-  unfolding Answers
+  pub one-answer : (a : Answer) → IsAnswer b a r → IsAnswer b a s → SameAnswer r s
+  unfolding IsAnswer
   one-answer (answered outs c st n) f g =
       let kept = f .kept-is ∙ sym (g .kept-is) in
       record {
         same-known = f .known-is ∙ sym (g .known-is);
-        same-present = word-eq (f .stands .present-is) (g .stands .present-is);
-        same-absent = word-eq (f .stands .absent-is) (g .stands .absent-is);
-        same-undecided = f .stands .undecided-is ∙ sym (g .stands .undecided-is);
-        same-rounds = f .stands .rounds-is ∙ sym (g .stands .rounds-is);
+        same-present = word-eq (f .outputs-are .present-is) (g .outputs-are .present-is);
+        same-absent = word-eq (f .outputs-are .absent-is) (g .outputs-are .absent-is);
+        same-undecided = f .outputs-are .undecided-is ∙ sym (g .outputs-are .undecided-is);
+        same-rounds = f .outputs-are .rounds-is ∙ sym (g .outputs-are .rounds-is);
         same-code = f .code-is ∙ sym (g .code-is);
         same-low = low-eq (r .kept) (s .kept) h l kept;
         same-high = high-eq (r .kept) (s .kept) kept;
@@ -59,10 +59,10 @@ module _ (b : Block) (r s : Reacted) (h : getD (r .kept) 0 0 < 2 ^ 64) (l : getD
       let kept = f .kept-is ∙ sym (g .kept-is) in
       record {
         same-known = f .known-is ∙ sym (g .known-is);
-        same-present = word-eq (f .stands .present-is) (g .stands .present-is);
-        same-absent = word-eq (f .stands .absent-is) (g .stands .absent-is);
-        same-undecided = f .stands .undecided-is ∙ sym (g .stands .undecided-is);
-        same-rounds = f .stands .rounds-is ∙ sym (g .stands .rounds-is);
+        same-present = word-eq (f .outputs-are .present-is) (g .outputs-are .present-is);
+        same-absent = word-eq (f .outputs-are .absent-is) (g .outputs-are .absent-is);
+        same-undecided = f .outputs-are .undecided-is ∙ sym (g .outputs-are .undecided-is);
+        same-rounds = f .outputs-are .rounds-is ∙ sym (g .outputs-are .rounds-is);
         same-code = f .code-is ∙ sym (g .code-is);
         same-low = low-eq (r .kept) (s .kept) h l kept;
         same-high = high-eq (r .kept) (s .kept) kept;

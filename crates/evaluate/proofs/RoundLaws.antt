@@ -29,7 +29,7 @@ use Rattle.theorems.proofs.Reach.{round-settles}
 use Rattle.theorems.proofs.RoundsEnd.{nothing-left}
 use Rattle.words.specs.declared.events.Heard.{Heard}
 use Rattle.words.specs.declared.given.MustCan.{MustCan}
-use Rattle.forms.specs.declared.form.Part.{Part}
+use Rattle.forms.specs.declared.form.Task.{Task}
 use Rattle.forms.specs.declared.form.Form.the-variants.{Same}
 use Rattle.words.specs.declared.pauses.Kept.{Kept}
 use Rattle.evaluate.specs.declared.rounds.Ended.{Ended}
@@ -40,7 +40,7 @@ use Rattle.forms.specs.Forms.{At, Live, step-of, Does, Shows}
 use Rattle.walk.specs.Walks.{Walked}
 use Rattle.evaluate.specs.Next.{Keeping}
 use Rattle.rules.specs.Rounds.{undecided, outputs-with}
-use Rattle.evaluate.specs.Reacts.{outs-from, statuses, marks-of, Fine, Marks, Sized, Rounded, Ends, state-of, Stands, Answered, Undecided, Answers, Reacts}
+use Rattle.evaluate.specs.Reacts.{outs-from, statuses, marks-of, Fine, Marks, Sized, Rounded, Ends, state-of, OutputsAre, Answered, Undecided, IsAnswer, Reacts}
 use Rattle.words.proofs.WordLaws.{shifted, power-of}
 
 -- Masks.
@@ -258,7 +258,7 @@ same-set {m = m} {r} {a} e h = subst (λ (X : Numbers). Marks X m a r) (ext e) h
 pub fine-block : {b : Block} {i n : ℕ} {m : Heard} → Sized b i n → Fine (outs-from i n) m → Fine (outs-from (b .inputs) (b .outputs)) m
 fine-block {m = m} z f = subst₂ (λ (x y : ℕ). Fine (outs-from x y) m) (sym (z .its-inputs)) (sym (z .its-outputs)) f
 
-pub rounded-is : {tab : Table} {live : List Bool} {c : Part} (i n : ℕ) {given : Heard} {m r e : Heard} {a : MustCan} → ((b : Block) (k : ℕ) → Sized b i k → Fine (outs-from i k) m → event-of e ≡ event b (hearing-of given) (marks-of b m))
+pub rounded-is : {tab : Table} {live : List Bool} {c : Task} (i n : ℕ) {given : Heard} {m r e : Heard} {a : MustCan} → ((b : Block) (k : ℕ) → Sized b i k → Fine (outs-from i k) m → event-of e ≡ event b (hearing-of given) (marks-of b m))
     → Walked plus tab live (Same c) e a → Marks (outs-from i n) m a r → Rounded tab live c i n given m r
 unfolding rules.round given-of Shows
 rounded-is i n {given} {m} {r} {e} {a} ev w mk = record {
@@ -358,7 +358,7 @@ pub record SameEnd (b : Block) (p : Step) (G : Hearing) (f : ℕ) (outs : List S
   pub rounds-eq : rules.settle b p G f outs .rounds ≡ k + rules.settle b p G g now .rounds
 
 -- What holds after k rounds.
-pub record Progress (tab : Table) (live : List Bool) (c : Part) (i n : ℕ) (given : Heard) (m : Heard) (k : ℕ) : Type 0 where
+pub record Progress (tab : Table) (live : List Bool) (c : Task) (i n : ℕ) (given : Heard) (m : Heard) (k : ℕ) : Type 0 where
   pub fine : Fine (outs-from i n) m
   pub goes : (A : Numbers) → Live tab A live → (p : Step) → Does tab A c p → (b : Block) → Sized b i n → SameEnd b p (hearing-of given) (suc n) (rules.begin b) (suc n - k) (marks-of b m) k
   pub reached : (A : Numbers) → Live tab A live → (p : Step) → Does tab A c p → (b : Block) → Sized b i n → Reached b p (hearing-of given) (marks-of b m)
@@ -378,7 +378,7 @@ begins b = none-marked (b .inputs) (b .outputs)
 all-left : (n : ℕ) → suc n ≡ suc n - 0
 all-left n = omega arith
 
-pub progress-none : {tab : Table} {live : List Bool} {c : Part} (i n : ℕ) {given : Heard} → Progress tab live c i n given (record { present = 0; absent = 0 }) 0
+pub progress-none : {tab : Table} {live : List Bool} {c : Task} (i n : ℕ) {given : Heard} → Progress tab live c i n given (record { present = 0; absent = 0 }) 0
 progress-none i n {given} = record {
   fine = record {
     in-present = λ k. bits-zero k ∙ sym (ap (λ (x : Bool). outs-from i n k && x) (bits-zero k) ∙ and-false (outs-from i n k));
@@ -393,7 +393,7 @@ progress-none i n {given} = record {
 }
 
 -- The next round is the last where it changes nothing, and so where no output is undecided.
-module _ {tab : Table} {live : List Bool} {c : Part} {i n : ℕ} {given : Heard} {m : Heard} {k : ℕ} (q : Progress tab live c i n given m k) (h : k ≤ n) where
+module _ {tab : Table} {live : List Bool} {c : Task} {i n : ℕ} {given : Heard} {m : Heard} {k : ℕ} (q : Progress tab live c i n given m k) (h : k ≤ n) where
   pub ends-here : ((A : Numbers) → Live tab A live → (p : Step) → Does tab A c p → (b : Block) → Sized b i n → rules.round b p (hearing-of given) (marks-of b m) ≡ marks-of b m)
       → Ends tab live c i n given (record { marks = m; rounds = k + 1 })
   ends-here v = record {
@@ -413,7 +413,7 @@ module _ {tab : Table} {live : List Bool} {c : Part} {i n : ℕ} {given : Heard}
   pub progress-decided : undecided (statuses i n m) ≡ 0 → Ends tab live c i n given (record { marks = m; rounds = k + 1 })
   progress-decided e = ends-here (λ A l p d b z. nothing-left b p (hearing-of given) (q .reached A l p d b z) (ap₂ (λ (x y : ℕ). undecided (statuses x y m)) (z .its-inputs) (z .its-outputs) ∙ e))
 
-module _ {tab : Table} {live : List Bool} {c : Part} {i n : ℕ} {given : Heard} {m r : Heard} {k : ℕ} (q : Progress tab live c i n given m k) (h : k ≤ n) (w : Rounded tab live c i n given m r) where
+module _ {tab : Table} {live : List Bool} {c : Task} {i n : ℕ} {given : Heard} {m r : Heard} {k : ℕ} (q : Progress tab live c i n given m k) (h : k ≤ n) (w : Rounded tab live c i n given m r) where
   changed : (b : Block) → Sized b i n → (eqb (r .present) (m .present) && eqb (r .absent) (m .absent)) ≡ false → marks-of b r ≡ marks-of b m → ⊥
   changed b z e v =
       of-false e (and-in (eqb (r .present) (m .present)) (eqb (r .absent) (m .absent)) (of-true (eq-eqb (r .present) (m .present) (same-present fr fm same-at))) (of-true (eq-eqb (r .absent) (m .absent) (same-absent fr fm same-at))))
@@ -460,7 +460,7 @@ module _ {tab : Table} {live : List Bool} {c : Part} {i n : ℕ} {given : Heard}
             absent = lib.Dec.eqb→eq (r .absent) (m .absent) (and-right (eqb (r .present) (m .present)) (eqb (r .absent) (m .absent)) t) j;
           }
 
-pub progress-end : {tab : Table} {live : List Bool} {c : Part} {i n : ℕ} {given : Heard} {m : Heard} {k : ℕ} → Progress tab live c i n given m k → n < k → k ≤ n + 1 → Ends tab live c i n given (record { marks = m; rounds = k })
+pub progress-end : {tab : Table} {live : List Bool} {c : Task} {i n : ℕ} {given : Heard} {m : Heard} {k : ℕ} → Progress tab live c i n given m k → n < k → k ≤ n + 1 → Ends tab live c i n given (record { marks = m; rounds = k })
 progress-end {n = n} {given} {m} {k} q h l = record {
   fine = q .fine;
   statuses-are = λ A y p d b z. sym (q .goes A y p d b z .statuses-eq ∙ ap (λ (x : rules.Settled). x .statuses) (none p b));
@@ -567,8 +567,8 @@ module _ (c w : ℕ) (legal : (n : ℕ) → bits w n ≡ (ltb n 18 && bits c n))
 
 -- The answer.
 module _ {b : Block} {i n : ℕ} {m : Heard} (z : Sized b i n) (f : Fine (outs-from i n) m) where
-  pub stands : {r : Reacted} → r .present ≡ m .present → r .absent ≡ m .absent → r .undecided ≡ undecided (statuses i n m) → (k : ℕ) → r .rounds ≡ k → Stands b (marks-of b m) k r
-  stands p a u k e = record {
+  pub outputs-stand : {r : Reacted} → r .present ≡ m .present → r .absent ≡ m .absent → r .undecided ≡ undecided (statuses i n m) → (k : ℕ) → r .rounds ≡ k → OutputsAre b (marks-of b m) k r
+  outputs-stand p a u k e = record {
     present-is = ap bits p ∙ present-words b m (fine-block z f);
     absent-is = ap bits a ∙ absent-words b m (fine-block z f);
     undecided-is = u ∙ ap₂ (λ (x y : ℕ). undecided (statuses x y m)) (sym (z .its-inputs)) (sym (z .its-outputs));
@@ -592,19 +592,19 @@ state-next c A = go (eqb c 1)
     go false = refl
 
 module _ {b : Block} {e : rules.Settled} {r : Reacted} where
-  pub not-known : (o : Option ℕ) (A : Numbers) → o ≡ none → Undecided b (e .statuses) (e .rounds) r → Answers b (rules.answer e o A) r
-  unfolding Answers rules.answer
-  not-known o A q u = subst (λ (x : Option ℕ). Answers b (rules.answer e x A) r) (sym q) u
+  pub not-known : (o : Option ℕ) (A : Numbers) → o ≡ none → Undecided b (e .statuses) (e .rounds) r → IsAnswer b (rules.answer e o A) r
+  unfolding IsAnswer rules.answer
+  not-known o A q u = subst (λ (x : Option ℕ). IsAnswer b (rules.answer e x A) r) (sym q) u
 
-  pub is-known : (o : Option ℕ) (A : Numbers) (c : ℕ) → o ≡ some c → Answered b (e .statuses) c (next c A) (e .rounds) r → Answers b (rules.answer e o A) r
-  unfolding Answers rules.answer
-  is-known o A c q u = subst (λ (x : Option ℕ). Answers b (rules.answer e x A) r) (sym q) u
+  pub is-known : (o : Option ℕ) (A : Numbers) (c : ℕ) → o ≡ some c → Answered b (e .statuses) c (next c A) (e .rounds) r → IsAnswer b (rules.answer e o A) r
+  unfolding IsAnswer rules.answer
+  is-known o A c q u = subst (λ (x : Option ℕ). IsAnswer b (rules.answer e x A) r) (sym q) u
 
-pub kept-answer : {b : Block} {outs : List Status} {k : ℕ} {r : Reacted} (c : ℕ) (A : Numbers) → r .known ≡ true → Stands b outs k r → r .code .0 ≡ c → set-of (r .kept) ≡ cond (eqb c 1) A empty
+pub kept-answer : {b : Block} {outs : List Status} {k : ℕ} {r : Reacted} (c : ℕ) (A : Numbers) → r .known ≡ true → OutputsAre b outs k r → r .code .0 ≡ c → set-of (r .kept) ≡ cond (eqb c 1) A empty
     → r .active ≡ count 128 (set-of (r .kept)) → Answered b outs c (next c A) k r
 kept-answer c A kn st cd kp ac = record {
   known-is = kn;
-  stands = st;
+  outputs-are = st;
   code-is = cd;
   kept-is = kp ∙ sym (state-active c A);
   state-is = state-next c A ∙ ap (next c) (sym kp);
@@ -613,20 +613,20 @@ kept-answer c A kn st cd kp ac = record {
 
 -- One instant, put together.
 pub reacts-is : (b : Block) (ph : Phase) (A : Numbers) (G : Hearing) (r : Reacted) (m : Heard) (k : ℕ) (C K : Numbers) → let p = step (b .body) (state-of ph A) in let z = rules.settle b p G (suc (b .outputs)) (rules.begin b) in let E = event b G (marks-of b m) in
-    marks-of b m ≡ z .statuses → k ≡ z .rounds → C ≡ gives must p E .codes → K ≡ kept p E → Answers b (rules.answer (record { statuses = marks-of b m; rounds = k }) (lowest rules.code-width C) K) r → Reacts b ph A G r
+    marks-of b m ≡ z .statuses → k ≡ z .rounds → C ≡ gives must p E .codes → K ≡ kept p E → IsAnswer b (rules.answer (record { statuses = marks-of b m; rounds = k }) (lowest rules.code-width C) K) r → Reacts b ph A G r
 unfolding Reacts rules.react rules.final-of
 reacts-is b ph A G r m k C K s n c q a =
     let p = step (b .body) (state-of ph A) in
     let z = rules.settle b p G (suc (b .outputs)) (rules.begin b) in
     let e : record { statuses = marks-of b m; rounds = k } ≡ z = λ j. record { statuses = s j; rounds = n j } in
-    let first = subst₂ (λ (X Y : Numbers). Answers b (rules.answer (record { statuses = marks-of b m; rounds = k }) (lowest rules.code-width X) Y) r) c q a in
-    subst (λ (x : rules.Settled). Answers b (rules.answer x (lowest rules.code-width (gives must p (event b G (x .statuses)) .codes)) (kept p (event b G (x .statuses)))) r) e first
+    let first = subst₂ (λ (X Y : Numbers). IsAnswer b (rules.answer (record { statuses = marks-of b m; rounds = k }) (lowest rules.code-width X) Y) r) c q a in
+    subst (λ (x : rules.Settled). IsAnswer b (rules.answer x (lowest rules.code-width (gives must p (event b G (x .statuses)) .codes)) (kept p (event b G (x .statuses)))) r) e first
 
-pub instant-is : {tab : Table} {live : List Bool} {A : Numbers} {c : Part} {e : Heard} {end : Ended} {last : Kept} (r : Reacted) (i n : ℕ) (given : Heard) (ph : Phase) (body : Stmt) → At tab (c .at) body
+pub instant-is : {tab : Table} {live : List Bool} {A : Numbers} {c : Task} {e : Heard} {end : Ended} {last : Kept} (r : Reacted) (i n : ℕ) (given : Heard) (ph : Phase) (body : Stmt) → At tab (c .at) body
     → ((B : Numbers) (t : Stmt) → step-of (c .going) B t ≡ step t (state-of ph B)) → Live tab A live → Ends tab live c i n given end
     → ((b : Block) (k : ℕ) → Sized b i k → Fine (outs-from i k) (end .marks) → event-of e ≡ event b (hearing-of given) (marks-of b (end .marks))) → Keeping A tab live (Same c) e last
     → ((b : Block) → Sized b i n → Fine (outs-from i n) (end .marks)
-    → Answers b (rules.answer (record { statuses = marks-of b (end .marks); rounds = end .rounds }) (lowest rules.code-width (bits (last .codes))) (set-of (last .pauses))) r)
+    → IsAnswer b (rules.answer (record { statuses = marks-of b (end .marks); rounds = end .rounds }) (lowest rules.code-width (bits (last .codes))) (set-of (last .pauses))) r)
     → Reacts (record { inputs = i; outputs = n; body = body }) ph A (hearing-of given) r
 unfolding Shows
 instant-is {tab} {live} {A} {c} {e} {end} {last} r i n given ph body there going l ends ev keeps answers =

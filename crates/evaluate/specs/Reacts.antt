@@ -15,7 +15,7 @@ use Rattle.rules.specs.Rounds.{round, begin, settle, outputs-with, Answer, answ
 use Rattle.block.specs.Table.{Table}
 use Rattle.words.specs.declared.events.Heard.{Heard}
 use Rattle.words.specs.declared.given.MustCan.{MustCan}
-use Rattle.forms.specs.declared.form.Part.{Part}
+use Rattle.forms.specs.declared.form.Task.{Task}
 use Rattle.evaluate.specs.declared.rounds.Ended.{Ended}
 use Rattle.evaluate.specs.declared.rounds.Phase.{Phase}
 use Rattle.evaluate.specs.declared.rounds.Phase.the-variants.{Fresh, Running, Finished}
@@ -52,13 +52,13 @@ pub record Sized (b : Block) (i n : ℕ) : Type 0 where
   pub its-outputs : b .outputs ≡ n
 
 -- One round, for whatever the part has to do.
-pub record Rounded (tab : Table) (live : List Bool) (c : Part) (i n : ℕ) (given : Heard) (m r : Heard) : Type 0 where
+pub record Rounded (tab : Table) (live : List Bool) (c : Task) (i n : ℕ) (given : Heard) (m r : Heard) : Type 0 where
   pub fine : Fine (outs-from i n) m → Fine (outs-from i n) r
   pub rounds : (A : Numbers) → Live tab A live → (p : Step) → Does tab A c p → (b : Block) → Sized b i n → Fine (outs-from i n) m
       → marks-of b r ≡ round b p (hearing-of given) (marks-of b m)
 
 -- All rounds.
-pub record Ends (tab : Table) (live : List Bool) (c : Part) (i n : ℕ) (given : Heard) (r : Ended) : Type 0 where
+pub record Ends (tab : Table) (live : List Bool) (c : Task) (i n : ℕ) (given : Heard) (r : Ended) : Type 0 where
   pub fine : Fine (outs-from i n) (r .marks)
   pub statuses-are : (A : Numbers) → Live tab A live → (p : Step) → Does tab A c p → (b : Block) → Sized b i n
       → marks-of b (r .marks) ≡ settle b p (hearing-of given) (suc n) (begin b) .statuses
@@ -71,7 +71,7 @@ state-of Fresh A = fresh
 state-of Running A = running A
 state-of Finished A = finished
 
-pub record Stands (b : Block) (outs : List Status) (n : ℕ) (r : Reacted) : Type 0 where
+pub record OutputsAre (b : Block) (outs : List Status) (n : ℕ) (r : Reacted) : Type 0 where
   pub present-is : bits (r .present) ≡ outputs-with present b outs
   pub absent-is : bits (r .absent) ≡ outputs-with absent b outs
   pub undecided-is : r .undecided ≡ undecided outs
@@ -80,7 +80,7 @@ pub record Stands (b : Block) (outs : List Status) (n : ℕ) (r : Reacted) : Typ
 -- An answer, and its words and numbers: every field is settled.
 pub record Answered (b : Block) (outs : List Status) (c : ℕ) (st : State) (n : ℕ) (r : Reacted) : Type 0 where
   pub known-is : r .known ≡ true
-  pub stands : Stands b outs n r
+  pub outputs-are : OutputsAre b outs n r
   pub code-is : r .code .0 ≡ c
   pub kept-is : set-of (r .kept) ≡ active-of st
   pub state-is : st ≡ next c (set-of (r .kept))
@@ -88,16 +88,16 @@ pub record Answered (b : Block) (outs : List Status) (c : ℕ) (st : State) (n :
 
 pub record Undecided (b : Block) (outs : List Status) (n : ℕ) (r : Reacted) : Type 0 where
   pub known-is : r .known ≡ false
-  pub stands : Stands b outs n r
+  pub outputs-are : OutputsAre b outs n r
   pub code-is : r .code .0 ≡ 0
   pub kept-is : set-of (r .kept) ≡ empty
   pub active-is : r .active ≡ 0
 
-unfoldable pub Answers : Block → Answer → Reacted → Type 0
-Answers b (answered outs c st n) r = Answered b outs c st n r
-Answers b (not-constructive outs n) r = Undecided b outs n r
+unfoldable pub IsAnswer : Block → Answer → Reacted → Type 0
+IsAnswer b (answered outs c st n) r = Answered b outs c st n r
+IsAnswer b (not-constructive outs n) r = Undecided b outs n r
 
 -- The code's answer is the definition's.
 unfoldable pub Reacts : Block → Phase → Numbers → Hearing → Reacted → Type 0
-unfolding Answers react
-Reacts b ph A heard r = Answers b (react b (state-of ph A) heard) r
+unfolding IsAnswer react
+Reacts b ph A heard r = IsAnswer b (react b (state-of ph A) heard) r

@@ -4,7 +4,7 @@ use block::kinds::code_of;
 use forms::active::held_pauses;
 use forms::form::Form;
 use forms::form::Going;
-use forms::form::Part;
+use forms::form::Task;
 use forms::form::resumed_form;
 use forms::form::started_form;
 use walk::must_can;
@@ -25,7 +25,8 @@ use words::pauses::kept_none;
 use words::pauses::kept_unknown;
 use words::pauses::one_pause;
 ghost use Rattle.sets.specs.Words.{set-of};
-ghost use Rattle.forms.specs.Forms.{table, Placed, Formed};
+ghost use Rattle.block.specs.Told.{table-of};
+ghost use Rattle.forms.specs.Forms.{Placed, Formed};
 ghost use Rattle.evaluate.specs.Next.{Keeping};
 
 // What the part has to do, as `form_of` says it. Each walk has a function of its own for that: with one caller it is compiled into its walk,
@@ -35,13 +36,13 @@ fn kept_form(
     operands: &[u16; 512],
     sizes: &[u16; 512],
     live: &[bool; 512],
-    part: Part,
+    task: Task,
 ) -> Form
-    requires { ⌜ Placed (table (now kinds) (now operands) (now sizes)) (part .at) ⌝ }
-    ensures { λ r. ⌜ Formed (table (now (kinds .entry)) (now (operands .entry)) (now (sizes .entry))) (now (live .entry)) part r ⌝ }
+    requires { ⌜ Placed (table-of (now kinds) (now operands) (now sizes)) (task .at) ⌝ }
+    ensures { λ r. ⌜ Formed (table-of (now (kinds .entry)) (now (operands .entry)) (now (sizes .entry))) (now (live .entry)) task r ⌝ }
 {
-    let at = part.at;
-    let going = part.going;
+    let at = task.at;
+    let going = task.going;
     match going {
         Going::Started => started_form(kinds, operands, sizes, at),
         Going::Resumed => resumed_form(kinds, operands, sizes, live, at),
@@ -57,13 +58,13 @@ pub(crate) fn next_kept(
     sizes: &[u16; 512],
     live: &[bool; 512],
     set: [u64; 2],
-    part: Part,
+    task: Task,
     e: Heard,
 ) -> Kept
-    requires { ⌜ Placed (table (now kinds) (now operands) (now sizes)) (part .at) ⌝ }
-    ensures { λ r. ⌜ Keeping (set-of set) (table (now (kinds .entry)) (now (operands .entry)) (now (sizes .entry))) (now (live .entry)) (Form.Same part) e r ⌝ }
+    requires { ⌜ Placed (table-of (now kinds) (now operands) (now sizes)) (task .at) ⌝ }
+    ensures { λ r. ⌜ Keeping (set-of set) (table-of (now (kinds .entry)) (now (operands .entry)) (now (sizes .entry))) (now (live .entry)) (Form.Same task) e r ⌝ }
 {
-    let form = kept_form(kinds, operands, sizes, live, part);
+    let form = kept_form(kinds, operands, sizes, live, task);
     match form {
         Form::Done => kept_none(Code(0)),
         Form::Stay(n) => kept_here(one_pause(n)),

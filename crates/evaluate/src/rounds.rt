@@ -3,7 +3,7 @@ use crate::next::next_kept;
 use block::kinds::Code;
 use forms::active::actives;
 use forms::form::Going;
-use forms::form::Part;
+use forms::form::Task;
 use walk::must_can;
 use words::events::Heard;
 use words::given::Mark;
@@ -23,8 +23,9 @@ ghost use Rattle.rules.specs.Events.{all-heard, event};
 ghost use Rattle.rules.specs.States.{step};
 ghost use Rattle.rules.specs.Rounds.{undecided, answer, code-width};
 ghost use Rattle.words.specs.Words.{event-of, hearing-of};
-ghost use Rattle.forms.specs.Forms.{table, At, Placed, step-of};
-ghost use Rattle.evaluate.specs.Reacts.{outs-from, statuses, marks-of, Fine, Marks, Sized, Rounded, Ends, state-of, Answers, Reacts};
+ghost use Rattle.block.specs.Told.{table-of};
+ghost use Rattle.forms.specs.Forms.{At, Placed, step-of};
+ghost use Rattle.evaluate.specs.Reacts.{outs-from, statuses, marks-of, Fine, Marks, Sized, Rounded, Ends, state-of, IsAnswer, Reacts};
 
 // A state's phase; the active set stands beside it.
 pub enum Phase {
@@ -116,17 +117,17 @@ fn round_of(
     operands: &[u16; 512],
     sizes: &[u16; 512],
     live: &[bool; 512],
-    part: Part,
+    task: Task,
     inputs: u16,
     outputs: u16,
     given: Heard,
     marks: Heard,
 ) -> Heard
-    requires { ⌜ (inputs + outputs ≤ 64) × Placed (table (now kinds) (now operands) (now sizes)) (part .at) ⌝ }
-    ensures { λ r. ⌜ Rounded (table (now (kinds .entry)) (now (operands .entry)) (now (sizes .entry))) (now (live .entry)) part inputs outputs given marks r ⌝ }
+    requires { ⌜ (inputs + outputs ≤ 64) × Placed (table-of (now kinds) (now operands) (now sizes)) (task .at) ⌝ }
+    ensures { λ r. ⌜ Rounded (table-of (now (kinds .entry)) (now (operands .entry)) (now (sizes .entry))) (now (live .entry)) task inputs outputs given marks r ⌝ }
 {
     let e = heard_in(inputs, given, marks);
-    let a = must_can(kinds, operands, sizes, live, Mark::Plus, part, e);
+    let a = must_can(kinds, operands, sizes, live, Mark::Plus, task, e);
     let outs = outputs_of(inputs, outputs);
     marked_by(outs, marks, a)
 }
@@ -147,13 +148,13 @@ pub(crate) fn all_rounds(
     operands: &[u16; 512],
     sizes: &[u16; 512],
     live: &[bool; 512],
-    part: Part,
+    task: Task,
     inputs: u16,
     outputs: u16,
     given: Heard,
 ) -> Ended
-    requires { ⌜ (inputs + outputs ≤ 64) × Placed (table (now kinds) (now operands) (now sizes)) (part .at) ⌝ }
-    ensures { λ r. ⌜ Ends (table (now (kinds .entry)) (now (operands .entry)) (now (sizes .entry))) (now (live .entry)) part inputs outputs given r ⌝ }
+    requires { ⌜ (inputs + outputs ≤ 64) × Placed (table-of (now kinds) (now operands) (now sizes)) (task .at) ⌝ }
+    ensures { λ r. ⌜ Ends (table-of (now (kinds .entry)) (now (operands .entry)) (now (sizes .entry))) (now (live .entry)) task inputs outputs given r ⌝ }
 {
     let mut marks = Heard {
         present: 0,
@@ -172,7 +173,7 @@ pub(crate) fn all_rounds(
             operands,
             sizes,
             live,
-            part,
+            task,
             inputs,
             outputs,
             given,
@@ -231,7 +232,7 @@ fn undecided_of(inputs: u16, outputs: u16, marks: Heard) -> u32
 // The answer from the final marks, and must's codes with what is kept at them.
 fn answer_of(inputs: u16, outputs: u16, end: Ended, last: Kept) -> Reacted
     requires { ⌜ inputs + outputs ≤ 64 ⌝ }
-    ensures { λ r. ⌜ ((b : Block) → Sized b inputs outputs → Fine (outs-from inputs outputs) (end .marks) → Answers b (answer (record { statuses = marks-of b (end .marks); rounds = end .rounds }) (lowest code-width (bits (last .codes))) (set-of (last .pauses))) r) ⌝ }
+    ensures { λ r. ⌜ ((b : Block) → Sized b inputs outputs → Fine (outs-from inputs outputs) (end .marks) → IsAnswer b (answer (record { statuses = marks-of b (end .marks); rounds = end .rounds }) (lowest code-width (bits (last .codes))) (set-of (last .pauses))) r) ⌝ }
 {
     let marks = end.marks;
     let undecided = undecided_of(inputs, outputs, marks);
@@ -275,16 +276,16 @@ pub fn react(
     outputs: u16,
     given: Heard,
 ) -> Reacted
-    requires { ⌜ (inputs + outputs ≤ 64) × Placed (table (now kinds) (now operands) (now sizes)) 0 ⌝ }
-    ensures { λ r. ⌜ ((body : Stmt) → At (table (now (kinds .entry)) (now (operands .entry)) (now (sizes .entry))) 0 body → Reacts (record { inputs = inputs; outputs = outputs; body = body }) phase (set-of set) (hearing-of given) r) ⌝ }
+    requires { ⌜ (inputs + outputs ≤ 64) × Placed (table-of (now kinds) (now operands) (now sizes)) 0 ⌝ }
+    ensures { λ r. ⌜ ((body : Stmt) → At (table-of (now (kinds .entry)) (now (operands .entry)) (now (sizes .entry))) 0 body → Reacts (record { inputs = inputs; outputs = outputs; body = body }) phase (set-of set) (hearing-of given) r) ⌝ }
 {
     let live = actives(kinds, operands, sizes, set);
-    let part = Part {
+    let task = Task {
         at: 0,
         going: going_of(phase),
     };
-    let end = all_rounds(kinds, operands, sizes, &live, part, inputs, outputs, given);
+    let end = all_rounds(kinds, operands, sizes, &live, task, inputs, outputs, given);
     let e = heard_in(inputs, given, end.marks);
-    let last = next_kept(kinds, operands, sizes, &live, set, part, e);
+    let last = next_kept(kinds, operands, sizes, &live, set, task, e);
     answer_of(inputs, outputs, end, last)
 }

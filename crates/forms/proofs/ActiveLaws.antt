@@ -19,7 +19,8 @@ use Rattle.rules.specs.Statements.{depth, Stmt, nothing, pause, emit, present?_
 use Rattle.rules.specs.Instant.{any, active, held}
 use Rattle.block.specs.Table.{Table, kind-of, operand-of, statements, Has, Small}
 use Rattle.forms.specs.Forms.{At, Live, LiveFrom, row-pauses, pauses-in, among}
-use Rattle.forms.proofs.FormLaws.{row, in-table, Second, Kids, kids, Flags}
+use Rattle.block.proofs.Rows.{row}
+use Rattle.forms.proofs.FormLaws.{in-table, Second, Kids, kids, Flags}
 
 -- Active pauses, part by part.
 any-append : (A : Numbers) (xs ys : List ℕ) → any A (xs ++ ys) ≡ (any A xs || any A ys)

@@ -9,42 +9,14 @@ use lib.ListN.{getD}
 use Rattle.sets.specs.Numbers.{Numbers}
 use Rattle.rules.specs.Statements.{depth, Stmt, nothing, pause, emit, present?_then_else_, suspend_on_, _⨾_, loop, _parallel_, trap, exit, local}
 use Rattle.rules.specs.Instant.{done, stay, chain, active, held, started, resumed}
-use Rattle.block.specs.Table.{Table, kind-of, operand-of, statements, Row, Has, Small}
+use Rattle.block.specs.Table.{Table, kind-of, operand-of, statements, Has, Small}
+use Rattle.block.proofs.Rows.{row, statements-pos}
 use Rattle.forms.specs.declared.form.Going.{Going}
 use Rattle.forms.specs.declared.form.Going.the-variants.{Started, Resumed, Held, Idle}
-use Rattle.forms.specs.declared.form.Part.{Part}
+use Rattle.forms.specs.declared.form.Task.{Task}
 use Rattle.forms.specs.declared.form.Form.{Form}
 use Rattle.forms.specs.declared.form.Form.the-variants.{Done, Stay, Keep, Say, Leave, Test, Catch, Scope, Chain, Beside, Same}
-use Rattle.forms.specs.Forms.{At, Placed, Live, step-of, Does, Shows, Under, Below, Formed}
-
--- A statement's own row.
-pub row : {tab : Table} {i : ℕ} (t : Stmt) → Has tab i t → Row tab i t
-unfolding Has
-row nothing h = h
-row (pause n) h = h
-row (emit s) h = h
-row (present? s then p else q) h = h .0
-row (suspend p on s) h = h .0
-row (p ⨾ q) h = h .0
-row (loop p) h = h .0
-row (p parallel q) h = h .0
-row (trap p) h = h .0
-row (exit d) h = h
-row (local s p) h = h .0
-
-pub statements-pos : (t : Stmt) → 1 ≤ statements t
-unfolding statements
-statements-pos nothing = omega arith
-statements-pos (pause n) = omega arith
-statements-pos (emit s) = omega arith
-statements-pos (present? s then p else q) = omega arith
-statements-pos (suspend p on s) = omega arith
-statements-pos (p ⨾ q) = omega arith
-statements-pos (loop p) = omega arith
-statements-pos (p parallel q) = omega arith
-statements-pos (trap p) = omega arith
-statements-pos (exit d) = omega arith
-statements-pos (local s p) = omega arith
+use Rattle.forms.specs.Forms.{At, Placed, Live, step-of, Does, Shows, Under, TasksUnder, Formed}
 
 -- Every statement has one of the eleven kinds.
 pub some-kind : (t : Stmt) → (kind-of t ≡ 16 → ⊥) → (kind-of t ≡ 17 → ⊥) → (kind-of t ≡ 18 → ⊥) → (kind-of t ≡ 19 → ⊥) → (kind-of t ≡ 20 → ⊥) → (kind-of t ≡ 21 → ⊥) → (kind-of t ≡ 22 → ⊥) → (kind-of t ≡ 23 → ⊥) → (kind-of t ≡ 24 → ⊥) → (kind-of t ≡ 25 → ⊥) → (kind-of t ≡ 26 → ⊥) → ⊥
@@ -131,7 +103,7 @@ kids f (exit (depth d)) h = h .small
 kids f (local s p) h = (h .small .0, first-kid (1 + statements p) p (h .has .0 .its-size) (omega arith) (h .room) (h .has .1) (h .small .1))
 
 -- Started: the form by kind and operand.
-abbrev pub started-form : ℕ → ℕ → Part → Part → Form
+abbrev pub started-form : ℕ → ℕ → Task → Task → Form
 started-form k o p q =
     cond (eqb k 17) (Stay o)
     (cond (eqb k 18) (Say o)
@@ -142,13 +114,13 @@ started-form k o p q =
     (cond (eqb k 23) (Beside p q) (cond (eqb k 24) (Catch p) (cond (eqb k 25) (Leave (record { 0 = o })) (cond (eqb k 26) (Scope o p) Done)))))))))
 
 module _ (tab : Table) (i n : ℕ) where
-  abbrev pub first-part : Going → Part
-  first-part g = record { at = i + 1; going = g }
+  abbrev pub first-task : Going → Task
+  first-task g = record { at = i + 1; going = g }
 
-  abbrev pub next-part : Going → Part
-  next-part g = record { at = n; going = g }
+  abbrev pub next-task : Going → Task
+  next-task g = record { at = n; going = g }
 
-  pub started-shows : (A : Numbers) (t : Stmt) → Kids tab i n t → Shows tab A (started-form (kind-of t) (operand-of t) (first-part Started) (next-part Started)) (started t)
+  pub started-shows : (A : Numbers) (t : Stmt) → Kids tab i n t → Shows tab A (started-form (kind-of t) (operand-of t) (first-task Started) (next-task Started)) (started t)
   unfolding Kids Shows kind-of operand-of started step-of
   started-shows A nothing k = refl
   started-shows A (pause m) k = (k, refl)
@@ -163,36 +135,36 @@ module _ (tab : Table) (i n : ℕ) where
   started-shows A (exit (depth d)) k = (k, refl)
   started-shows A (local s p) k = (k .0, record { inner = started p; made = refl; does = kid-does A Started (k .1) })
 
-  pub started-below : (t : Stmt) → Kids tab i n t → Below tab i (started-form (kind-of t) (operand-of t) (first-part Started) (next-part Started))
-  unfolding Kids Below kind-of operand-of
-  started-below nothing k = tt
-  started-below (pause m) k = tt
-  started-below (emit s) k = tt
-  started-below (present? s then p else q) k = (kid-under Started (k .1), kid-under Started (k .2))
-  started-below (suspend p on s) k = kid-under Started (k .1)
-  started-below (p ⨾ q) k = (kid-under Started (k .0), kid-under Started (k .1))
-  started-below (loop p) k = kid-under Started k
-  started-below (p parallel q) k = (kid-under Started (k .0), kid-under Started (k .1))
-  started-below (trap p) k = kid-under Started k
-  started-below (exit (depth d)) k = tt
-  started-below (local s p) k = kid-under Started (k .1)
+  pub started-under : (t : Stmt) → Kids tab i n t → TasksUnder tab i (started-form (kind-of t) (operand-of t) (first-task Started) (next-task Started))
+  unfolding Kids TasksUnder kind-of operand-of
+  started-under nothing k = tt
+  started-under (pause m) k = tt
+  started-under (emit s) k = tt
+  started-under (present? s then p else q) k = (kid-under Started (k .1), kid-under Started (k .2))
+  started-under (suspend p on s) k = kid-under Started (k .1)
+  started-under (p ⨾ q) k = (kid-under Started (k .0), kid-under Started (k .1))
+  started-under (loop p) k = kid-under Started k
+  started-under (p parallel q) k = (kid-under Started (k .0), kid-under Started (k .1))
+  started-under (trap p) k = kid-under Started k
+  started-under (exit (depth d)) k = tt
+  started-under (local s p) k = kid-under Started (k .1)
 
   -- The code's arm for the kind k.
   pub started-formed : Placed tab i → Second tab i n → (k : ℕ) → getD (tab .kinds) i 0 ≡ k → (live : List Bool)
-      → Formed tab live (record { at = i; going = Started }) (started-form k (getD (tab .operands) i 0) (first-part Started) (next-part Started))
+      → Formed tab live (record { at = i; going = Started }) (started-form k (getD (tab .operands) i 0) (first-task Started) (next-task Started))
   unfolding step-of
   started-formed pl f k e live = record {
-    below = subst₂ (λ (x y : ℕ). Below tab i (started-form x y (first-part Started) (next-part Started)))
-        (sym (row (pl .tree) (pl .there .has) .its-kind) ∙ e) (sym (row (pl .tree) (pl .there .has) .its-operand)) (started-below (pl .tree) (kids f (pl .tree) (pl .there)));
+    tasks-under = subst₂ (λ (x y : ℕ). TasksUnder tab i (started-form x y (first-task Started) (next-task Started)))
+        (sym (row (pl .tree) (pl .there .has) .its-kind) ∙ e) (sym (row (pl .tree) (pl .there .has) .its-operand)) (started-under (pl .tree) (kids f (pl .tree) (pl .there)));
     shows = λ A l p d.
-        subst (Shows tab A (started-form k (getD (tab .operands) i 0) (first-part Started) (next-part Started))) (sym (d .its-step))
-        (subst₂ (λ (x y : ℕ). Shows tab A (started-form x y (first-part Started) (next-part Started)) (started (d .tree)))
+        subst (Shows tab A (started-form k (getD (tab .operands) i 0) (first-task Started) (next-task Started))) (sym (d .its-step))
+        (subst₂ (λ (x y : ℕ). Shows tab A (started-form x y (first-task Started) (next-task Started)) (started (d .tree)))
         (sym (row (d .tree) (d .there .has) .its-kind) ∙ e) (sym (row (d .tree) (d .there .has) .its-operand)) (started-shows A (d .tree) (kids f (d .tree) (d .there))));
   }
 
 -- Resumed.
-abbrev pub arm-part : Bool → ℕ → Part
-arm-part b j = record { at = j; going = cond b Resumed Idle }
+abbrev pub arm-task : Bool → ℕ → Task
+arm-task b j = record { at = j; going = cond b Resumed Idle }
 
 abbrev pub resumed-form : ℕ → ℕ → ℕ → ℕ → Bool → Bool → Form
 resumed-form k o i n lp lq =
@@ -200,7 +172,7 @@ resumed-form k o i n lp lq =
     (cond (eqb k 20) (Test o (record { at = i + 1; going = Held }) (record { at = i + 1; going = Resumed }))
     (cond (eqb k 21) (cond lp (Chain (record { at = i + 1; going = Resumed }) (record { at = n; going = Started })) (Same (record { at = n; going = Resumed })))
     (cond (eqb k 22) (Chain (record { at = i + 1; going = Resumed }) (record { at = i + 1; going = Started }))
-    (cond (eqb k 23) (Beside (arm-part lp (i + 1)) (arm-part lq n))
+    (cond (eqb k 23) (Beside (arm-task lp (i + 1)) (arm-task lq n))
     (cond (eqb k 24) (Catch (record { at = i + 1; going = Resumed })) (cond (eqb k 26) (Scope o (record { at = i + 1; going = Resumed })) Done))))))
 
 -- What the code's two flags say of the children.
@@ -222,7 +194,7 @@ module _ (tab : Table) (i n : ℕ) where
   either-chain A true p q k l = record { first = resumed A p; later = started q; made = refl; left = kid-does A Resumed k; right = kid-does A Started l }
   either-chain A false p q k l = kid-does A Resumed l
 
-  arm-does : (A : Numbers) (b : Bool) {j : ℕ} {p : Stmt} → Kid tab i j p → Does tab A (arm-part b j) (cond b (resumed A p) done)
+  arm-does : (A : Numbers) (b : Bool) {j : ℕ} {p : Stmt} → Kid tab i j p → Does tab A (arm-task b j) (cond b (resumed A p) done)
   unfolding step-of
   arm-does A true k = kid-does A Resumed k
   arm-does A false k = kid-does A Idle k
@@ -245,8 +217,8 @@ module _ (tab : Table) (i n : ℕ) where
     first = cond (active A p) (resumed A p) done;
     later = cond (active A q) (resumed A q) done;
     made = refl;
-    left = subst (λ (b : Bool). Does tab A (arm-part lp (i + 1)) (cond b (resumed A p) done)) (f .on-first p (k .0 .there)) (arm-does A lp (k .0));
-    right = subst (λ (b : Bool). Does tab A (arm-part lq n) (cond b (resumed A q) done)) (f .on-next q (k .1 .after) (k .1 .there)) (arm-does A lq (k .1));
+    left = subst (λ (b : Bool). Does tab A (arm-task lp (i + 1)) (cond b (resumed A p) done)) (f .on-first p (k .0 .there)) (arm-does A lp (k .0));
+    right = subst (λ (b : Bool). Does tab A (arm-task lq n) (cond b (resumed A q) done)) (f .on-next q (k .1 .after) (k .1 .there)) (arm-does A lq (k .1));
   }
   resumed-shows A lp lq f (trap p) k = record { inner = resumed A p; made = refl; does = kid-does A Resumed k }
   resumed-shows A lp lq f (exit (depth d)) k = refl
@@ -256,32 +228,32 @@ module _ (tab : Table) (i n : ℕ) where
   either-under true k l = kid-under Resumed k
   either-under false k l = kid-under Resumed l
 
-  chain-below : (b : Bool) {p q : Stmt} → Kid tab i (i + 1) p → Kid tab i n q
-      → Below tab i (cond b (Chain (record { at = i + 1; going = Resumed }) (record { at = n; going = Started })) (Same (record { at = n; going = Resumed })))
-  unfolding Below
-  chain-below true k l = (kid-under Resumed k, kid-under Started l)
-  chain-below false k l = kid-under Resumed l
+  chain-under : (b : Bool) {p q : Stmt} → Kid tab i (i + 1) p → Kid tab i n q
+      → TasksUnder tab i (cond b (Chain (record { at = i + 1; going = Resumed }) (record { at = n; going = Started })) (Same (record { at = n; going = Resumed })))
+  unfolding TasksUnder
+  chain-under true k l = (kid-under Resumed k, kid-under Started l)
+  chain-under false k l = kid-under Resumed l
 
-  pub resumed-below : (lp lq : Bool) (t : Stmt) → Kids tab i n t → Below tab i (resumed-form (kind-of t) (operand-of t) i n lp lq)
-  unfolding Kids Below kind-of operand-of
-  resumed-below lp lq nothing k = tt
-  resumed-below lp lq (pause m) k = tt
-  resumed-below lp lq (emit s) k = tt
-  resumed-below lp lq (present? s then p else q) k = either-under lp (k .1) (k .2)
-  resumed-below lp lq (suspend p on s) k = (kid-under Held (k .1), kid-under Resumed (k .1))
-  resumed-below lp lq (p ⨾ q) k = chain-below lp (k .0) (k .1)
-  resumed-below lp lq (loop p) k = (kid-under Resumed k, kid-under Started k)
-  resumed-below lp lq (p parallel q) k = (kid-under (cond lp Resumed Idle) (k .0), kid-under (cond lq Resumed Idle) (k .1))
-  resumed-below lp lq (trap p) k = kid-under Resumed k
-  resumed-below lp lq (exit (depth d)) k = tt
-  resumed-below lp lq (local s p) k = kid-under Resumed (k .1)
+  pub resumed-under : (lp lq : Bool) (t : Stmt) → Kids tab i n t → TasksUnder tab i (resumed-form (kind-of t) (operand-of t) i n lp lq)
+  unfolding Kids TasksUnder kind-of operand-of
+  resumed-under lp lq nothing k = tt
+  resumed-under lp lq (pause m) k = tt
+  resumed-under lp lq (emit s) k = tt
+  resumed-under lp lq (present? s then p else q) k = either-under lp (k .1) (k .2)
+  resumed-under lp lq (suspend p on s) k = (kid-under Held (k .1), kid-under Resumed (k .1))
+  resumed-under lp lq (p ⨾ q) k = chain-under lp (k .0) (k .1)
+  resumed-under lp lq (loop p) k = (kid-under Resumed k, kid-under Started k)
+  resumed-under lp lq (p parallel q) k = (kid-under (cond lp Resumed Idle) (k .0), kid-under (cond lq Resumed Idle) (k .1))
+  resumed-under lp lq (trap p) k = kid-under Resumed k
+  resumed-under lp lq (exit (depth d)) k = tt
+  resumed-under lp lq (local s p) k = kid-under Resumed (k .1)
 
   pub resumed-formed : Placed tab i → Second tab i n → (live : List Bool) (lp lq : Bool) → (i + 1 < 512 → lp ≡ getD live (i + 1) false) → (n < 512 → lq ≡ getD live n false) → (k : ℕ) → getD (tab .kinds) i 0 ≡ k
       → Formed tab live (record { at = i; going = Resumed }) (resumed-form k (getD (tab .operands) i 0) i n lp lq)
   unfolding step-of
   resumed-formed pl f live lp lq g h k e = record {
-    below = subst₂ (λ (x y : ℕ). Below tab i (resumed-form x y i n lp lq))
-        (sym (row (pl .tree) (pl .there .has) .its-kind) ∙ e) (sym (row (pl .tree) (pl .there .has) .its-operand)) (resumed-below lp lq (pl .tree) (kids f (pl .tree) (pl .there)));
+    tasks-under = subst₂ (λ (x y : ℕ). TasksUnder tab i (resumed-form x y i n lp lq))
+        (sym (row (pl .tree) (pl .there .has) .its-kind) ∙ e) (sym (row (pl .tree) (pl .there .has) .its-operand)) (resumed-under lp lq (pl .tree) (kids f (pl .tree) (pl .there)));
     shows = λ A l p d.
         subst (Shows tab A (resumed-form k (getD (tab .operands) i 0) i n lp lq)) (sym (d .its-step))
         (subst₂ (λ (x y : ℕ). Shows tab A (resumed-form x y i n lp lq) (resumed A (d .tree)))
@@ -309,27 +281,27 @@ resumed-done A (trap p) a b c d e f g = absurd (f refl)
 resumed-done A (exit x) a b c d e f g = refl
 resumed-done A (local s p) a b c d e f g = absurd (g refl)
 
-pub done-formed : {tab : Table} {live : List Bool} {c : Part} → ((A : Numbers) (t : Stmt) → At tab (c .at) t → step-of (c .going) A t ≡ done) → Formed tab live c Done
-unfolding Below Shows
-done-formed f = record { below = tt; shows = λ A l p d. d .its-step ∙ f A (d .tree) (d .there) }
+pub done-formed : {tab : Table} {live : List Bool} {c : Task} → ((A : Numbers) (t : Stmt) → At tab (c .at) t → step-of (c .going) A t ≡ done) → Formed tab live c Done
+unfolding TasksUnder Shows
+done-formed f = record { tasks-under = tt; shows = λ A l p d. d .its-step ∙ f A (d .tree) (d .there) }
 
-pub idle-formed : {tab : Table} {live : List Bool} (c : Part) → c .going ≡ Idle → Formed tab live c Done
+pub idle-formed : {tab : Table} {live : List Bool} (c : Task) → c .going ≡ Idle → Formed tab live c Done
 unfolding step-of
 idle-formed c e = done-formed (λ A t h. ap (λ (g : Going). step-of g A t) e)
 
-pub going-formed : {tab : Table} {live : List Bool} (c : Part) (g : Going) (f : Form) → c .going ≡ g → Formed tab live (record { at = c .at; going = g }) f → Formed tab live c f
+pub going-formed : {tab : Table} {live : List Bool} (c : Task) (g : Going) (f : Form) → c .going ≡ g → Formed tab live (record { at = c .at; going = g }) f → Formed tab live c f
 going-formed {tab} {live} c g f e h = subst (λ (x : Going). Formed tab live (record { at = c .at; going = x }) f) (sym e) h
 
-pub keep-formed : {tab : Table} {live : List Bool} (c : Part) → Placed tab (c .at) → c .going ≡ Held → Formed tab live c (Keep (c .at))
-unfolding Below Shows step-of
+pub keep-formed : {tab : Table} {live : List Bool} (c : Task) → Placed tab (c .at) → c .going ≡ Held → Formed tab live c (Keep (c .at))
+unfolding TasksUnder Shows step-of
 keep-formed c pl e = record {
-  below = pl;
+  tasks-under = pl;
   shows = λ A l p d. record { tree = d .tree; there = d .there; made = d .its-step ∙ ap (λ (g : Going). step-of g A (d .tree)) e };
 }
 
-pub formed : {tab : Table} {live : List Bool} {c : Part} {f g : Form} → Formed tab live c f → f ≡ g → Formed tab live c g
+pub formed : {tab : Table} {live : List Bool} {c : Task} {f g : Form} → Formed tab live c f → f ≡ g → Formed tab live c g
 formed {tab} {live} {c} h e = subst (Formed tab live c) e h
 
 -- A call on a part: the part is placed, and smaller.
-pub call-part : {tab : Table} {i t : ℕ} {p : Part} → Under tab i p → getD (tab .sizes) i 0 ≡ t → (getD (tab .sizes) (p .at) 0 < t) × Placed tab (p .at)
-call-part u e = (omega (arith, u .smaller), u .placed)
+pub call-task : {tab : Table} {i t : ℕ} {p : Task} → Under tab i p → getD (tab .sizes) i 0 ≡ t → (getD (tab .sizes) (p .at) 0 < t) × Placed tab (p .at)
+call-task u e = (omega (arith, u .smaller), u .placed)

@@ -11,13 +11,9 @@ use Rattle.rules.specs.Instant.{Step, done, stay, say, leave, test, catch, scop
 use Rattle.block.specs.Table.{Table, statements, Has, Small}
 use Rattle.forms.specs.declared.form.Going.{Going}
 use Rattle.forms.specs.declared.form.Going.the-variants.{Started, Resumed, Held, Idle}
-use Rattle.forms.specs.declared.form.Part.{Part}
+use Rattle.forms.specs.declared.form.Task.{Task}
 use Rattle.forms.specs.declared.form.Form.{Form}
 use Rattle.forms.specs.declared.form.Form.the-variants.{Done, Stay, Keep, Say, Leave, Test, Catch, Scope, Chain, Beside, Same}
-
--- The table that the code is lent, in three lists.
-abbrev pub table : List ℕ → List ℕ → List ℕ → Table
-table k o z = record { kinds = k; operands = o; sizes = z }
 
 -- The statement stands at i, within the table's 512 rows, and its numbers are small.
 pub record At (tab : Table) (i : ℕ) (t : Stmt) : Type 0 where
@@ -46,18 +42,18 @@ pub record LiveFrom (tab : Table) (A : Numbers) (live : List Bool) (j : ℕ) : T
   pub says : (i : ℕ) (t : Stmt) → j ≤ i → At tab i t → getD live i false ≡ active A t
 
 -- A part of the table has this to do.
-pub record Does (tab : Table) (A : Numbers) (c : Part) (p : Step) : Type 0 where
+pub record Does (tab : Table) (A : Numbers) (c : Task) (p : Step) : Type 0 where
   pub tree : Stmt
   pub there : At tab (c .at) tree
   pub its-step : p ≡ step-of (c .going) A tree
 
 -- A step made of one part's, and of two parts'.
-pub record One (tab : Table) (A : Numbers) (make : Step → Step) (c : Part) (p : Step) : Type 0 where
+pub record OfOne (tab : Table) (A : Numbers) (make : Step → Step) (c : Task) (p : Step) : Type 0 where
   pub inner : Step
   pub made : p ≡ make inner
   pub does : Does tab A c inner
 
-pub record Two (tab : Table) (A : Numbers) (make : Step → Step → Step) (c d : Part) (p : Step) : Type 0 where
+pub record OfTwo (tab : Table) (A : Numbers) (make : Step → Step → Step) (c d : Task) (p : Step) : Type 0 where
   pub first : Step
   pub later : Step
   pub made : p ≡ make first later
@@ -65,7 +61,7 @@ pub record Two (tab : Table) (A : Numbers) (make : Step → Step → Step) (c d 
   pub right : Does tab A d later
 
 -- A suspended body keeps what it holds.
-pub record Keeps (tab : Table) (A : Numbers) (i : ℕ) (p : Step) : Type 0 where
+pub record Suspended (tab : Table) (A : Numbers) (i : ℕ) (p : Step) : Type 0 where
   pub tree : Stmt
   pub there : At tab i tree
   pub made : p ≡ stay (held A tree)
@@ -74,37 +70,37 @@ pub record Keeps (tab : Table) (A : Numbers) (i : ℕ) (p : Step) : Type 0 where
 unfoldable pub Shows : Table → Numbers → Form → Step → Type 0
 Shows tab A Done p = p ≡ done
 Shows tab A (Stay n) p = (n < 128) × (p ≡ stay (single n))
-Shows tab A (Keep i) p = Keeps tab A i p
+Shows tab A (Keep i) p = Suspended tab A i p
 Shows tab A (Say s) p = (s < 64) × (p ≡ say s)
 Shows tab A (Leave d) p = (d .0 < 16) × (p ≡ leave (depth (d .0)))
-Shows tab A (Test s c d) p = (s < 64) × Two tab A (test s) c d p
-Shows tab A (Catch c) p = One tab A catch c p
-Shows tab A (Scope s c) p = (s < 64) × One tab A (scope s) c p
-Shows tab A (Chain c d) p = Two tab A chain c d p
-Shows tab A (Beside c d) p = Two tab A beside c d p
+Shows tab A (Test s c d) p = (s < 64) × OfTwo tab A (test s) c d p
+Shows tab A (Catch c) p = OfOne tab A catch c p
+Shows tab A (Scope s c) p = (s < 64) × OfOne tab A (scope s) c p
+Shows tab A (Chain c d) p = OfTwo tab A chain c d p
+Shows tab A (Beside c d) p = OfTwo tab A beside c d p
 Shows tab A (Same c) p = Does tab A c p
 
 -- A part is placed in the table, and is smaller than the statement at i.
-pub record Under (tab : Table) (i : ℕ) (c : Part) : Type 0 where
+pub record Under (tab : Table) (i : ℕ) (c : Task) : Type 0 where
   pub placed : Placed tab (c .at)
   pub smaller : getD (tab .sizes) (c .at) 0 < getD (tab .sizes) i 0
 
-unfoldable pub Below : Table → ℕ → Form → Type 0
-Below tab i Done = Unit {0}
-Below tab i (Stay n) = Unit {0}
-Below tab i (Keep j) = Placed tab j
-Below tab i (Say s) = Unit {0}
-Below tab i (Leave d) = Unit {0}
-Below tab i (Test s c d) = Under tab i c × Under tab i d
-Below tab i (Catch c) = Under tab i c
-Below tab i (Scope s c) = Under tab i c
-Below tab i (Chain c d) = Under tab i c × Under tab i d
-Below tab i (Beside c d) = Under tab i c × Under tab i d
-Below tab i (Same c) = Under tab i c
+unfoldable pub TasksUnder : Table → ℕ → Form → Type 0
+TasksUnder tab i Done = Unit {0}
+TasksUnder tab i (Stay n) = Unit {0}
+TasksUnder tab i (Keep j) = Placed tab j
+TasksUnder tab i (Say s) = Unit {0}
+TasksUnder tab i (Leave d) = Unit {0}
+TasksUnder tab i (Test s c d) = Under tab i c × Under tab i d
+TasksUnder tab i (Catch c) = Under tab i c
+TasksUnder tab i (Scope s c) = Under tab i c
+TasksUnder tab i (Chain c d) = Under tab i c × Under tab i d
+TasksUnder tab i (Beside c d) = Under tab i c × Under tab i d
+TasksUnder tab i (Same c) = Under tab i c
 
 -- The form of a part.
-pub record Formed (tab : Table) (live : List Bool) (c : Part) (f : Form) : Type 0 where
-  pub below : Below tab (c .at) f
+pub record Formed (tab : Table) (live : List Bool) (c : Task) (f : Form) : Type 0 where
+  pub tasks-under : TasksUnder tab (c .at) f
   pub shows : (A : Numbers) → Live tab A live → (p : Step) → Does tab A c p → Shows tab A f p
 
 -- The pauses of n rows from i on, and those of them that are active.

@@ -1,7 +1,7 @@
 // The active pauses over the table: which statements hold one, and those that a suspended body holds.
 use crate::form::live_at;
-use crate::form::second;
 use block::kinds::wide;
+use block::loops::second_at;
 use words::pauses::has_pause;
 use words::pauses::joined;
 use words::pauses::no_pause;
@@ -13,7 +13,8 @@ ghost use Prim.Native.Nat.{ℕ, _+_, _<_};
 ghost use Rattle.sets.specs.Words.{set-of};
 ghost use Rattle.rules.specs.Statements.{Stmt};
 ghost use Rattle.rules.specs.Instant.{active, held};
-ghost use Rattle.forms.specs.Forms.{table, At, Placed, Live, LiveFrom, row-pauses, among};
+ghost use Rattle.block.specs.Told.{table-of};
+ghost use Rattle.forms.specs.Forms.{At, Placed, Live, LiveFrom, row-pauses, among};
 
 fn or(a: bool, b: bool) -> bool
     ensures { λ r. ⌜ r ≡ (a || b) ⌝ }
@@ -31,7 +32,7 @@ fn holds_active(
     at: usize,
 ) -> bool
     requires { ⌜ at < 512 ⌝ }
-    ensures { λ r. ⌜ (LiveFrom (table (now (kinds .entry)) (now (operands .entry)) (now (sizes .entry))) (set-of set) (now (live .entry)) (at + 1) → (t : Stmt) → At (table (now (kinds .entry)) (now (operands .entry)) (now (sizes .entry))) at t → r ≡ active (set-of set) t) ⌝ }
+    ensures { λ r. ⌜ (LiveFrom (table-of (now (kinds .entry)) (now (operands .entry)) (now (sizes .entry))) (set-of set) (now (live .entry)) (at + 1) → (t : Stmt) → At (table-of (now (kinds .entry)) (now (operands .entry)) (now (sizes .entry))) at t → r ≡ active (set-of set) t) ⌝ }
 {
     let kind = kinds[at];
     let first = live_at(live, at + 1);
@@ -39,11 +40,11 @@ fn holds_active(
         16 => false,
         17 => has_pause(set, operands[at]),
         18 => false,
-        19 => or(first, live_at(live, second(sizes, at))),
+        19 => or(first, live_at(live, second_at(sizes, at))),
         20 => first,
-        21 => or(first, live_at(live, second(sizes, at))),
+        21 => or(first, live_at(live, second_at(sizes, at))),
         22 => first,
-        23 => or(first, live_at(live, second(sizes, at))),
+        23 => or(first, live_at(live, second_at(sizes, at))),
         24 => first,
         25 => false,
         26 => first,
@@ -58,7 +59,7 @@ pub fn actives(
     sizes: &[u16; 512],
     set: [u64; 2],
 ) -> [bool; 512]
-    ensures { λ r. ⌜ Live (table (now (kinds .entry)) (now (operands .entry)) (now (sizes .entry))) (set-of set) r ⌝ }
+    ensures { λ r. ⌜ Live (table-of (now (kinds .entry)) (now (operands .entry)) (now (sizes .entry))) (set-of set) r ⌝ }
 {
     let mut live = [false; 512];
     let mut i = 512;
@@ -84,7 +85,7 @@ fn held_one(set: [u64; 2], n: u16) -> [u64; 2]
 // A row's pause, if it is one and is active.
 fn held_row(kinds: &[u16; 512], operands: &[u16; 512], set: [u64; 2], at: usize) -> [u64; 2]
     requires { ⌜ at < 512 ⌝ }
-    ensures { λ r. ⌜ ((sizes : List ℕ) → set-of r ≡ among (set-of set) (row-pauses (table (now (kinds .entry)) (now (operands .entry)) sizes) at)) ⌝ }
+    ensures { λ r. ⌜ ((sizes : List ℕ) → set-of r ≡ among (set-of set) (row-pauses (table-of (now (kinds .entry)) (now (operands .entry)) sizes) at)) ⌝ }
 {
     if kinds[at] == 17 {
         held_one(set, operands[at])
@@ -101,8 +102,8 @@ pub fn held_pauses(
     set: [u64; 2],
     at: usize,
 ) -> [u64; 2]
-    requires { ⌜ Placed (table (now kinds) (now operands) (now sizes)) at ⌝ }
-    ensures { λ r. ⌜ ((t : Stmt) → At (table (now (kinds .entry)) (now (operands .entry)) (now (sizes .entry))) at t → set-of r ≡ held (set-of set) t) ⌝ }
+    requires { ⌜ Placed (table-of (now kinds) (now operands) (now sizes)) at ⌝ }
+    ensures { λ r. ⌜ ((t : Stmt) → At (table-of (now (kinds .entry)) (now (operands .entry)) (now (sizes .entry))) at t → set-of r ≡ held (set-of set) t) ⌝ }
 {
     let size = wide(sizes[at]);
     let mut kept = no_pause();

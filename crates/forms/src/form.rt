@@ -1,12 +1,13 @@
 // What a statement of the table has to do in this instant, started or resumed.
 use block::kinds::Depth;
-use block::kinds::wide;
+use block::loops::second_at;
 ghost use mathlib.Core.Path.{_≡_};
 ghost use mathlib.Core.Bool.{Bool, cond, false};
 ghost use mathlib.Core.List.{List};
 ghost use Prim.Native.Nat.{_+_, _<_};
 ghost use lib.ListN.{getD};
-ghost use Rattle.forms.specs.Forms.{table, Placed, Formed};
+ghost use Rattle.block.specs.Told.{table-of};
+ghost use Rattle.forms.specs.Forms.{Placed, Formed};
 
 // How a statement is taken: started, resumed, held as it is (a suspended body), or not at all (an arm of a parallel without an
 // active pause, a finished block).
@@ -18,7 +19,7 @@ pub enum Going {
 }
 
 // A statement by its number.
-pub struct Part {
+pub struct Task {
     pub at: usize,
     pub going: Going,
 }
@@ -30,25 +31,12 @@ pub enum Form {
     Keep(usize),
     Say(u16),
     Leave(Depth),
-    Test(u16, Part, Part),
-    Catch(Part),
-    Scope(u16, Part),
-    Chain(Part, Part),
-    Beside(Part, Part),
-    Same(Part),
-}
-
-// The second child's number.
-pub(crate) fn second(sizes: &[u16; 512], at: usize) -> usize
-    requires { ⌜ at < 512 ⌝ }
-    ensures { λ r. ⌜ (at + 1 < 512 → r ≡ at + 1 + getD (now (sizes .entry)) (at + 1) 0) ⌝ }
-{
-    let first = at + 1;
-    if first < 512 {
-        first + wide(sizes[first])
-    } else {
-        first
-    }
+    Test(u16, Task, Task),
+    Catch(Task),
+    Scope(u16, Task),
+    Chain(Task, Task),
+    Beside(Task, Task),
+    Same(Task),
 }
 
 // Whether a statement holds an active pause.
@@ -58,22 +46,22 @@ pub(crate) fn live_at(live: &[bool; 512], at: usize) -> bool
     if at < 512 { live[at] } else { false }
 }
 
-fn chosen(first: bool, p: Part, q: Part) -> Part
+fn chosen(first: bool, p: Task, q: Task) -> Task
     ensures { λ r. ⌜ r ≡ cond first p q ⌝ }
 {
     if first { p } else { q }
 }
 
-fn arm(active: bool, at: usize) -> Part
+fn arm(active: bool, at: usize) -> Task
     ensures { λ r. ⌜ r ≡ record { at = at; going = cond active Going.Resumed Going.Idle } ⌝ }
 {
     if active {
-        Part {
+        Task {
             at,
             going: Going::Resumed,
         }
     } else {
-        Part {
+        Task {
             at,
             going: Going::Idle,
         }
@@ -86,17 +74,17 @@ pub fn started_form(
     sizes: &[u16; 512],
     at: usize,
 ) -> Form
-    requires { ⌜ Placed (table (now kinds) (now operands) (now sizes)) at ⌝ }
-    ensures { λ r. ⌜ ((live : List Bool) → Formed (table (now (kinds .entry)) (now (operands .entry)) (now (sizes .entry))) live (record { at = at; going = Going.Started }) r) ⌝ }
+    requires { ⌜ Placed (table-of (now kinds) (now operands) (now sizes)) at ⌝ }
+    ensures { λ r. ⌜ ((live : List Bool) → Formed (table-of (now (kinds .entry)) (now (operands .entry)) (now (sizes .entry))) live (record { at = at; going = Going.Started }) r) ⌝ }
 {
     let kind = kinds[at];
     let operand = operands[at];
-    let p = Part {
+    let p = Task {
         at: at + 1,
         going: Going::Started,
     };
-    let q = Part {
-        at: second(sizes, at),
+    let q = Task {
+        at: second_at(sizes, at),
         going: Going::Started,
     };
     match kind {
@@ -122,31 +110,31 @@ pub fn resumed_form(
     live: &[bool; 512],
     at: usize,
 ) -> Form
-    requires { ⌜ Placed (table (now kinds) (now operands) (now sizes)) at ⌝ }
-    ensures { λ r. ⌜ Formed (table (now (kinds .entry)) (now (operands .entry)) (now (sizes .entry))) (now (live .entry)) (record { at = at; going = Going.Resumed }) r ⌝ }
+    requires { ⌜ Placed (table-of (now kinds) (now operands) (now sizes)) at ⌝ }
+    ensures { λ r. ⌜ Formed (table-of (now (kinds .entry)) (now (operands .entry)) (now (sizes .entry))) (now (live .entry)) (record { at = at; going = Going.Resumed }) r ⌝ }
 {
     let kind = kinds[at];
     let operand = operands[at];
-    let next = second(sizes, at);
+    let next = second_at(sizes, at);
     let first_live = live_at(live, at + 1);
     let next_live = live_at(live, next);
-    let held = Part {
+    let held = Task {
         at: at + 1,
         going: Going::Held,
     };
-    let p = Part {
+    let p = Task {
         at: at + 1,
         going: Going::Resumed,
     };
-    let again = Part {
+    let again = Task {
         at: at + 1,
         going: Going::Started,
     };
-    let q = Part {
+    let q = Task {
         at: next,
         going: Going::Resumed,
     };
-    let after = Part {
+    let after = Task {
         at: next,
         going: Going::Started,
     };
@@ -173,13 +161,13 @@ pub fn form_of(
     operands: &[u16; 512],
     sizes: &[u16; 512],
     live: &[bool; 512],
-    part: Part,
+    task: Task,
 ) -> Form
-    requires { ⌜ Placed (table (now kinds) (now operands) (now sizes)) (part .at) ⌝ }
-    ensures { λ r. ⌜ Formed (table (now (kinds .entry)) (now (operands .entry)) (now (sizes .entry))) (now (live .entry)) part r ⌝ }
+    requires { ⌜ Placed (table-of (now kinds) (now operands) (now sizes)) (task .at) ⌝ }
+    ensures { λ r. ⌜ Formed (table-of (now (kinds .entry)) (now (operands .entry)) (now (sizes .entry))) (now (live .entry)) task r ⌝ }
 {
-    let at = part.at;
-    let going = part.going;
+    let at = task.at;
+    let going = task.going;
     match going {
         Going::Started => started_form(kinds, operands, sizes, at),
         Going::Resumed => resumed_form(kinds, operands, sizes, live, at),

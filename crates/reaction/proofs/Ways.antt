@@ -115,10 +115,10 @@ module _ (b : Block) (r : Reacted) (fits : Fitting r) (o : Outcome) where
         place = 0;
         first = 0;
         second = 0;
-        present-outputs = signals-word (outputs-with present b outs) (r .present) (a .stands .present-is) (fits .present-fits) i;
+        present-outputs = signals-word (outputs-with present b outs) (r .present) (a .outputs-are .present-is) (fits .present-fits) i;
         absent-outputs = 0;
         undecided-outputs = 0;
-        rounds = a .stands .rounds-is i;
+        rounds = a .outputs-are .rounds-is i;
         code = a .code-is i;
         active = its-active i;
       }
@@ -136,26 +136,26 @@ module _ (b : Block) (r : Reacted) (fits : Fitting r) (o : Outcome) where
         place = 0;
         first = 0;
         second = 0;
-        present-outputs = signals-word (outputs-with present b outs) (r .present) (a .stands .present-is) (fits .present-fits) i;
-        absent-outputs = signals-word (outputs-with absent b outs) (r .absent) (a .stands .absent-is) (fits .absent-fits) i;
-        undecided-outputs = a .stands .undecided-is i;
-        rounds = a .stands .rounds-is i;
+        present-outputs = signals-word (outputs-with present b outs) (r .present) (a .outputs-are .present-is) (fits .present-fits) i;
+        absent-outputs = signals-word (outputs-with absent b outs) (r .absent) (a .outputs-are .absent-is) (fits .absent-fits) i;
+        undecided-outputs = a .outputs-are .undecided-is i;
+        rounds = a .outputs-are .rounds-is i;
         code = 0;
         active = 0;
       }
 
   -- by whether the code is known
-  pub known-way : (a : Answer) → evaluate.Answers b a r → r .known ≡ true
+  pub known-way : (a : Answer) → evaluate.IsAnswer b a r → r .known ≡ true
       → o .reply ≡ Answered (record { present = r .present; code = r .code; rounds = r .rounds; active = r .active })
       → ((A : Numbers) → o .phase ≡ phase-of (next (r .code .0) A)) → o .kept ≡ r .kept → Comes (reacted b a) o
-  unfolding evaluate.Answers
+  unfolding evaluate.IsAnswer
   known-way (answered outs c st n) a t e ph k = answered-comes outs c st n a e ph k
   known-way (not-constructive outs n) a t e ph k = absurd (true≢false (sym t ∙ a .known-is))
 
-  pub unknown-way : (a : Answer) → evaluate.Answers b a r → r .known ≡ false
+  pub unknown-way : (a : Answer) → evaluate.IsAnswer b a r → r .known ≡ false
       → o .reply ≡ NotConstructive (record { present = r .present; absent = r .absent; undecided = r .undecided; rounds = r .rounds })
       → Comes (reacted b a) o
-  unfolding evaluate.Answers
+  unfolding evaluate.IsAnswer
   unknown-way (answered outs c st n) a f e = absurd (true≢false (sym (a .known-is) ∙ f))
   unknown-way (not-constructive outs n) a f e = doubted-comes outs n a e
 
@@ -196,7 +196,7 @@ module _ {tab : Table} {s : Summary} {g : Good} (o : Opened tab s g) where
     pub react-way : (r : Reacted) (heard : Heard) {x : Bool} {phase : Phase} {set : List ℕ} {out : Outcome} → Begins st phase set
         → evaluate.Reacts (record { inputs = s .inputs; outputs = s .outputs; body = g .body }) phase (set-of set) (hearing-of heard) r
         → ((b : Block) → b .inputs ≡ s .inputs → hearing-of heard ≡ all-heard b (bits given))
-        → ((b : Block) (a : Answer) → evaluate.Answers b a r → Comes (reacted b a) out)
+        → ((b : Block) (a : Answer) → evaluate.IsAnswer b a r → Comes (reacted b a) out)
         → x ≡ undeclared-input (s .inputs) given → x ≡ false → roomless ≡ false → Comes (try-inputs g st given roomless) out
     unfolding evaluate.Reacts
     react-way r heard {x} {phase} {set} {out} begins e all f d u m =
@@ -209,11 +209,11 @@ module _ {tab : Table} {s : Summary} {g : Good} (o : Opened tab s g) where
         its-state : evaluate.state-of phase (set-of set) ≡ st
         its-state = sym (begins .state-is)
 
-        its-answer : evaluate.Answers (block-of g) (react (block-of g) st (heard-of g given)) r
+        its-answer : evaluate.IsAnswer (block-of g) (react (block-of g) st (heard-of g given)) r
         its-answer =
-            subst (λ (h : Hearing). evaluate.Answers (block-of g) (react (block-of g) st h) r) (all (block-of g) (sym (ap (λ (x : Summary). x .inputs) (o .summed))))
-            (subst (λ (b : Block). evaluate.Answers b (react b st (hearing-of heard)) r) same-block
-            (subst (λ (q : State). evaluate.Answers summed-block (react summed-block q (hearing-of heard)) r) its-state e))
+            subst (λ (h : Hearing). evaluate.IsAnswer (block-of g) (react (block-of g) st h) r) (all (block-of g) (sym (ap (λ (x : Summary). x .inputs) (o .summed))))
+            (subst (λ (b : Block). evaluate.IsAnswer b (react b st (hearing-of heard)) r) same-block
+            (subst (λ (q : State). evaluate.IsAnswer summed-block (react summed-block q (hearing-of heard)) r) its-state e))
 
   -- the search for a clash may begin
   pub searchable : (set : List ℕ) → ((k : ℕ) → T (set-of set k) → k < g .pauses) → Searchable (tab .kinds) (tab .sizes) (s .statements) set (g .body)

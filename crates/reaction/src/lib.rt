@@ -24,7 +24,7 @@ ghost use Rattle.rules.specs.Rounds as rules;
 ghost use Rattle.block.specs.Format.{Good, reading};
 ghost use Rattle.block.specs.Told.{table-of};
 ghost use Rattle.records.specs.StateRecord.{read-state};
-ghost use Rattle.evaluate.specs.Reacts.{Answers};
+ghost use Rattle.evaluate.specs.Reacts.{IsAnswer};
 ghost use Rattle.reaction.specs.Instants.{reacted, block-of, verdict, try-inputs, try-state, clash-tried};
 ghost use Rattle.reaction.specs.Outcomes.{Comes, Opened, Begins};
 
@@ -79,7 +79,7 @@ fn phase_after(code: Code) -> u16
 
 // The rules' reaction as a reply.
 fn of_reaction(r: Reacted) -> Outcome
-    ensures { λ o. ⌜ ((b : Block) (a : rules.Answer) → Answers b a r → Comes (reacted b a) o) ⌝ }
+    ensures { λ o. ⌜ ((b : Block) (a : rules.Answer) → IsAnswer b a r → Comes (reacted b a) o) ⌝ }
 {
     if r.known {
         let kept = r.kept;

@@ -14,11 +14,11 @@ use Rattle.rules.specs.Instant.{Step, leave, test}
 use Rattle.rules.specs.MustCan.{Mark, plus, opened, Question, must, can, Given, nothing-known, either, caught, both, followed, onward, absence-asked, local-status, hidden, gives}
 use Rattle.block.specs.Table.{Table}
 use Rattle.words.specs.declared.events.Heard.{Heard}
-use Rattle.words.specs.declared.given.Told.{Told}
+use Rattle.words.specs.declared.given.GivenWords.{GivenWords}
 use Rattle.words.specs.declared.given.MustCan.{MustCan}
 use Rattle.words.specs.declared.events.Seen.{Seen}
 use Rattle.block.specs.declared.kinds.Depth.{Depth}
-use Rattle.forms.specs.declared.form.Part.{Part}
+use Rattle.forms.specs.declared.form.Task.{Task}
 use Rattle.forms.specs.declared.form.Form.{Form}
 use Rattle.forms.specs.declared.form.Form.the-variants.{Done, Stay, Keep, Say, Leave, Test, Catch, Scope, Chain, Beside, Same}
 use Rattle.words.specs.Words.{event-of, seen-as, given-of, quiet, loud}
@@ -51,7 +51,7 @@ pub skipped : (X Y Z : Given) → X .codes 0 ≡ false → followed X Y ≡ foll
 skipped X Y Z e = rw e
 
 -- A part does what its form shows.
-pub via-form : {k : Question} {tab : Table} {live : List Bool} {c : Part} {f : Form} {e : Heard} {x : Told} → Formed tab live c f → Gives k tab live f e x → Gives k tab live (Same c) e x
+pub via-form : {k : Question} {tab : Table} {live : List Bool} {c : Task} {f : Form} {e : Heard} {x : GivenWords} → Formed tab live c f → Gives k tab live f e x → Gives k tab live (Same c) e x
 unfolding Shows
 via-form h g = record { at = λ A l p d. g .at A l p (h .shows A l p d) }
 
@@ -59,11 +59,11 @@ same-step : (k : Question) (e : Heard) {p q : Step} → p ≡ q → gives k q (e
 same-step k e h = ap (λ (y : Step). gives k y (event-of e)) (sym h)
 
 -- A local's status is settled, for a question, by its body with the signal unknown.
-pub record Settles (k : Question) (tab : Table) (live : List Bool) (s : ℕ) (p : Part) (u : Heard) (v : Status) : Type 0 where
+pub record Settles (k : Question) (tab : Table) (live : List Bool) (s : ℕ) (p : Task) (u : Heard) (v : Status) : Type 0 where
   pub at : s < 64 → (A : Numbers) → Live tab A live → (q : Step) → Shows tab A (Same p) q
       → v ≡ local-status k s (gives must q (event-of u)) (gives (absence-asked k) q (event-of u))
 
-module _ {tab : Table} {live : List Bool} {s : ℕ} {p : Part} {u : Heard} {v : Status} {a : MustCan} where
+module _ {tab : Table} {live : List Bool} {s : ℕ} {p : Task} {u : Heard} {v : Status} {a : MustCan} where
   -- Under plus both questions have the same status. Under open must is not known and not asked.
   settles-must : (m : Mark) → m ≡ plus → Walked m tab live (Same p) u a → (s < 64 → v ≡ local-status (can m) s (given-of (a .must)) (given-of (a .can))) → Settles must tab live s p u v
   settles-must plus q w st = record { at = λ l A h q d. st l ∙ ap₂ (local-status must s) (w .in-must refl .at A h q d) (w .in-can .at A h q d) }
@@ -73,7 +73,7 @@ module _ {tab : Table} {live : List Bool} {s : ℕ} {p : Part} {u : Heard} {v : 
   settles-can plus w st = record { at = λ l A h q d. st l ∙ ap₂ (local-status (can plus) s) (w .in-must refl .at A h q d) (w .in-can .at A h q d) }
   settles-can opened w st = record { at = λ l A h q d. st l ∙ ap (local-status (can opened) s (gives must q (event-of u))) (w .in-can .at A h q d) }
 
-module _ {k : Question} {tab : Table} {live : List Bool} {e : Heard} {x : Told} where
+module _ {k : Question} {tab : Table} {live : List Bool} {e : Heard} {x : GivenWords} where
   pub via-done : given-of x ≡ quiet 0 → Gives k tab live Done e x
   unfolding Shows gives
   via-done g = record { at = λ A l p d. g ∙ same-step k e d }
@@ -94,28 +94,28 @@ module _ {k : Question} {tab : Table} {live : List Bool} {e : Heard} {x : Told} 
   unfolding Shows gives code
   via-leave {d} n q g = record { at = λ A l p w. let b : d .0 < 16 = w .0 in g (omega arith) ∙ ap quiet q ∙ same-step k e (w .1) }
 
-  pub via-present : {s : ℕ} {p q : Part} → (s < 64 → present ≡ event-of e s) → Gives k tab live (Same p) e x → Gives k tab live (Test s p q) e x
+  pub via-present : {s : ℕ} {p q : Task} → (s < 64 → present ≡ event-of e s) → Gives k tab live (Same p) e x → Gives k tab live (Test s p q) e x
   unfolding Shows
   via-present {s} v g = record {
     at = λ A l p d. let w = d .1 in g .at A l (w .first) (w .left) ∙ chosen-present k s (w .first) (w .later) (event-of e) (v (d .0)) ∙ same-step k e (w .made);
   }
 
-  pub via-absent : {s : ℕ} {p q : Part} → (s < 64 → absent ≡ event-of e s) → Gives k tab live (Same q) e x → Gives k tab live (Test s p q) e x
+  pub via-absent : {s : ℕ} {p q : Task} → (s < 64 → absent ≡ event-of e s) → Gives k tab live (Same q) e x → Gives k tab live (Test s p q) e x
   unfolding Shows
   via-absent {s} v g = record {
     at = λ A l p d. let w = d .1 in g .at A l (w .later) (w .right) ∙ chosen-absent k s (w .first) (w .later) (event-of e) (v (d .0)) ∙ same-step k e (w .made);
   }
 
-  pub via-catch : {p : Part} {a : Told} → given-of x ≡ caught (given-of a) → Gives k tab live (Same p) e a → Gives k tab live (Catch p) e x
+  pub via-catch : {p : Task} {a : GivenWords} → given-of x ≡ caught (given-of a) → Gives k tab live (Same p) e a → Gives k tab live (Catch p) e x
   unfolding Shows gives
   via-catch r g = record { at = λ A l p w. r ∙ ap caught (g .at A l (w .inner) (w .does)) ∙ same-step k e (w .made) }
 
-  pub via-beside : {p q : Part} {a b : Told} → given-of x ≡ both (given-of a) (given-of b) → Gives k tab live (Same p) e a → Gives k tab live (Same q) e b → Gives k tab live (Beside p q) e x
+  pub via-beside : {p q : Task} {a b : GivenWords} → given-of x ≡ both (given-of a) (given-of b) → Gives k tab live (Same p) e a → Gives k tab live (Same q) e b → Gives k tab live (Beside p q) e x
   unfolding Shows gives
   via-beside r g h = record { at = λ A l p w. r ∙ ap₂ both (g .at A l (w .first) (w .left)) (h .at A l (w .later) (w .right)) ∙ same-step k e (w .made) }
 
   -- The second part's question is the one that the first part's must code asks for.
-  pub via-chain : {p q : Part} {a b m : Told} (z : Bool) → given-of x ≡ followed (given-of a) (given-of b) → Gives k tab live (Same p) e a → Gives must tab live (Same p) e m → bits (m .codes) 0 ≡ z
+  pub via-chain : {p q : Task} {a b m : GivenWords} (z : Bool) → given-of x ≡ followed (given-of a) (given-of b) → Gives k tab live (Same p) e a → Gives must tab live (Same p) e m → bits (m .codes) 0 ≡ z
       → Gives (onward k z) tab live (Same q) e b → Gives k tab live (Chain p q) e x
   unfolding Shows gives given-of
   via-chain z r g n v h = record {
@@ -125,7 +125,7 @@ module _ {k : Question} {tab : Table} {live : List Bool} {e : Heard} {x : Told} 
         ∙ same-step k e (w .made);
   }
 
-  pub via-skipped : {p q : Part} {a : Told} (b : Told) → given-of x ≡ followed (given-of a) (given-of b) → Gives k tab live (Same p) e a → bits (a .codes) 0 ≡ false → Gives k tab live (Chain p q) e x
+  pub via-skipped : {p q : Task} {a : GivenWords} (b : GivenWords) → given-of x ≡ followed (given-of a) (given-of b) → Gives k tab live (Same p) e a → bits (a .codes) 0 ≡ false → Gives k tab live (Chain p q) e x
   unfolding Shows gives given-of
   via-skipped {a = a} b r g v = record {
     at = λ A l p w.
@@ -134,7 +134,7 @@ module _ {k : Question} {tab : Table} {live : List Bool} {e : Heard} {x : Told} 
   }
 
   -- A local, with the status that its body with the signal unknown settles.
-  pub via-scope : {s : ℕ} {p : Part} {u h : Heard} {b : Told} (v : Status) → (s < 64 → given-of x ≡ hidden s (given-of b))
+  pub via-scope : {s : ℕ} {p : Task} {u h : Heard} {b : GivenWords} (v : Status) → (s < 64 → given-of x ≡ hidden s (given-of b))
       → (s < 64 → event-of u ≡ giving (event-of e) s unknown) → Settles k tab live s p u v
       → (s < 64 → event-of h ≡ giving (event-of e) s v) → Gives k tab live (Same p) h b → Gives k tab live (Scope s p) e x
   unfolding Shows gives
@@ -148,12 +148,12 @@ module _ {k : Question} {tab : Table} {live : List Bool} {e : Heard} {x : Told} 
         ∙ same-step k e (w .made);
   }
 
-module _ {tab : Table} {live : List Bool} {e : Heard} {x : Told} where
-  pub must-unknown : {s : ℕ} {p q : Part} → (s < 64 → unknown ≡ event-of e s) → given-of x ≡ nothing-known → Gives must tab live (Test s p q) e x
+module _ {tab : Table} {live : List Bool} {e : Heard} {x : GivenWords} where
+  pub must-unknown : {s : ℕ} {p q : Task} → (s < 64 → unknown ≡ event-of e s) → given-of x ≡ nothing-known → Gives must tab live (Test s p q) e x
   unfolding Shows
   must-unknown {s} v g = record { at = λ A l p d. let w = d .1 in g ∙ doubted-must s (w .first) (w .later) (event-of e) (v (d .0)) ∙ same-step must e (w .made) }
 
-  pub can-unknown : {m : Mark} {s : ℕ} {p q : Part} {a b : Told} → (s < 64 → unknown ≡ event-of e s) → given-of x ≡ either (given-of a) (given-of b)
+  pub can-unknown : {m : Mark} {s : ℕ} {p q : Task} {a b : GivenWords} → (s < 64 → unknown ≡ event-of e s) → given-of x ≡ either (given-of a) (given-of b)
       → Gives (can opened) tab live (Same p) e a → Gives (can opened) tab live (Same q) e b → Gives (can m) tab live (Test s p q) e x
   unfolding Shows
   can-unknown {m} {s} v r g h = record {
@@ -162,15 +162,15 @@ module _ {tab : Table} {live : List Bool} {e : Heard} {x : Told} where
         r ∙ ap₂ either (g .at A l (w .first) (w .left)) (h .at A l (w .later) (w .right)) ∙ doubted-can m s (w .first) (w .later) (event-of e) (v (d .0)) ∙ same-step (can m) e (w .made);
   }
 
-  pub open-chain : {p q : Part} {a b : Told} → given-of x ≡ followed (given-of a) (given-of b) → Gives (can opened) tab live (Same p) e a → Gives (can opened) tab live (Same q) e b → Gives (can opened) tab live (Chain p q) e x
+  pub open-chain : {p q : Task} {a b : GivenWords} → given-of x ≡ followed (given-of a) (given-of b) → Gives (can opened) tab live (Same p) e a → Gives (can opened) tab live (Same q) e b → Gives (can opened) tab live (Chain p q) e x
   unfolding Shows gives
   open-chain r g h = record { at = λ A l p w. r ∙ ap₂ followed (g .at A l (w .first) (w .left)) (h .at A l (w .later) (w .right)) ∙ same-step (can opened) e (w .made) }
 
 -- Both questions of one walk.
-pub walked-form : {m : Mark} {tab : Table} {live : List Bool} {c : Part} {f : Form} {e : Heard} {r : MustCan} → Formed tab live c f → Walked m tab live f e r → Walked m tab live (Same c) e r
+pub walked-form : {m : Mark} {tab : Table} {live : List Bool} {c : Task} {f : Form} {e : Heard} {r : MustCan} → Formed tab live c f → Walked m tab live f e r → Walked m tab live (Same c) e r
 walked-form h w = record { in-must = λ q. via-form h (w .in-must q); in-can = via-form h (w .in-can) }
 
-pub under : {m n : Mark} {tab : Table} {live : List Bool} {f : Form} {e : Heard} {x : Told} → m ≡ n → Gives (can m) tab live f e x → Gives (can n) tab live f e x
+pub under : {m n : Mark} {tab : Table} {live : List Bool} {f : Form} {e : Heard} {x : GivenWords} → m ≡ n → Gives (can m) tab live f e x → Gives (can n) tab live f e x
 under {tab = tab} {live} {f} {e} {x} q g = subst (λ (y : Mark). Gives (can y) tab live f e x) q g
 
 -- A sequence's second part has the mark that must's code asks for.
@@ -178,7 +178,7 @@ open-stops : (z : Bool) → can opened ≡ onward (can plus) z → z ≡ false
 open-stops true e = absurd (let z : _≡_ {A = ℕ} 0 1 = cc in omega arith)
 open-stops false e = refl
 
-module _ {tab : Table} {live : List Bool} {e : Heard} {p q : Part} {a b r : MustCan} (f : Followed r a (b .must) (b .can)) where
+module _ {tab : Table} {live : List Bool} {e : Heard} {p q : Task} {a b r : MustCan} (f : Followed r a (b .must) (b .can)) where
   chain-can : (m n : Mark) → Walked m tab live (Same p) e a → can n ≡ onward (can m) (bits (a .must .codes) 0) → Walked n tab live (Same q) e b → Gives (can m) tab live (Chain p q) e (r .can)
   chain-can plus n wa o wb =
       via-chain (bits (a .must .codes) 0) (f .in-can) (wa .in-can) (wa .in-must refl) refl (subst (λ (y : Question). Gives y tab live (Same q) e (b .can)) o (wb .in-can))
@@ -194,7 +194,7 @@ module _ {tab : Table} {live : List Bool} {e : Heard} {p q : Part} {a b r : Must
     in-can = chain-can m n wa o wb;
   }
 
-pub walked-skip : {m n : Mark} {tab : Table} {live : List Bool} {e : Heard} {p q : Part} {a r : MustCan} {x y : Told} → Followed r a x y → Walked m tab live (Same p) e a
+pub walked-skip : {m n : Mark} {tab : Table} {live : List Bool} {e : Heard} {p q : Task} {a r : MustCan} {x y : GivenWords} → Followed r a x y → Walked m tab live (Same p) e a
     → can n ≡ onward (can m) (bits (a .must .codes) 0) → n ≡ opened → bits (a .can .codes) 0 ≡ false → Walked m tab live (Chain p q) e r
 walked-skip {a = a} {x = x} {y} f wa o s z = record {
   in-must = λ h. via-skipped x (f .in-must) (wa .in-must h) (open-stops (bits (a .must .codes) 0) (ap can (sym s) ∙ o ∙ ap (λ (w : Mark). onward (can w) (bits (a .must .codes) 0)) h));
@@ -202,7 +202,7 @@ walked-skip {a = a} {x = x} {y} f wa o s z = record {
 }
 
 -- A local, asked again under its mark, or not.
-module _ {m : Mark} {tab : Table} {live : List Bool} {e u : Heard} {s : ℕ} {p : Part} {a : MustCan} (v : Status) (doubt : s < 64 → event-of u ≡ giving (event-of e) s unknown)
+module _ {m : Mark} {tab : Table} {live : List Bool} {e u : Heard} {s : ℕ} {p : Task} {a : MustCan} (v : Status) (doubt : s < 64 → event-of u ≡ giving (event-of e) s unknown)
     (wa : Walked m tab live (Same p) u a) (st : s < 64 → v ≡ local-status (can m) s (given-of (a .must)) (given-of (a .can))) where
   pub walked-local : {h : Heard} {b r : MustCan} → (s < 64 → Hidden r s b) → (s < 64 → event-of h ≡ giving (event-of e) s v) → Walked m tab live (Same p) h b → Walked m tab live (Scope s p) e r
   walked-local hid hv wb = record {
@@ -215,13 +215,13 @@ module _ {m : Mark} {tab : Table} {live : List Bool} {e u : Heard} {s : ℕ} {p 
 
 -- A call on a part: the part is placed, and smaller. The measure is twice the size; a local's or a sequence's own walk is one above its parts'.
 module _ {tab : Table} {i t : ℕ} where
-  pub call : {p : Part} → Under tab i p → 2 * getD (tab .sizes) i 0 ≡ t → (2 * getD (tab .sizes) (p .at) 0 < t) × Placed tab (p .at)
+  pub call : {p : Task} → Under tab i p → 2 * getD (tab .sizes) i 0 ≡ t → (2 * getD (tab .sizes) (p .at) 0 < t) × Placed tab (p .at)
   call u e = (omega (arith, u .smaller), u .placed)
 
-  pub call-local : {p : Part} → Under tab i p → 2 * getD (tab .sizes) i 0 ≡ t → (2 * getD (tab .sizes) (p .at) 0 + 1 < t) × Placed tab (p .at)
+  pub call-local : {p : Task} → Under tab i p → 2 * getD (tab .sizes) i 0 ≡ t → (2 * getD (tab .sizes) (p .at) 0 + 1 < t) × Placed tab (p .at)
   call-local u e = (omega (arith, u .smaller), u .placed)
 
-  pub call-chain : {p q : Part} → Under tab i p → Under tab i q → 2 * getD (tab .sizes) i 0 ≡ t
+  pub call-chain : {p q : Task} → Under tab i p → Under tab i q → 2 * getD (tab .sizes) i 0 ≡ t
       → (2 * max (getD (tab .sizes) (p .at) 0) (getD (tab .sizes) (q .at) 0) + 1 < t) × (Placed tab (p .at) × Placed tab (q .at))
   call-chain u v e = (omega (arith, u .smaller, v .smaller), (u .placed, v .placed))
 
@@ -235,8 +235,8 @@ module _ {tab : Table} {t : ℕ} where
   pub call-later : {i j : ℕ} → Placed tab i × Placed tab j → 2 * max (getD (tab .sizes) i 0) (getD (tab .sizes) j 0) + 1 ≡ t → (2 * getD (tab .sizes) j 0 < t) × Placed tab j
   call-later pl e = (omega arith, pl .1)
 
-pub told-one : {x y : Told} {g : Given} → x ≡ y → given-of y ≡ g → given-of x ≡ g
+pub told-one : {x y : GivenWords} {g : Given} → x ≡ y → given-of y ≡ g → given-of x ≡ g
 told-one e h = ap given-of e ∙ h
 
-pub told-if : {x y : Told} {P : Type 0} {g : Given} → x ≡ y → (P → given-of y ≡ g) → P → given-of x ≡ g
+pub told-if : {x y : GivenWords} {P : Type 0} {g : Given} → x ≡ y → (P → given-of y ≡ g) → P → given-of x ≡ g
 told-if e f h = ap given-of e ∙ f h

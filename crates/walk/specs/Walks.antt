@@ -8,14 +8,14 @@ use Rattle.rules.specs.Instant.{Step}
 use Rattle.rules.specs.MustCan.{Mark, plus, must, can, Question, nothing-known, either, caught, both, followed, hidden, gives}
 use Rattle.block.specs.Table.{Table}
 use Rattle.words.specs.declared.events.Heard.{Heard}
-use Rattle.words.specs.declared.given.Told.{Told}
+use Rattle.words.specs.declared.given.GivenWords.{GivenWords}
 use Rattle.words.specs.declared.given.MustCan.{MustCan}
 use Rattle.forms.specs.declared.form.Form.{Form}
 use Rattle.words.specs.Words.{event-of, given-of}
 use Rattle.forms.specs.Forms.{Live, Shows}
 
 -- Each rule, for must and for can.
-pub record Doubted (r : MustCan) (p q : Told) : Type 0 where
+pub record Doubted (r : MustCan) (p q : GivenWords) : Type 0 where
   pub in-must : given-of (r .must) ≡ nothing-known
   pub in-can : given-of (r .can) ≡ either (given-of p) (given-of q)
 
@@ -23,11 +23,11 @@ pub record Caught (r a : MustCan) : Type 0 where
   pub in-must : given-of (r .must) ≡ caught (given-of (a .must))
   pub in-can : given-of (r .can) ≡ caught (given-of (a .can))
 
-pub record Beside (r a b : MustCan) : Type 0 where
+pub record Both (r a b : MustCan) : Type 0 where
   pub in-must : given-of (r .must) ≡ both (given-of (a .must)) (given-of (b .must))
   pub in-can : given-of (r .can) ≡ both (given-of (a .can)) (given-of (b .can))
 
-pub record Followed (r a : MustCan) (m c : Told) : Type 0 where
+pub record Followed (r a : MustCan) (m c : GivenWords) : Type 0 where
   pub in-must : given-of (r .must) ≡ followed (given-of (a .must)) (given-of m)
   pub in-can : given-of (r .can) ≡ followed (given-of (a .can)) (given-of c)
 
@@ -36,7 +36,7 @@ pub record Hidden (r : MustCan) (s : ℕ) (a : MustCan) : Type 0 where
   pub in-can : given-of (r .can) ≡ hidden s (given-of (a .can))
 
 -- The words are what the question gives, for whatever the form shows; a part is the form `Same`.
-pub record Gives (k : Question) (tab : Table) (live : List Bool) (f : Form) (e : Heard) (x : Told) : Type 0 where
+pub record Gives (k : Question) (tab : Table) (live : List Bool) (f : Form) (e : Heard) (x : GivenWords) : Type 0 where
   pub at : (A : Numbers) → Live tab A live → (p : Step) → Shows tab A f p → given-of x ≡ gives k p (event-of e)
 
 -- Can under a mark, and must if the mark is plus.

@@ -2,78 +2,79 @@
 use block::kinds::Code;
 use block::kinds::code_of;
 use forms::form::Form;
-use forms::form::Part;
+use forms::form::Task;
 use forms::form::form_of;
 use words::events::Heard;
 use words::events::Seen;
 use words::events::heard_with;
 use words::events::status_at;
 use words::events::still_unknown;
+use words::given::GivenWords;
 use words::given::Mark;
 use words::given::MustCan;
-use words::given::Told;
-use words::given::both_told;
-use words::given::caught_told;
-use words::given::either_told;
-use words::given::followed_told;
+use words::given::both_given;
+use words::given::caught_given;
+use words::given::either_given;
+use words::given::followed_given;
 use words::given::goes_on;
-use words::given::hidden_told;
+use words::given::hidden_given;
 use words::given::mark_onward;
-use words::given::nothing_told;
+use words::given::nothing_given;
 use words::given::saying;
 use words::given::settled_for;
 use words::given::silent;
 ghost use mathlib.Core.Path.{_≡_};
 ghost use Prim.Native.Nat.{_<_};
 ghost use Rattle.words.specs.Words.{mark-of};
-ghost use Rattle.forms.specs.Forms.{table, Placed};
-ghost use Rattle.walk.specs.Walks.{Caught, Beside, Followed, Hidden, Doubted, Walked};
+ghost use Rattle.block.specs.Told.{table-of};
+ghost use Rattle.forms.specs.Forms.{Placed};
+ghost use Rattle.walk.specs.Walks.{Caught, Both, Followed, Hidden, Doubted, Walked};
 
 // What is known to be given: must and can agree.
-fn sure(a: Told) -> MustCan
+fn sure(a: GivenWords) -> MustCan
     ensures { λ r. ⌜ (r .must ≡ a) × (r .can ≡ a) ⌝ }
 {
     MustCan { must: a, can: a }
 }
 
 // A status that is not known: must is empty with no code, can is the union.
-fn doubted(p: Told, q: Told) -> MustCan
+fn doubted(p: GivenWords, q: GivenWords) -> MustCan
     ensures { λ r. ⌜ Doubted r p q ⌝ }
 {
-    let must = nothing_told();
-    let can = either_told(p, q);
+    let must = nothing_given();
+    let can = either_given(p, q);
     MustCan { must, can }
 }
 
 fn caught(a: MustCan) -> MustCan
     ensures { λ r. ⌜ Caught r a ⌝ }
 {
-    let must = caught_told(a.must);
-    let can = caught_told(a.can);
+    let must = caught_given(a.must);
+    let can = caught_given(a.can);
     MustCan { must, can }
 }
 
 fn beside(a: MustCan, b: MustCan) -> MustCan
-    ensures { λ r. ⌜ Beside r a b ⌝ }
+    ensures { λ r. ⌜ Both r a b ⌝ }
 {
-    let must = both_told(a.must, b.must);
-    let can = both_told(a.can, b.can);
+    let must = both_given(a.must, b.must);
+    let can = both_given(a.can, b.can);
     MustCan { must, can }
 }
 
-fn followed(a: MustCan, m: Told, c: Told) -> MustCan
+fn followed(a: MustCan, m: GivenWords, c: GivenWords) -> MustCan
     ensures { λ r. ⌜ Followed r a m c ⌝ }
 {
-    let must = followed_told(a.must, m);
-    let can = followed_told(a.can, c);
+    let must = followed_given(a.must, m);
+    let can = followed_given(a.can, c);
     MustCan { must, can }
 }
 
 fn hidden(s: u16, a: MustCan) -> MustCan
     ensures { λ r. ⌜ (s < 64 → Hidden r s a) ⌝ }
 {
-    let must = hidden_told(s, a.must);
-    let can = hidden_told(s, a.can);
+    let must = hidden_given(s, a.must);
+    let can = hidden_given(s, a.can);
     MustCan { must, can }
 }
 
@@ -84,13 +85,13 @@ pub fn must_can(
     sizes: &[u16; 512],
     live: &[bool; 512],
     mark: Mark,
-    part: Part,
+    task: Task,
     e: Heard,
 ) -> MustCan
-    requires { ⌜ Placed (table (now kinds) (now operands) (now sizes)) (part .at) ⌝ }
-    ensures { λ r. ⌜ Walked (mark-of mark) (table (now (kinds .entry)) (now (operands .entry)) (now (sizes .entry))) (now (live .entry)) (Form.Same part) e r ⌝ }
+    requires { ⌜ Placed (table-of (now kinds) (now operands) (now sizes)) (task .at) ⌝ }
+    ensures { λ r. ⌜ Walked (mark-of mark) (table-of (now (kinds .entry)) (now (operands .entry)) (now (sizes .entry))) (now (live .entry)) (Form.Same task) e r ⌝ }
 {
-    let form = form_of(kinds, operands, sizes, live, part);
+    let form = form_of(kinds, operands, sizes, live, task);
     match form {
         Form::Done => sure(silent(Code(0))),
         Form::Stay(_) => sure(silent(Code(1))),
@@ -125,11 +126,11 @@ fn must_can_local(
     live: &[bool; 512],
     mark: Mark,
     s: u16,
-    p: Part,
+    p: Task,
     e: Heard,
 ) -> MustCan
-    requires { ⌜ Placed (table (now kinds) (now operands) (now sizes)) (p .at) ⌝ }
-    ensures { λ r. ⌜ Walked (mark-of mark) (table (now (kinds .entry)) (now (operands .entry)) (now (sizes .entry))) (now (live .entry)) (Form.Scope s p) e r ⌝ }
+    requires { ⌜ Placed (table-of (now kinds) (now operands) (now sizes)) (p .at) ⌝ }
+    ensures { λ r. ⌜ Walked (mark-of mark) (table-of (now (kinds .entry)) (now (operands .entry)) (now (sizes .entry))) (now (live .entry)) (Form.Scope s p) e r ⌝ }
 {
     let doubt = heard_with(e, s, Seen::Unknown);
     let a = must_can(kinds, operands, sizes, live, mark, p, doubt);
@@ -148,12 +149,12 @@ fn must_can_chain(
     sizes: &[u16; 512],
     live: &[bool; 512],
     mark: Mark,
-    p: Part,
-    q: Part,
+    p: Task,
+    q: Task,
     e: Heard,
 ) -> MustCan
-    requires { ⌜ Placed (table (now kinds) (now operands) (now sizes)) (p .at) × Placed (table (now kinds) (now operands) (now sizes)) (q .at) ⌝ }
-    ensures { λ r. ⌜ Walked (mark-of mark) (table (now (kinds .entry)) (now (operands .entry)) (now (sizes .entry))) (now (live .entry)) (Form.Chain p q) e r ⌝ }
+    requires { ⌜ Placed (table-of (now kinds) (now operands) (now sizes)) (p .at) × Placed (table-of (now kinds) (now operands) (now sizes)) (q .at) ⌝ }
+    ensures { λ r. ⌜ Walked (mark-of mark) (table-of (now (kinds .entry)) (now (operands .entry)) (now (sizes .entry))) (now (live .entry)) (Form.Chain p q) e r ⌝ }
 {
     let a = must_can(kinds, operands, sizes, live, mark, p, e);
     let onward = mark_onward(mark, a.must.codes);
@@ -161,6 +162,6 @@ fn must_can_chain(
         let b = must_can(kinds, operands, sizes, live, onward, q, e);
         return followed(a, b.must, b.can);
     }
-    let nothing = nothing_told();
+    let nothing = nothing_given();
     followed(a, nothing, nothing)
 }

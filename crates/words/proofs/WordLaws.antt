@@ -11,7 +11,7 @@ use Rattle.sets.proofs.Words.{bits-zero, bits-or, bits-less, bits-mask-test, is
 use Rattle.rules.specs.Events.{Status, present, absent, unknown, giving, status-of}
 use Rattle.rules.specs.MustCan.{plus, opened, can, Given, nothing-known, either, caught, both, followed, marked, local-status, hidden}
 use Rattle.words.specs.declared.events.Heard.{Heard}
-use Rattle.words.specs.declared.given.Told.{Told}
+use Rattle.words.specs.declared.given.GivenWords.{GivenWords}
 use Rattle.words.specs.declared.given.MustCan.{MustCan}
 use Rattle.words.specs.declared.events.Seen.{Seen}
 use Rattle.words.specs.Words.{event-of, seen-as, given-of, quiet, loud}
@@ -109,15 +109,15 @@ nothing-is = given-eq bits-none bits-none
 pub union-is : (x y : ℕ) → bits (bitOr x y) ≡ union (bits x) (bits y)
 union-is x y = ext (bits-or x y)
 
-pub either-is : (a b : Told) → given-of (record { signals = bitOr (a .signals) (b .signals); codes = bitOr (a .codes) (b .codes) }) ≡ either (given-of a) (given-of b)
+pub either-is : (a b : GivenWords) → given-of (record { signals = bitOr (a .signals) (b .signals); codes = bitOr (a .codes) (b .codes) }) ≡ either (given-of a) (given-of b)
 unfolding given-of
 either-is a b = given-eq (union-is (a .signals) (b .signals)) (union-is (a .codes) (b .codes))
 
-pub caught-is : (a : Told) (w : ℕ) → bits w ≡ downs (bits (a .codes)) → given-of (record { signals = a .signals; codes = w }) ≡ caught (given-of a)
+pub caught-is : (a : GivenWords) (w : ℕ) → bits w ≡ downs (bits (a .codes)) → given-of (record { signals = a .signals; codes = w }) ≡ caught (given-of a)
 unfolding given-of
 caught-is a w e = given-eq refl e
 
-pub both-is : (a b : Told) (w : ℕ) → bits w ≡ maxima (bits (a .codes)) (bits (b .codes))
+pub both-is : (a b : GivenWords) (w : ℕ) → bits w ≡ maxima (bits (a .codes)) (bits (b .codes))
     → given-of (record { signals = bitOr (a .signals) (b .signals); codes = w }) ≡ both (given-of a) (given-of b)
 unfolding given-of
 both-is a b w e = given-eq (union-is (a .signals) (b .signals)) e
@@ -132,7 +132,7 @@ rest-is a = ext (λ n. without-bit a 1 0 (is-set (is-single 0)) n)
 pub goes-on : (a b : ℕ) → bits a 0 ≡ true → bits (bitOr (bitAnd a (bitXor a 1)) b) ≡ union (without 0 (bits a)) (only-if (bits a 0) (bits b))
 goes-on a b e = union-is (bitAnd a (bitXor a 1)) b ∙ ap₂ (λ (x : Numbers) (z : Bool). union x (only-if z (bits b))) (rest-is a) (sym e)
 
-module _ (a b : Told) (w : ℕ) (codes : bits w ≡ union (without 0 (bits (a .codes))) (only-if (bits (a .codes) 0) (bits (b .codes)))) where
+module _ (a b : GivenWords) (w : ℕ) (codes : bits w ≡ union (without 0 (bits (a .codes))) (only-if (bits (a .codes) 0) (bits (b .codes)))) where
   pub followed-on : bits (a .codes) 0 ≡ true → given-of (record { signals = bitOr (a .signals) (b .signals); codes = w }) ≡ followed (given-of a) (given-of b)
   unfolding given-of
   followed-on e = given-eq (union-is (a .signals) (b .signals) ∙ ap (λ (z : Bool). union (bits (a .signals)) (only-if z (bits (b .signals)))) (sym e)) codes
@@ -142,7 +142,7 @@ module _ (a b : Told) (w : ℕ) (codes : bits w ≡ union (without 0 (bits (a .c
   followed-not e = given-eq (or-empty (bits (a .signals)) ∙ ap (λ (z : Bool). union (bits (a .signals)) (only-if z (bits (b .signals)))) (sym e)) codes
 
 -- A local.
-pub hidden-is : (a : Told) (b s : ℕ) → bits b ≡ single s → given-of (record { signals = bitAnd (a .signals) (bitXor (a .signals) b); codes = a .codes }) ≡ hidden s (given-of a)
+pub hidden-is : (a : GivenWords) (b s : ℕ) → bits b ≡ single s → given-of (record { signals = bitAnd (a .signals) (bitXor (a .signals) b); codes = a .codes }) ≡ hidden s (given-of a)
 unfolding given-of
 hidden-is a b s one = given-eq (ext (without-bit (a .signals) b s one)) refl
 

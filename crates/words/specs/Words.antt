@@ -7,7 +7,7 @@ use Rattle.sets.specs.Words.{bits, set-of}
 use Rattle.rules.specs.Events.{Status, present, absent, unknown, Event, Hearing, status-of}
 use Rattle.rules.specs.MustCan.{Mark, plus, opened, Given}
 use Rattle.words.specs.declared.events.Heard.{Heard}
-use Rattle.words.specs.declared.given.Told.{Told}
+use Rattle.words.specs.declared.given.GivenWords.{GivenWords}
 use Rattle.words.specs.declared.pauses.Kept.{Kept}
 use Rattle.words.specs.declared.given.Mark as code
 use Rattle.words.specs.declared.given.Mark.the-variants.{Plus, Open}
@@ -34,7 +34,7 @@ mark-of Plus = plus
 mark-of Open = opened
 
 -- The signals and the codes of two words.
-unfoldable pub given-of : Told → Given
+unfoldable pub given-of : GivenWords → Given
 given-of g = record { signals = bits (g .signals); codes = bits (g .codes) }
 
 -- No signal and one code; one signal and code 0.

@@ -17,15 +17,15 @@ ghost use Rattle.rules.specs.MustCan.{can, nothing-known, either, caught, both,
 ghost use Rattle.words.specs.Words.{given-of, seen-as, mark-of, quiet, loud};
 
 // What must, or can with a mark, gives.
-pub struct Told {
+pub struct GivenWords {
     pub signals: u64,
     pub codes: u32,
 }
 
 // What must and can give; under open mark only can is meant.
 pub struct MustCan {
-    pub must: Told,
-    pub can: Told,
+    pub must: GivenWords,
+    pub can: GivenWords,
 }
 
 // Can's mark: plus (surely executed) or open.
@@ -35,58 +35,58 @@ pub enum Mark {
 }
 
 // No signal and one code.
-pub fn silent(c: Code) -> Told
+pub fn silent(c: Code) -> GivenWords
     ensures { λ r. ⌜ (c .0 < 32 → given-of r ≡ quiet (c .0)) ⌝ }
 {
     let codes = code_bit(c);
-    Told { signals: 0, codes }
+    GivenWords { signals: 0, codes }
 }
 
 // One signal and code 0.
-pub fn saying(s: u16) -> Told
+pub fn saying(s: u16) -> GivenWords
     ensures { λ r. ⌜ (s < 64 → given-of r ≡ loud s) ⌝ }
 {
     let signals = bit(s);
-    Told { signals, codes: 1 }
+    GivenWords { signals, codes: 1 }
 }
 
 // No signal and no code.
-pub fn nothing_told() -> Told
+pub fn nothing_given() -> GivenWords
     ensures { λ r. ⌜ given-of r ≡ nothing-known ⌝ }
 {
-    Told {
+    GivenWords {
         signals: 0,
         codes: 0,
     }
 }
 
 // The union of two branches.
-pub fn either_told(a: Told, b: Told) -> Told
+pub fn either_given(a: GivenWords, b: GivenWords) -> GivenWords
     ensures { λ r. ⌜ given-of r ≡ either (given-of a) (given-of b) ⌝ }
 {
-    Told {
+    GivenWords {
         signals: a.signals | b.signals,
         codes: a.codes | b.codes,
     }
 }
 
 // A trap.
-pub fn caught_told(a: Told) -> Told
+pub fn caught_given(a: GivenWords) -> GivenWords
     ensures { λ r. ⌜ given-of r ≡ caught (given-of a) ⌝ }
 {
     let codes = lowered(a.codes);
-    Told {
+    GivenWords {
         signals: a.signals,
         codes,
     }
 }
 
 // A parallel.
-pub fn both_told(a: Told, b: Told) -> Told
+pub fn both_given(a: GivenWords, b: GivenWords) -> GivenWords
     ensures { λ r. ⌜ given-of r ≡ both (given-of a) (given-of b) ⌝ }
 {
     let codes = larger(a.codes, b.codes);
-    Told {
+    GivenWords {
         signals: a.signals | b.signals,
         codes,
     }
@@ -100,17 +100,17 @@ pub fn gives_zero(codes: u32) -> bool
 }
 
 // A sequence.
-pub fn followed_told(a: Told, b: Told) -> Told
+pub fn followed_given(a: GivenWords, b: GivenWords) -> GivenWords
     ensures { λ r. ⌜ given-of r ≡ followed (given-of a) (given-of b) ⌝ }
 {
     let codes = followed_codes(a.codes, b.codes);
     if gives_zero(a.codes) {
-        Told {
+        GivenWords {
             signals: a.signals | b.signals,
             codes,
         }
     } else {
-        Told {
+        GivenWords {
             signals: a.signals,
             codes,
         }
@@ -118,11 +118,11 @@ pub fn followed_told(a: Told, b: Told) -> Told
 }
 
 // A local's signal removed.
-pub fn hidden_told(s: u16, a: Told) -> Told
+pub fn hidden_given(s: u16, a: GivenWords) -> GivenWords
     ensures { λ r. ⌜ (s < 64 → given-of r ≡ hidden s (given-of a)) ⌝ }
 {
     let b = bit(s);
-    Told {
+    GivenWords {
         signals: a.signals & (a.signals ^ b),
         codes: a.codes,
     }

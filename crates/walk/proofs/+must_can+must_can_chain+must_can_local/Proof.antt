@@ -3,7 +3,7 @@
 use mathlib.Core.Path.{ap}
 use lib.Dec.{lit<}
 use Rattle.words.specs.Words.{seen-as, mark-of}
-use Rattle.forms.specs.Forms.{Below}
+use Rattle.forms.specs.Forms.{TasksUnder}
 use Rattle.walk.proofs.Steps.{walked-form, walked-chain, walked-skip, walked-local, walked-same, call, call-local, call-chain, call-first, call-later, call-inner, told-one, told-if}
 use Rattle.words.proofs.WordLaws.{told-as}
 use Rattle.forms.proofs.FormLaws.{formed}
@@ -32,7 +32,7 @@ use Rattle.block.proofs.kinds.code_of.Reads as code-of-reads
 use Rattle.words.proofs.given.goes_on.Reads as goes-on-reads
 use Rattle.words.proofs.events.heard_with.Reads as heard-with-reads
 use Rattle.words.proofs.given.mark_onward.Reads as mark-onward-reads
-use Rattle.words.proofs.given.nothing_told.Reads as nothing-told-reads
+use Rattle.words.proofs.given.nothing_given.Reads as nothing-given-reads
 use Rattle.words.proofs.given.saying.Reads as saying-reads
 use Rattle.words.proofs.given.settled_for.Reads as settled-for-reads
 use Rattle.words.proofs.given.silent.Reads as silent-reads
@@ -93,7 +93,7 @@ abbrev must-can-claims : ℕ → must-can-lts.Claims
 must-can-claims t = (form-of-reads.Asked, form-of-reads.Learnt, silent-reads.Asked, silent-reads.Learnt, sure-reads.Asked, sure-reads.Learnt, saying-reads.Asked, saying-reads.Learnt, code-of-reads.Asked, code-of-reads.Learnt, status-at-reads.Asked, status-at-reads.Learnt, must-can-below t, must-can.Post, doubted-reads.Asked, doubted-reads.Learnt, caught-reads.Asked, caught-reads.Learnt, must-can-local-below t, must-can-local.Post, must-can-chain-below t, must-can-chain.Post, beside-reads.Asked, beside-reads.Learnt)
 
 abbrev must-can-chain-claims : ℕ → must-can-chain-lts.Claims
-must-can-chain-claims t = (must-can-below t, must-can.Post, mark-onward-reads.Asked, mark-onward-reads.Learnt, goes-on-reads.Asked, goes-on-reads.Learnt, followed-reads.Asked, followed-reads.Learnt, nothing-told-reads.Asked, nothing-told-reads.Learnt)
+must-can-chain-claims t = (must-can-below t, must-can.Post, mark-onward-reads.Asked, mark-onward-reads.Learnt, goes-on-reads.Asked, goes-on-reads.Learnt, followed-reads.Asked, followed-reads.Learnt, nothing-given-reads.Asked, nothing-given-reads.Learnt)
 
 abbrev must-can-local-claims : ℕ → must-can-local-lts.Claims
 must-can-local-claims t = (heard-with-reads.Asked, heard-with-reads.Learnt, must-can-below t, must-can.Post, settled-for-reads.Asked, settled-for-reads.Learnt, still-unknown-reads.Asked, still-unknown-reads.Learnt, hidden-reads.Asked, hidden-reads.Learnt)
@@ -159,26 +159,26 @@ must-can-enum-told-4 : (t : ℕ) → must-can-lts.Need-enum-told-4 (must-can-cla
 must-can-enum-told-4 t c = c .match2 .keys1
 
 must-can-must-can-requires : (t : ℕ) → must-can-lts.Need-must-can-requires (must-can-claims t) (must-can-at t) must-can.Post
-unfolding Below
-must-can-must-can-requires t c κs = call ((formed (c .before .before .before .before .before .before .form-of .ensures) (c .before .before .before .before .form3 .given .1)) .below .0) (c .before .before .before .before .before .before .before .pre .0)
+unfolding TasksUnder
+must-can-must-can-requires t c κs = call ((formed (c .before .before .before .before .before .before .form-of .ensures) (c .before .before .before .before .form3 .given .1)) .tasks-under .0) (c .before .before .before .before .before .before .before .pre .0)
 
 must-can-enum-told-5 : (t : ℕ) → must-can-lts.Need-enum-told-5 (must-can-claims t) (must-can-at t) must-can.Post
 must-can-enum-told-5 t c = c .match2 .keys2
 
 must-can-must-can-requires-2 : (t : ℕ) → must-can-lts.Need-must-can-requires-2 (must-can-claims t) (must-can-at t) must-can.Post
-unfolding Below
-must-can-must-can-requires-2 t c κs = call ((formed (c .before .before .before .before .before .before .form-of .ensures) (c .before .before .before .before .form3 .given .1)) .below .1) (c .before .before .before .before .before .before .before .pre .0)
+unfolding TasksUnder
+must-can-must-can-requires-2 t c κs = call ((formed (c .before .before .before .before .before .before .form-of .ensures) (c .before .before .before .before .form3 .given .1)) .tasks-under .1) (c .before .before .before .before .before .before .before .pre .0)
 
 must-can-enum-told-6 : (t : ℕ) → must-can-lts.Need-enum-told-6 (must-can-claims t) (must-can-at t) must-can.Post
 must-can-enum-told-6 t c = c .match2 .keys3
 
 must-can-must-can-requires-3 : (t : ℕ) → must-can-lts.Need-must-can-requires-3 (must-can-claims t) (must-can-at t) must-can.Post
-unfolding Below
-must-can-must-can-requires-3 t c κs = call ((formed (c .before .before .before .before .before .before .form-of .ensures) (c .before .before .before .before .form3 .given .1)) .below .0) (c .before .before .before .before .before .before .before .pre .0)
+unfolding TasksUnder
+must-can-must-can-requires-3 t c κs = call ((formed (c .before .before .before .before .before .before .form-of .ensures) (c .before .before .before .before .form3 .given .1)) .tasks-under .0) (c .before .before .before .before .before .before .before .pre .0)
 
 must-can-must-can-requires-4 : (t : ℕ) → must-can-lts.Need-must-can-requires-4 (must-can-claims t) (must-can-at t) must-can.Post
-unfolding Below
-must-can-must-can-requires-4 t c κs = call ((formed (c .before .before .before .before .before .before .before .form-of .ensures) (c .before .before .before .before .before .form3 .given .1)) .below .1) (c .before .before .before .before .before .before .before .before .pre .0)
+unfolding TasksUnder
+must-can-must-can-requires-4 t c κs = call ((formed (c .before .before .before .before .before .before .before .form-of .ensures) (c .before .before .before .before .before .form3 .given .1)) .tasks-under .1) (c .before .before .before .before .before .before .before .before .pre .0)
 
 must-can-doubted-requires : (t : ℕ) → must-can-lts.Need-doubted-requires (must-can-claims t) (must-can-at t) must-can.Post
 must-can-doubted-requires t c κs = tt
@@ -187,8 +187,8 @@ must-can-enum-known-form-4 : (t : ℕ) → must-can-lts.Need-enum-known-form-4 (
 must-can-enum-known-form-4 t c = c .match .keys7
 
 must-can-must-can-requires-5 : (t : ℕ) → must-can-lts.Need-must-can-requires-5 (must-can-claims t) (must-can-at t) must-can.Post
-unfolding Below
-must-can-must-can-requires-5 t c κs = call ((formed (c .before .before .before .form-of .ensures) (c .before .form4 .given .1)) .below) (c .before .before .before .before .pre .0)
+unfolding TasksUnder
+must-can-must-can-requires-5 t c κs = call ((formed (c .before .before .before .form-of .ensures) (c .before .form4 .given .1)) .tasks-under) (c .before .before .before .before .pre .0)
 
 must-can-caught-requires : (t : ℕ) → must-can-lts.Need-caught-requires (must-can-claims t) (must-can-at t) must-can.Post
 must-can-caught-requires t c κs = tt
@@ -197,26 +197,26 @@ must-can-enum-known-form-5 : (t : ℕ) → must-can-lts.Need-enum-known-form-5 (
 must-can-enum-known-form-5 t c = c .match .keys8
 
 must-can-must-can-local-requires : (t : ℕ) → must-can-lts.Need-must-can-local-requires (must-can-claims t) (must-can-at t) must-can.Post
-unfolding Below
-must-can-must-can-local-requires t c κs = call-local ((formed (c .before .before .before .form-of .ensures) (c .before .form5 .given .1)) .below) (c .before .before .before .before .pre .0)
+unfolding TasksUnder
+must-can-must-can-local-requires t c κs = call-local ((formed (c .before .before .before .form-of .ensures) (c .before .form5 .given .1)) .tasks-under) (c .before .before .before .before .pre .0)
 
 must-can-enum-known-form-6 : (t : ℕ) → must-can-lts.Need-enum-known-form-6 (must-can-claims t) (must-can-at t) must-can.Post
 must-can-enum-known-form-6 t c = c .match .keys9
 
 must-can-must-can-chain-requires : (t : ℕ) → must-can-lts.Need-must-can-chain-requires (must-can-claims t) (must-can-at t) must-can.Post
-unfolding Below
-must-can-must-can-chain-requires t c κs = call-chain ((formed (c .before .before .before .form-of .ensures) (c .before .form6 .given .1)) .below .0) ((formed (c .before .before .before .form-of .ensures) (c .before .form6 .given .1)) .below .1) (c .before .before .before .before .pre .0)
+unfolding TasksUnder
+must-can-must-can-chain-requires t c κs = call-chain ((formed (c .before .before .before .form-of .ensures) (c .before .form6 .given .1)) .tasks-under .0) ((formed (c .before .before .before .form-of .ensures) (c .before .form6 .given .1)) .tasks-under .1) (c .before .before .before .before .pre .0)
 
 must-can-enum-known-form-7 : (t : ℕ) → must-can-lts.Need-enum-known-form-7 (must-can-claims t) (must-can-at t) must-can.Post
 must-can-enum-known-form-7 t c = c .match .keys10
 
 must-can-must-can-requires-6 : (t : ℕ) → must-can-lts.Need-must-can-requires-6 (must-can-claims t) (must-can-at t) must-can.Post
-unfolding Below
-must-can-must-can-requires-6 t c κs = call ((formed (c .before .before .before .form-of .ensures) (c .before .form7 .given .1)) .below .0) (c .before .before .before .before .pre .0)
+unfolding TasksUnder
+must-can-must-can-requires-6 t c κs = call ((formed (c .before .before .before .form-of .ensures) (c .before .form7 .given .1)) .tasks-under .0) (c .before .before .before .before .pre .0)
 
 must-can-must-can-requires-7 : (t : ℕ) → must-can-lts.Need-must-can-requires-7 (must-can-claims t) (must-can-at t) must-can.Post
-unfolding Below
-must-can-must-can-requires-7 t c κs = call ((formed (c .before .before .before .before .form-of .ensures) (c .before .before .form7 .given .1)) .below .1) (c .before .before .before .before .before .pre .0)
+unfolding TasksUnder
+must-can-must-can-requires-7 t c κs = call ((formed (c .before .before .before .before .form-of .ensures) (c .before .before .form7 .given .1)) .tasks-under .1) (c .before .before .before .before .before .pre .0)
 
 must-can-beside-requires : (t : ℕ) → must-can-lts.Need-beside-requires (must-can-claims t) (must-can-at t) must-can.Post
 must-can-beside-requires t c κs = tt
@@ -225,8 +225,8 @@ must-can-enum-known-form-8 : (t : ℕ) → must-can-lts.Need-enum-known-form-8 (
 must-can-enum-known-form-8 t c = c .match .keys11
 
 must-can-must-can-requires-8 : (t : ℕ) → must-can-lts.Need-must-can-requires-8 (must-can-claims t) (must-can-at t) must-can.Post
-unfolding Below
-must-can-must-can-requires-8 t c κs = call ((formed (c .before .before .before .form-of .ensures) (c .before .form8 .given .1)) .below) (c .before .before .before .before .pre .0)
+unfolding TasksUnder
+must-can-must-can-requires-8 t c κs = call ((formed (c .before .before .before .form-of .ensures) (c .before .form8 .given .1)) .tasks-under) (c .before .before .before .before .pre .0)
 
 must-can-returns : (t : ℕ) → must-can-lts.Need-returns (must-can-claims t) (must-can-at t) must-can.Post
 must-can-returns t c = walked-form (formed (c .before .before .before .before .form-of .ensures) (c .before .before .enum-told .given .1)) (record { in-must = λ h. via-done (told-one (c .sure .ensures .0) (c .before .silent .ensures (lit< tt))); in-can = via-done (told-one (c .sure .ensures .1) (c .before .silent .ensures (lit< tt))) })
@@ -285,8 +285,8 @@ must-can-chain-followed-requires t c κs = tt
 must-can-chain-returns : (t : ℕ) → must-can-chain-lts.Need-returns (must-can-chain-claims t) (must-can-chain-at t) must-can-chain.Post
 must-can-chain-returns t c = walked-chain (c .followed .ensures) (c .before .before .before .before .before .must-can .ensures) (c .before .before .before .before .mark-onward .ensures) (c .before .must-can2 .ensures)
 
-must-can-chain-nothing-told-requires : (t : ℕ) → must-can-chain-lts.Need-nothing-told-requires (must-can-chain-claims t) (must-can-chain-at t) must-can-chain.Post
-must-can-chain-nothing-told-requires t c κs = tt
+must-can-chain-nothing-given-requires : (t : ℕ) → must-can-chain-lts.Need-nothing-given-requires (must-can-chain-claims t) (must-can-chain-at t) must-can-chain.Post
+must-can-chain-nothing-given-requires t c κs = tt
 
 must-can-chain-followed-requires-2 : (t : ℕ) → must-can-chain-lts.Need-followed-requires-2 (must-can-chain-claims t) (must-can-chain-at t) must-can-chain.Post
 must-can-chain-followed-requires-2 t c κs = tt
@@ -391,7 +391,7 @@ pub +must-can+must-can-chain+must-can-local-spec : {M : Type 1} → statement M
     (must-can-chain-must-can-requires-2 t)
     (must-can-chain-followed-requires t)
     (must-can-chain-returns t)
-    (must-can-chain-nothing-told-requires t)
+    (must-can-chain-nothing-given-requires t)
     (must-can-chain-followed-requires-2 t)
     (must-can-chain-returns-2 t))
     λ t. must-can-local-lts.spec (must-can-local-claims t)

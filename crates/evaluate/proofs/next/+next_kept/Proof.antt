@@ -5,9 +5,9 @@ use lib.Dec.{lit<}
 use lib.ListN.{getD}
 use Rattle.sets.specs.Words.{set-of}
 use Rattle.words.specs.Words.{seen-as}
-use Rattle.forms.specs.Forms.{Below}
+use Rattle.forms.specs.Forms.{TasksUnder}
 use Rattle.words.proofs.WordLaws.{told-as}
-use Rattle.forms.proofs.FormLaws.{formed, call-part}
+use Rattle.forms.proofs.FormLaws.{formed, call-task}
 use Rattle.evaluate.proofs.KeptSteps.{keep-form, keep-done, keep-say, keep-leave, keep-stay, keep-held, keep-present, keep-absent, keep-unknown, keep-catch, keep-beside, keep-chain, keep-skip, keep-scope}
 use Prim.Native.Nat.{ℕ, _<_}
 use borrow.Fn.Kinds.{In}
@@ -69,8 +69,8 @@ next-kept-enum-known-form-2 : (t : ℕ) → next-kept-lts.Need-enum-known-form-2
 next-kept-enum-known-form-2 t c = c .match .keys3
 
 next-kept-held-pauses-requires : (t : ℕ) → next-kept-lts.Need-held-pauses-requires (next-kept-claims t) (next-kept-at t) next-kept.Post
-unfolding Below
-next-kept-held-pauses-requires t c κs = (formed (c .before .before .before .kept-form .ensures) (c .before .form2 .given .1)) .below
+unfolding TasksUnder
+next-kept-held-pauses-requires t c κs = (formed (c .before .before .before .kept-form .ensures) (c .before .form2 .given .1)) .tasks-under
 
 next-kept-kept-here-requires-2 : (t : ℕ) → next-kept-lts.Need-kept-here-requires-2 (next-kept-claims t) (next-kept-at t) next-kept.Post
 next-kept-kept-here-requires-2 t c κs = tt
@@ -100,8 +100,8 @@ next-kept-enum-told-3 : (t : ℕ) → next-kept-lts.Need-enum-told-3 (next-kept-
 next-kept-enum-told-3 t c = c .match2 .keys1
 
 next-kept-next-kept-requires : (t : ℕ) → next-kept-lts.Need-next-kept-requires (next-kept-claims t) (next-kept-at t) next-kept.Post
-unfolding Below
-next-kept-next-kept-requires t c κs = call-part ((formed (c .before .before .before .before .before .before .kept-form .ensures) (c .before .before .before .before .form4 .given .1)) .below .0) (c .before .before .before .before .before .before .before .pre .0)
+unfolding TasksUnder
+next-kept-next-kept-requires t c κs = call-task ((formed (c .before .before .before .before .before .before .kept-form .ensures) (c .before .before .before .before .form4 .given .1)) .tasks-under .0) (c .before .before .before .before .before .before .before .pre .0)
 
 next-kept-kept-again-requires : (t : ℕ) → next-kept-lts.Need-kept-again-requires (next-kept-claims t) (next-kept-at t) next-kept.Post
 next-kept-kept-again-requires t c κs = tt
@@ -110,8 +110,8 @@ next-kept-enum-told-4 : (t : ℕ) → next-kept-lts.Need-enum-told-4 (next-kept-
 next-kept-enum-told-4 t c = c .match2 .keys2
 
 next-kept-next-kept-requires-2 : (t : ℕ) → next-kept-lts.Need-next-kept-requires-2 (next-kept-claims t) (next-kept-at t) next-kept.Post
-unfolding Below
-next-kept-next-kept-requires-2 t c κs = call-part ((formed (c .before .before .before .before .before .before .kept-form .ensures) (c .before .before .before .before .form4 .given .1)) .below .1) (c .before .before .before .before .before .before .before .pre .0)
+unfolding TasksUnder
+next-kept-next-kept-requires-2 t c κs = call-task ((formed (c .before .before .before .before .before .before .kept-form .ensures) (c .before .before .before .before .form4 .given .1)) .tasks-under .1) (c .before .before .before .before .before .before .before .pre .0)
 
 next-kept-kept-again-requires-2 : (t : ℕ) → next-kept-lts.Need-kept-again-requires-2 (next-kept-claims t) (next-kept-at t) next-kept.Post
 next-kept-kept-again-requires-2 t c κs = tt
@@ -126,8 +126,8 @@ next-kept-enum-known-form-5 : (t : ℕ) → next-kept-lts.Need-enum-known-form-5
 next-kept-enum-known-form-5 t c = c .match .keys7
 
 next-kept-next-kept-requires-3 : (t : ℕ) → next-kept-lts.Need-next-kept-requires-3 (next-kept-claims t) (next-kept-at t) next-kept.Post
-unfolding Below
-next-kept-next-kept-requires-3 t c κs = call-part ((formed (c .before .before .before .kept-form .ensures) (c .before .form5 .given .1)) .below) (c .before .before .before .before .pre .0)
+unfolding TasksUnder
+next-kept-next-kept-requires-3 t c κs = call-task ((formed (c .before .before .before .kept-form .ensures) (c .before .form5 .given .1)) .tasks-under) (c .before .before .before .before .pre .0)
 
 next-kept-kept-caught-requires : (t : ℕ) → next-kept-lts.Need-kept-caught-requires (next-kept-claims t) (next-kept-at t) next-kept.Post
 next-kept-kept-caught-requires t c κs = tt
@@ -139,8 +139,8 @@ next-kept-heard-with-requires : (t : ℕ) → next-kept-lts.Need-heard-with-requ
 next-kept-heard-with-requires t c κs = tt
 
 next-kept-must-can-requires : (t : ℕ) → next-kept-lts.Need-must-can-requires (next-kept-claims t) (next-kept-at t) next-kept.Post
-unfolding Below
-next-kept-must-can-requires t c κs = (formed (c .before .before .before .before .kept-form .ensures) (c .before .before .form6 .given .1)) .below .placed
+unfolding TasksUnder
+next-kept-must-can-requires t c κs = (formed (c .before .before .before .before .kept-form .ensures) (c .before .before .form6 .given .1)) .tasks-under .placed
 
 next-kept-settled-for-requires : (t : ℕ) → next-kept-lts.Need-settled-for-requires (next-kept-claims t) (next-kept-at t) next-kept.Post
 next-kept-settled-for-requires t c κs = tt
@@ -149,8 +149,8 @@ next-kept-heard-with-requires-2 : (t : ℕ) → next-kept-lts.Need-heard-with-re
 next-kept-heard-with-requires-2 t c κs = tt
 
 next-kept-next-kept-requires-4 : (t : ℕ) → next-kept-lts.Need-next-kept-requires-4 (next-kept-claims t) (next-kept-at t) next-kept.Post
-unfolding Below
-next-kept-next-kept-requires-4 t c κs = call-part ((formed (c .before .before .before .before .before .before .before .kept-form .ensures) (c .before .before .before .before .before .form6 .given .1)) .below) (c .before .before .before .before .before .before .before .before .pre .0)
+unfolding TasksUnder
+next-kept-next-kept-requires-4 t c κs = call-task ((formed (c .before .before .before .before .before .before .before .kept-form .ensures) (c .before .before .before .before .before .form6 .given .1)) .tasks-under) (c .before .before .before .before .before .before .before .before .pre .0)
 
 next-kept-kept-again-requires-3 : (t : ℕ) → next-kept-lts.Need-kept-again-requires-3 (next-kept-claims t) (next-kept-at t) next-kept.Post
 next-kept-kept-again-requires-3 t c κs = tt
@@ -159,15 +159,15 @@ next-kept-enum-known-form-7 : (t : ℕ) → next-kept-lts.Need-enum-known-form-7
 next-kept-enum-known-form-7 t c = c .match .keys9
 
 next-kept-next-kept-requires-5 : (t : ℕ) → next-kept-lts.Need-next-kept-requires-5 (next-kept-claims t) (next-kept-at t) next-kept.Post
-unfolding Below
-next-kept-next-kept-requires-5 t c κs = call-part ((formed (c .before .before .before .kept-form .ensures) (c .before .form7 .given .1)) .below .0) (c .before .before .before .before .pre .0)
+unfolding TasksUnder
+next-kept-next-kept-requires-5 t c κs = call-task ((formed (c .before .before .before .kept-form .ensures) (c .before .form7 .given .1)) .tasks-under .0) (c .before .before .before .before .pre .0)
 
 next-kept-gives-zero-requires : (t : ℕ) → next-kept-lts.Need-gives-zero-requires (next-kept-claims t) (next-kept-at t) next-kept.Post
 next-kept-gives-zero-requires t c κs = tt
 
 next-kept-next-kept-requires-6 : (t : ℕ) → next-kept-lts.Need-next-kept-requires-6 (next-kept-claims t) (next-kept-at t) next-kept.Post
-unfolding Below
-next-kept-next-kept-requires-6 t c κs = call-part ((formed (c .before .before .before .before .before .before .kept-form .ensures) (c .before .before .before .before .form7 .given .1)) .below .1) (c .before .before .before .before .before .before .before .pre .0)
+unfolding TasksUnder
+next-kept-next-kept-requires-6 t c κs = call-task ((formed (c .before .before .before .before .before .before .kept-form .ensures) (c .before .before .before .before .form7 .given .1)) .tasks-under .1) (c .before .before .before .before .before .before .before .pre .0)
 
 next-kept-kept-chain-requires : (t : ℕ) → next-kept-lts.Need-kept-chain-requires (next-kept-claims t) (next-kept-at t) next-kept.Post
 next-kept-kept-chain-requires t c κs = tt
@@ -185,12 +185,12 @@ next-kept-enum-known-form-8 : (t : ℕ) → next-kept-lts.Need-enum-known-form-8
 next-kept-enum-known-form-8 t c = c .match .keys10
 
 next-kept-next-kept-requires-7 : (t : ℕ) → next-kept-lts.Need-next-kept-requires-7 (next-kept-claims t) (next-kept-at t) next-kept.Post
-unfolding Below
-next-kept-next-kept-requires-7 t c κs = call-part ((formed (c .before .before .before .kept-form .ensures) (c .before .form8 .given .1)) .below .0) (c .before .before .before .before .pre .0)
+unfolding TasksUnder
+next-kept-next-kept-requires-7 t c κs = call-task ((formed (c .before .before .before .kept-form .ensures) (c .before .form8 .given .1)) .tasks-under .0) (c .before .before .before .before .pre .0)
 
 next-kept-next-kept-requires-8 : (t : ℕ) → next-kept-lts.Need-next-kept-requires-8 (next-kept-claims t) (next-kept-at t) next-kept.Post
-unfolding Below
-next-kept-next-kept-requires-8 t c κs = call-part ((formed (c .before .before .before .before .kept-form .ensures) (c .before .before .form8 .given .1)) .below .1) (c .before .before .before .before .before .pre .0)
+unfolding TasksUnder
+next-kept-next-kept-requires-8 t c κs = call-task ((formed (c .before .before .before .before .kept-form .ensures) (c .before .before .form8 .given .1)) .tasks-under .1) (c .before .before .before .before .before .pre .0)
 
 next-kept-kept-beside-requires : (t : ℕ) → next-kept-lts.Need-kept-beside-requires (next-kept-claims t) (next-kept-at t) next-kept.Post
 next-kept-kept-beside-requires t c κs = tt
@@ -199,8 +199,8 @@ next-kept-enum-known-form-9 : (t : ℕ) → next-kept-lts.Need-enum-known-form-9
 next-kept-enum-known-form-9 t c = c .match .keys11
 
 next-kept-next-kept-requires-9 : (t : ℕ) → next-kept-lts.Need-next-kept-requires-9 (next-kept-claims t) (next-kept-at t) next-kept.Post
-unfolding Below
-next-kept-next-kept-requires-9 t c κs = call-part ((formed (c .before .before .before .kept-form .ensures) (c .before .form9 .given .1)) .below) (c .before .before .before .before .pre .0)
+unfolding TasksUnder
+next-kept-next-kept-requires-9 t c κs = call-task ((formed (c .before .before .before .kept-form .ensures) (c .before .form9 .given .1)) .tasks-under) (c .before .before .before .before .pre .0)
 
 next-kept-returns-2 : (t : ℕ) → next-kept-lts.Need-returns-2 (next-kept-claims t) (next-kept-at t) next-kept.Post
 next-kept-returns-2 t c = keep-form (formed (c .before .before .before .kept-form .ensures) (c .before .enum-told .given .1)) (keep-done (c .kept-none .ensures .1 (lit< tt)) (c .kept-none .ensures .0))

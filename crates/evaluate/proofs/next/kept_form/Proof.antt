@@ -25,16 +25,16 @@ enum-told-4 : tie.Need-enum-told-4
 enum-told-4 c = search needs
 
 returns : tie.Need-returns
-returns c = going-formed (c .before .before .before .args .part) Started (c .started-form .result) (c .before .enum-told .given .1) (c .started-form .ensures (c .before .before .before .args .live .now))
+returns c = going-formed (c .before .before .before .args .task) Started (c .started-form .result) (c .before .enum-told .given .1) (c .started-form .ensures (c .before .before .before .args .live .now))
 
 returns-2 : tie.Need-returns-2
-returns-2 c = going-formed (c .before .before .before .args .part) Resumed (c .resumed-form .result) (c .before .enum-told2 .given .1) (c .resumed-form .ensures)
+returns-2 c = going-formed (c .before .before .before .args .task) Resumed (c .resumed-form .result) (c .before .enum-told2 .given .1) (c .resumed-form .ensures)
 
 returns-3 : tie.Need-returns-3
-returns-3 c = keep-formed (c .before .before .args .part) (c .before .before .pre) (c .enum-told3 .given .1)
+returns-3 c = keep-formed (c .before .before .args .task) (c .before .before .pre) (c .enum-told3 .given .1)
 
 returns-4 : tie.Need-returns-4
-returns-4 c = idle-formed (c .before .before .args .part) (c .enum-told4 .given .1)
+returns-4 c = idle-formed (c .before .before .args .task) (c .enum-told4 .given .1)
 
 pub kept-form-spec : {M : Type 1} → statement M
 kept-form-spec =

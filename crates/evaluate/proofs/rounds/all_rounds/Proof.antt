@@ -4,7 +4,7 @@
 use mathlib.Core.Path.{sym, _∙_}
 use Prim.Native.Nat.{_+_, _-_, _≤_}
 use native.Mathlib.Omega.{arith}
-use Rattle.forms.specs.Forms.{table}
+use Rattle.block.specs.Told.{table-of}
 use Rattle.evaluate.proofs.RoundLaws.{Progress, progress-none, progress-decided, progress-more, progress-stop, progress-end}
 use Rattle.evaluate.proofs.rounds.all_rounds.Statement.{statement}
 use Rattle.evaluate.proofs.rounds.all_rounds.Tie as tie
@@ -15,7 +15,7 @@ use Rattle.evaluate.proofs.rounds.same_marks.Reads as same-marks-reads
 use Rattle.evaluate.proofs.rounds.undecided_of.Reads as undecided-of-reads
 
 abbrev Inv-loop : tie.InvT-loop
-Inv-loop kinds operands sizes live part inputs outputs given marks₀ rounds₀ marks rounds = (rounds ≤ outputs + 1) × Progress (table kinds operands sizes) live part inputs outputs given marks rounds
+Inv-loop kinds operands sizes live part inputs outputs given marks₀ rounds₀ marks rounds = (rounds ≤ outputs + 1) × Progress (table-of kinds operands sizes) live part inputs outputs given marks rounds
 
 abbrev μ-loop : tie.MeasureT-loop
 μ-loop kinds operands sizes live part inputs outputs given marks₀ rounds₀ marks rounds = outputs + 1 - rounds

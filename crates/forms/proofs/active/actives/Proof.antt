@@ -5,13 +5,14 @@ use mathlib.Core.Path.{_≡_, refl, _∙_}
 use native.Mathlib.Omega.{arith}
 use lib.ListN.{length, length-set}
 use Rattle.sets.specs.Words.{set-of}
-use Rattle.forms.specs.Forms.{table, LiveFrom}
+use Rattle.block.specs.Told.{table-of}
+use Rattle.forms.specs.Forms.{LiveFrom}
 use Rattle.forms.proofs.ActiveLaws.{live-none, live-step, live-all, pred-less, none-left}
 use Rattle.forms.proofs.active.actives.Statement.{statement}
 use Rattle.forms.proofs.active.actives.Tie as tie
 
 abbrev Inv-loop : tie.InvT-loop
-Inv-loop kinds operands sizes set live₀ i₀ live i = (i ≤ 512) × (length live ≡ 512) × LiveFrom (table kinds operands sizes) (set-of set) live i
+Inv-loop kinds operands sizes set live₀ i₀ live i = (i ≤ 512) × (length live ≡ 512) × LiveFrom (table-of kinds operands sizes) (set-of set) live i
 
 abbrev μ-loop : tie.MeasureT-loop
 μ-loop kinds operands sizes set live₀ i₀ live i = i

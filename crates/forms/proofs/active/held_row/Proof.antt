@@ -1,7 +1,7 @@
 -- `forms::active::held_row` meets its contract: by whether the row is a pause.
 -- Assumes nothing.
 use Rattle.forms.proofs.ActiveLaws.{row-own, row-none}
-use Rattle.forms.specs.Forms.{table}
+use Rattle.block.specs.Told.{table-of}
 use mathlib.Core.Path.{_∙_}
 use borrow.Author.Needs.{needs}
 use Rattle.sets.specs.Words.{set-of}
@@ -27,10 +27,10 @@ no-pause-requires : tie.Need-no-pause-requires
 no-pause-requires c κs = search needs
 
 returns : tie.Need-returns
-returns c = λ sizes. c .held-one .ensures ∙ row-own (table (c .before .before .before .before .args .kinds .now) (c .before .before .before .before .args .operands .now) sizes) (c .before .before .before .before .args .at) (set-of (c .before .before .before .before .args .set)) (c .before .before .if1 .taken)
+returns c = λ sizes. c .held-one .ensures ∙ row-own (table-of (c .before .before .before .before .args .kinds .now) (c .before .before .before .before .args .operands .now) sizes) (c .before .before .before .before .args .at) (set-of (c .before .before .before .before .args .set)) (c .before .before .if1 .taken)
 
 returns-2 : tie.Need-returns-2
-returns-2 c = λ sizes. c .no-pause .ensures ∙ row-none (table (c .before .before .before .args .kinds .now) (c .before .before .before .args .operands .now) sizes) (c .before .before .before .args .at) (set-of (c .before .before .before .args .set)) (c .before .if1 .left)
+returns-2 c = λ sizes. c .no-pause .ensures ∙ row-none (table-of (c .before .before .before .args .kinds .now) (c .before .before .before .args .operands .now) sizes) (c .before .before .before .args .at) (set-of (c .before .before .before .args .set)) (c .before .if1 .left)
 
 pub held-row-spec : {M : Type 1} → statement M
 held-row-spec =

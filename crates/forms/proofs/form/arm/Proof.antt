@@ -2,16 +2,16 @@
 -- Assumes nothing.
 use mathlib.Core.Path.{sym, ap}
 use mathlib.Core.Bool.{cond}
-use Rattle.forms.specs.declared.form.Part.{Part}
+use Rattle.forms.specs.declared.form.Task.{Task}
 use Rattle.forms.specs.declared.form.Going.the-variants.{Resumed, Idle}
 use Rattle.forms.proofs.form.arm.Statement.{statement}
 use Rattle.forms.proofs.form.arm.Tie as tie
 
 returns : tie.Need-returns
-returns c = ap {B = Part} (λ b. record { at = c .before .args .at; going = cond b Resumed Idle }) (sym (c .if1 .taken))
+returns c = ap {B = Task} (λ b. record { at = c .before .args .at; going = cond b Resumed Idle }) (sym (c .if1 .taken))
 
 returns-2 : tie.Need-returns-2
-returns-2 c = ap {B = Part} (λ b. record { at = c .before .args .at; going = cond b Resumed Idle }) (sym (c .if1 .left))
+returns-2 c = ap {B = Task} (λ b. record { at = c .before .args .at; going = cond b Resumed Idle }) (sym (c .if1 .left))
 
 pub arm-spec : {M : Type 1} → statement M
 arm-spec = tie.close (tie.spec returns returns-2)

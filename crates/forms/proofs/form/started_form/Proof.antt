@@ -1,6 +1,7 @@
 -- `forms::form::started_form` meets its contract: each arm is the form of its kind; every statement has one of the eleven kinds.
 -- Assumes nothing.
-use Rattle.forms.proofs.FormLaws.{row, some-kind, in-table, started-formed, done-formed}
+use Rattle.block.proofs.Rows.{row}
+use Rattle.forms.proofs.FormLaws.{some-kind, in-table, started-formed, done-formed}
 use mathlib.Core.Path.{_∙_}
 use Rattle.forms.specs.Forms.{step-of}
 use borrow.Author.Needs.{needs}
@@ -22,41 +23,41 @@ element-copy-out-operand c = in-table (c .before .pre)
 add-t9 : tie.Need-add-t9
 add-t9 c = search needs
 
-second-requires : tie.Need-second-requires
-second-requires c κs = in-table (c .before .before .pre)
+second-at-requires : tie.Need-second-at-requires
+second-at-requires c κs = in-table (c .before .before .pre)
 
 returns : tie.Need-returns
-returns c = started-formed _ (c .before .before .before .before .args .at) (c .before .second .result) (c .before .before .before .before .pre) (c .before .second .ensures) 16 (c .match .keys1)
+returns c = started-formed _ (c .before .before .before .before .args .at) (c .before .second-at .result) (c .before .before .before .before .pre) (c .before .second-at .ensures .0) 16 (c .match .keys1)
 
 returns-2 : tie.Need-returns-2
-returns-2 c = started-formed _ (c .before .before .before .before .args .at) (c .before .second .result) (c .before .before .before .before .pre) (c .before .second .ensures) 17 (c .match .keys2)
+returns-2 c = started-formed _ (c .before .before .before .before .args .at) (c .before .second-at .result) (c .before .before .before .before .pre) (c .before .second-at .ensures .0) 17 (c .match .keys2)
 
 returns-3 : tie.Need-returns-3
-returns-3 c = started-formed _ (c .before .before .before .before .args .at) (c .before .second .result) (c .before .before .before .before .pre) (c .before .second .ensures) 18 (c .match .keys3)
+returns-3 c = started-formed _ (c .before .before .before .before .args .at) (c .before .second-at .result) (c .before .before .before .before .pre) (c .before .second-at .ensures .0) 18 (c .match .keys3)
 
 returns-4 : tie.Need-returns-4
-returns-4 c = started-formed _ (c .before .before .before .before .args .at) (c .before .second .result) (c .before .before .before .before .pre) (c .before .second .ensures) 19 (c .match .keys4)
+returns-4 c = started-formed _ (c .before .before .before .before .args .at) (c .before .second-at .result) (c .before .before .before .before .pre) (c .before .second-at .ensures .0) 19 (c .match .keys4)
 
 returns-5 : tie.Need-returns-5
-returns-5 c = started-formed _ (c .before .before .before .before .args .at) (c .before .second .result) (c .before .before .before .before .pre) (c .before .second .ensures) 20 (c .match .keys5)
+returns-5 c = started-formed _ (c .before .before .before .before .args .at) (c .before .second-at .result) (c .before .before .before .before .pre) (c .before .second-at .ensures .0) 20 (c .match .keys5)
 
 returns-6 : tie.Need-returns-6
-returns-6 c = started-formed _ (c .before .before .before .before .args .at) (c .before .second .result) (c .before .before .before .before .pre) (c .before .second .ensures) 21 (c .match .keys6)
+returns-6 c = started-formed _ (c .before .before .before .before .args .at) (c .before .second-at .result) (c .before .before .before .before .pre) (c .before .second-at .ensures .0) 21 (c .match .keys6)
 
 returns-7 : tie.Need-returns-7
-returns-7 c = started-formed _ (c .before .before .before .before .args .at) (c .before .second .result) (c .before .before .before .before .pre) (c .before .second .ensures) 22 (c .match .keys7)
+returns-7 c = started-formed _ (c .before .before .before .before .args .at) (c .before .second-at .result) (c .before .before .before .before .pre) (c .before .second-at .ensures .0) 22 (c .match .keys7)
 
 returns-8 : tie.Need-returns-8
-returns-8 c = started-formed _ (c .before .before .before .before .args .at) (c .before .second .result) (c .before .before .before .before .pre) (c .before .second .ensures) 23 (c .match .keys8)
+returns-8 c = started-formed _ (c .before .before .before .before .args .at) (c .before .second-at .result) (c .before .before .before .before .pre) (c .before .second-at .ensures .0) 23 (c .match .keys8)
 
 returns-9 : tie.Need-returns-9
-returns-9 c = started-formed _ (c .before .before .before .before .args .at) (c .before .second .result) (c .before .before .before .before .pre) (c .before .second .ensures) 24 (c .match .keys9)
+returns-9 c = started-formed _ (c .before .before .before .before .args .at) (c .before .second-at .result) (c .before .before .before .before .pre) (c .before .second-at .ensures .0) 24 (c .match .keys9)
 
 returns-10 : tie.Need-returns-10
-returns-10 c = started-formed _ (c .before .before .before .before .args .at) (c .before .second .result) (c .before .before .before .before .pre) (c .before .second .ensures) 25 (c .match .keys10)
+returns-10 c = started-formed _ (c .before .before .before .before .args .at) (c .before .second-at .result) (c .before .before .before .before .pre) (c .before .second-at .ensures .0) 25 (c .match .keys10)
 
 returns-11 : tie.Need-returns-11
-returns-11 c = started-formed _ (c .before .before .before .before .args .at) (c .before .second .result) (c .before .before .before .before .pre) (c .before .second .ensures) 26 (c .match .keys11)
+returns-11 c = started-formed _ (c .before .before .before .before .args .at) (c .before .second-at .result) (c .before .before .before .before .pre) (c .before .second-at .ensures .0) 26 (c .match .keys11)
 
 returns-12 : tie.Need-returns-12
 unfolding step-of
@@ -71,7 +72,7 @@ started-form-spec =
     mul-operand
     element-copy-out-operand
     add-t9
-    second-requires
+    second-at-requires
     returns
     returns-2
     returns-3

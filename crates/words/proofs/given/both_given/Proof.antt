@@ -1,9 +1,9 @@
--- `words::given::both_told` meets its contract: the codes are those of `larger`.
+-- `words::given::both_given` meets its contract: the codes are those of `larger`.
 -- Assumes nothing.
 use Rattle.words.proofs.WordLaws.{both-is}
 use borrow.Author.Needs.{needs}
-use Rattle.words.proofs.given.both_told.Statement.{statement}
-use Rattle.words.proofs.given.both_told.Tie as tie
+use Rattle.words.proofs.given.both_given.Statement.{statement}
+use Rattle.words.proofs.given.both_given.Tie as tie
 
 larger-requires : tie.Need-larger-requires
 larger-requires c κs = search needs
@@ -11,5 +11,5 @@ larger-requires c κs = search needs
 returns : tie.Need-returns
 returns c = both-is (c .before .before .before .args .a) (c .before .before .before .args .b) (c .before .before .larger .result) (c .before .before .larger .ensures)
 
-pub both-told-spec : {M : Type 1} → statement M
-both-told-spec = tie.close (tie.spec larger-requires returns)
+pub both-given-spec : {M : Type 1} → statement M
+both-given-spec = tie.close (tie.spec larger-requires returns)
