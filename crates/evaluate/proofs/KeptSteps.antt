@@ -24,14 +24,15 @@ use Rattle.words.specs.Words.{event-of, given-of, KeptWith}
 use Rattle.forms.specs.Forms.{At, Shows, Formed}
 use Rattle.walk.specs.Walks.{Walked}
 use Rattle.evaluate.specs.Next.{KeptAs, Keeping}
+use Rattle.forms.proofs.FormLaws.{formed}
 
 same-kept : {r : Kept} {E : Event} {p q : Step} → p ≡ q → KeptAs r q E → KeptAs r p E
 same-kept {r} {E} e k = subst⁻¹ (λ (y : Step). KeptAs r y E) e k
 
 module _ {A : Numbers} {tab : Table} {live : List Bool} {e : Heard} {r : Kept} where
-  pub keep-form : {c : Task} {f : Form} → Formed tab live c f → Keeping A tab live f e r → Keeping A tab live (Same c) e r
+  pub keep-as : {c : Task} {f g : Form} → Formed tab live c f → f ≡ g → Keeping A tab live g e r → Keeping A tab live (Same c) e r
   unfolding Shows
-  keep-form h g = record { at = λ l p d. g .at l p (h .shows A l p d) }
+  keep-as h q k = record { at = λ l p d. k .at l p (formed h q .shows A l p d) }
 
   pub keep-done : bits (r .codes) ≡ single 0 → set-of (r .pauses) ≡ empty → Keeping A tab live Done e r
   unfolding Shows gives kept
@@ -81,7 +82,8 @@ catch-kept p E w k = record {
   pauses-are = w .pauses-are ∙ ap₂ (λ (C B : Numbers). only-if (downs C 1) B) (k .codes-are) (k .pauses-are);
 }
 
-beside-kept : (p q : Step) (E : Event) {r a b : Kept} → KeptWith r (maxima (bits (a .codes)) (bits (b .codes))) (union (set-of (a .pauses)) (set-of (b .pauses))) → KeptAs a p E → KeptAs b q E → KeptAs r (beside p q) E
+beside-kept : (p q : Step) (E : Event) {r a b : Kept} → KeptWith r (maxima (bits (a .codes)) (bits (b .codes))) (union (set-of (a .pauses)) (set-of (b .pauses))) → KeptAs a p E
+    → KeptAs b q E → KeptAs r (beside p q) E
 unfolding gives kept
 beside-kept p q E w j k = record {
   codes-are = w .codes-are ∙ ap₂ maxima (j .codes-are) (k .codes-are);
@@ -111,7 +113,8 @@ unfolding gives kept
 skip-kept p q E {a = a} b w z j = record {
   codes-are = w .codes-are ∙ codes;
   pauses-are = w .pauses-are
-      ∙ ap₂ (λ (C B : Numbers). only-if (C 1) B) codes (ap₂ union (j .pauses-are) (off (bits (a .codes) 0) (set-of (b .pauses)) (kept q E) z ∙ ap (λ (C : Numbers). only-if (C 0) (kept q E)) (j .codes-are)));
+      ∙ ap₂ (λ (C B : Numbers). only-if (C 1) B) codes
+      (ap₂ union (j .pauses-are) (off (bits (a .codes) 0) (set-of (b .pauses)) (kept q E) z ∙ ap (λ (C : Numbers). only-if (C 0) (kept q E)) (j .codes-are)));
 }
   where
     codes : union (without 0 (bits (a .codes))) (only-if (bits (a .codes) 0) (bits (b .codes))) ≡ gives must (chain p q) E .codes
@@ -127,13 +130,15 @@ scope-kept s p E F e w k = record {
 }
 
 module _ {A : Numbers} {tab : Table} {live : List Bool} {e : Heard} {r : Kept} where
-  pub keep-present : {s : ℕ} {p q : Task} {a : Kept} → (s < 64 → present ≡ event-of e s) → KeptWith r (bits (a .codes)) (set-of (a .pauses)) → Keeping A tab live (Same p) e a → Keeping A tab live (Test s p q) e r
+  pub keep-present : {s : ℕ} {p q : Task} {a : Kept} → (s < 64 → present ≡ event-of e s) → KeptWith r (bits (a .codes)) (set-of (a .pauses)) → Keeping A tab live (Same p) e a
+      → Keeping A tab live (Test s p q) e r
   unfolding Shows
   keep-present {s} v w k = record {
     at = λ l p d. let t = d .1 in same-kept (t .made) (present-kept s (t .first) (t .later) (event-of e) (v (d .0)) w (k .at l (t .first) (t .left)));
   }
 
-  pub keep-absent : {s : ℕ} {p q : Task} {a : Kept} → (s < 64 → absent ≡ event-of e s) → KeptWith r (bits (a .codes)) (set-of (a .pauses)) → Keeping A tab live (Same q) e a → Keeping A tab live (Test s p q) e r
+  pub keep-absent : {s : ℕ} {p q : Task} {a : Kept} → (s < 64 → absent ≡ event-of e s) → KeptWith r (bits (a .codes)) (set-of (a .pauses)) → Keeping A tab live (Same q) e a
+      → Keeping A tab live (Test s p q) e r
   unfolding Shows
   keep-absent {s} v w k = record {
     at = λ l p d. let t = d .1 in same-kept (t .made) (absent-kept s (t .first) (t .later) (event-of e) (v (d .0)) w (k .at l (t .later) (t .right)));
@@ -147,7 +152,8 @@ module _ {A : Numbers} {tab : Table} {live : List Bool} {e : Heard} {r : Kept} w
   unfolding Shows
   keep-catch w k = record { at = λ l p t. same-kept (t .made) (catch-kept (t .inner) (event-of e) w (k .at l (t .inner) (t .does))) }
 
-  pub keep-beside : {p q : Task} {a b : Kept} → KeptWith r (maxima (bits (a .codes)) (bits (b .codes))) (union (set-of (a .pauses)) (set-of (b .pauses))) → Keeping A tab live (Same p) e a → Keeping A tab live (Same q) e b
+  pub keep-beside : {p q : Task} {a b : Kept} → KeptWith r (maxima (bits (a .codes)) (bits (b .codes))) (union (set-of (a .pauses)) (set-of (b .pauses)))
+      → Keeping A tab live (Same p) e a → Keeping A tab live (Same q) e b
       → Keeping A tab live (Beside p q) e r
   unfolding Shows
   keep-beside w j k = record {
@@ -165,7 +171,8 @@ module _ {A : Numbers} {tab : Table} {live : List Bool} {e : Heard} {r : Kept} w
   keep-skip b w z j = record { at = λ l p t. same-kept (t .made) (skip-kept (t .first) (t .later) (event-of e) b w z (j .at l (t .first) (t .left))) }
 
   pub keep-scope : {s : ℕ} {p : Task} {u h : Heard} {m : MustCan} {a : Kept} (v : Status) → KeptWith r (bits (a .codes)) (set-of (a .pauses)) → (s < 64 → event-of u ≡ giving (event-of e) s unknown)
-      → Walked plus tab live (Same p) u m → (s < 64 → v ≡ local-status (can plus) s (given-of (m .must)) (given-of (m .can))) → (s < 64 → event-of h ≡ giving (event-of e) s v) → Keeping A tab live (Same p) h a
+      → Walked plus tab live (Same p) u m → (s < 64 → v ≡ local-status (can plus) s (given-of (m .must)) (given-of (m .can))) → (s < 64 → event-of h ≡ giving (event-of e) s v)
+      → Keeping A tab live (Same p) h a
       → Keeping A tab live (Scope s p) e r
   unfolding Shows
   keep-scope {s} {h = h} v w uk wa st hv k = record {

@@ -141,50 +141,16 @@ heard-all b first given f e = λ j. record {
 
 -- A round's marks, bit by bit.
 marks-apart : (o m c p a : Bool) → (p && a) ≡ false → ((o && (m || p && c)) && ((o && (a || o && not c)) && not m)) ≡ false
-marks-apart true true true true true h = refl
-marks-apart true true true true false h = refl
-marks-apart true true true false true h = refl
-marks-apart true true true false false h = refl
-marks-apart true true false true true h = refl
-marks-apart true true false true false h = refl
-marks-apart true true false false true h = refl
-marks-apart true true false false false h = refl
+marks-apart false m c p a h = refl
+marks-apart true true c p a h = and-false (a || not c)
+marks-apart true false c false a h = refl
+marks-apart true false false true a h = refl
 marks-apart true false true true true h = h
 marks-apart true false true true false h = refl
-marks-apart true false true false true h = refl
-marks-apart true false true false false h = refl
-marks-apart true false false true true h = refl
-marks-apart true false false true false h = refl
-marks-apart true false false false true h = refl
-marks-apart true false false false false h = refl
-marks-apart false true true true true h = refl
-marks-apart false true true true false h = refl
-marks-apart false true true false true h = refl
-marks-apart false true true false false h = refl
-marks-apart false true false true true h = refl
-marks-apart false true false true false h = refl
-marks-apart false true false false true h = refl
-marks-apart false true false false false h = refl
-marks-apart false false true true true h = refl
-marks-apart false false true true false h = refl
-marks-apart false false true false true h = refl
-marks-apart false false true false false h = refl
-marks-apart false false false true true h = refl
-marks-apart false false false true false h = refl
-marks-apart false false false false true h = refl
-marks-apart false false false false false h = refl
 
 marks-at : (m c p a : Bool) → status-of (true && (m || p && c)) ((true && (a || true && not c)) && not m) ≡ marked m c (status-of p a)
-marks-at true true true true = refl
-marks-at true true true false = refl
-marks-at true true false true = refl
-marks-at true true false false = refl
-marks-at true false true true = refl
-marks-at true false true false = refl
-marks-at true false false true = refl
-marks-at true false false false = refl
-marks-at false true true true = refl
-marks-at false true true false = refl
+marks-at true c p a = refl
+marks-at false true true a = refl
 marks-at false true false true = refl
 marks-at false true false false = refl
 marks-at false false true true = refl
@@ -246,7 +212,8 @@ marks-are o m a = record {
     away k = bits-less off (a .must .signals) k ∙ ap (λ (x : Bool). x && not (u k)) (off-is k)
 
 -- The marks of a list of statuses are those of the words.
-marks-statuses : (M C : Given) (m r : Heard) (s n : ℕ) → ((k : ℕ) → s ≤ k → k < s + n → event-of r k ≡ marked (M .signals k) (C .signals k) (event-of m k)) → statuses s n r ≡ rules.marks M C s (statuses s n m)
+marks-statuses : (M C : Given) (m r : Heard) (s n : ℕ) → ((k : ℕ) → s ≤ k → k < s + n → event-of r k ≡ marked (M .signals k) (C .signals k) (event-of m k))
+    → statuses s n r ≡ rules.marks M C s (statuses s n m)
 unfolding statuses rules.marks
 marks-statuses M C m r s zero f = refl
 marks-statuses M C m r s (suc n) f =
@@ -258,7 +225,8 @@ same-set {m = m} {r} {a} e h = subst (λ (X : Numbers). Marks X m a r) (ext e) h
 pub fine-block : {b : Block} {i n : ℕ} {m : Heard} → Sized b i n → Fine (outs-from i n) m → Fine (outs-from (b .inputs) (b .outputs)) m
 fine-block {m = m} z f = subst₂ (λ (x y : ℕ). Fine (outs-from x y) m) (sym (z .its-inputs)) (sym (z .its-outputs)) f
 
-pub rounded-is : {tab : Table} {live : List Bool} {c : Task} (i n : ℕ) {given : Heard} {m r e : Heard} {a : MustCan} → ((b : Block) (k : ℕ) → Sized b i k → Fine (outs-from i k) m → event-of e ≡ event b (hearing-of given) (marks-of b m))
+pub rounded-is : {tab : Table} {live : List Bool} {c : Task} (i n : ℕ) {given : Heard} {m r e : Heard} {a : MustCan}
+    → ((b : Block) (k : ℕ) → Sized b i k → Fine (outs-from i k) m → event-of e ≡ event b (hearing-of given) (marks-of b m))
     → Walked plus tab live (Same c) e a → Marks (outs-from i n) m a r → Rounded tab live c i n given m r
 unfolding rules.round given-of Shows
 rounded-is i n {given} {m} {r} {e} {a} ev w mk = record {
@@ -299,8 +267,10 @@ module _ {S : Numbers} {m r : Heard} (f : Fine S m) (g : Fine S r) (same-at : (k
   at-each k = go (S k) refl
     where
       go : (b : Bool) → S k ≡ b → (bits (m .present) k ≡ bits (r .present) k) × (bits (m .absent) k ≡ bits (r .absent) k)
-      go true e =
-          (status-present (bits (m .present) k) (bits (m .absent) k) (bits (r .present) k) (bits (r .absent) k) (f .apart k) (g .apart k) (same-at k e), status-absent (bits (m .present) k) (bits (m .absent) k) (bits (r .present) k) (bits (r .absent) k) (f .apart k) (g .apart k) (same-at k e))
+      go true e = (
+        status-present (bits (m .present) k) (bits (m .absent) k) (bits (r .present) k) (bits (r .absent) k) (f .apart k) (g .apart k) (same-at k e),
+        status-absent (bits (m .present) k) (bits (m .absent) k) (bits (r .present) k) (bits (r .absent) k) (f .apart k) (g .apart k) (same-at k e),
+      )
       go false e = (no-present f k e ∙ sym (no-present g k e), no-absent f k e ∙ sym (no-absent g k e))
 
   same-present : m .present ≡ r .present
@@ -332,7 +302,8 @@ all-eq [] [] t = refl
 all-eq [] (w ∷ ws) t = absurd t
 all-eq (v ∷ vs) [] t = absurd t
 all-eq (v ∷ vs) (w ∷ ws) t =
-    ap₂ (λ (x : Status) (xs : List Status). x ∷ xs) (same-eq v w (is-true (rules.same v w) (and-left (rules.same v w) (rules.all-same vs ws) t))) (all-eq vs ws (and-right (rules.same v w) (rules.all-same vs ws) t))
+    ap₂ (λ (x : Status) (xs : List Status). x ∷ xs) (same-eq v w (is-true (rules.same v w) (and-left (rules.same v w) (rules.all-same vs ws) t)))
+    (all-eq vs ws (and-right (rules.same v w) (rules.all-same vs ws) t))
 
 all-self : (vs : List Status) → rules.all-same vs vs ≡ true
 unfolding rules.all-same
@@ -387,7 +358,8 @@ progress-none i n {given} = record {
   };
   goes = λ A l p d b z. record {
     statuses-eq = ap₂ (λ (f : ℕ) (vs : List Status). rules.settle b p (hearing-of given) f vs .statuses) (all-left n) (begins b);
-    rounds-eq = ap₂ (λ (f : ℕ) (vs : List Status). rules.settle b p (hearing-of given) f vs .rounds) (all-left n) (begins b) ∙ sym (zero-add (rules.settle b p (hearing-of given) (suc n - 0) (marks-of b no-marks) .rounds));
+    rounds-eq = ap₂ (λ (f : ℕ) (vs : List Status). rules.settle b p (hearing-of given) f vs .rounds) (all-left n) (begins b)
+        ∙ sym (zero-add (rules.settle b p (hearing-of given) (suc n - 0) (marks-of b no-marks) .rounds));
   };
   reached = λ A l p d b z. subst (Reached b p (hearing-of given)) (begins b) at-first;
 }
@@ -405,7 +377,8 @@ module _ {tab : Table} {live : List Bool} {c : Task} {i n : ℕ} {given : Heard}
       left : suc n - k ≡ suc (n - k)
       left = omega arith
 
-      stop : (A : Numbers) → Live tab A live → (p : Step) → Does tab A c p → (b : Block) → Sized b i n → rules.settle b p (hearing-of given) (suc n - k) (marks-of b m) ≡ record { statuses = marks-of b m; rounds = 1 }
+      stop : (A : Numbers) → Live tab A live → (p : Step) → Does tab A c p → (b : Block) → Sized b i n
+          → rules.settle b p (hearing-of given) (suc n - k) (marks-of b m) ≡ record { statuses = marks-of b m; rounds = 1 }
       stop A l p d b z =
           ap (λ (f : ℕ). rules.settle b p (hearing-of given) f (marks-of b m)) left
           ∙ settle-stop b p (hearing-of given) (n - k) (marks-of b m) (ap (λ (vs : List Status). rules.all-same vs (marks-of b m)) (v A l p d b z) ∙ all-self (marks-of b m))
@@ -416,7 +389,8 @@ module _ {tab : Table} {live : List Bool} {c : Task} {i n : ℕ} {given : Heard}
 module _ {tab : Table} {live : List Bool} {c : Task} {i n : ℕ} {given : Heard} {m r : Heard} {k : ℕ} (q : Progress tab live c i n given m k) (h : k ≤ n) (w : Rounded tab live c i n given m r) where
   changed : (b : Block) → Sized b i n → (eqb (r .present) (m .present) && eqb (r .absent) (m .absent)) ≡ false → marks-of b r ≡ marks-of b m → ⊥
   changed b z e v =
-      of-false e (and-in (eqb (r .present) (m .present)) (eqb (r .absent) (m .absent)) (of-true (eq-eqb (r .present) (m .present) (same-present fr fm same-at))) (of-true (eq-eqb (r .absent) (m .absent) (same-absent fr fm same-at))))
+      of-false e (and-in (eqb (r .present) (m .present)) (eqb (r .absent) (m .absent)) (of-true (eq-eqb (r .present) (m .present) (same-present fr fm same-at)))
+      (of-true (eq-eqb (r .absent) (m .absent) (same-absent fr fm same-at))))
     where
       fm : Fine (outs-from (b .inputs) (b .outputs)) m
       fm = fine-block z (q .fine)
@@ -439,9 +413,11 @@ module _ {tab : Table} {live : List Bool} {c : Task} {i n : ℕ} {given : Heard}
     goes = λ A l p d b z.
         let u = q .goes A l p d b z in
         let v = w .rounds A l p d b z (q .fine) in
-        let still = is-false (rules.all-same (rules.round b p (hearing-of given) (marks-of b m)) (marks-of b m)) (λ t. changed b z e (v ∙ all-eq (rules.round b p (hearing-of given) (marks-of b m)) (marks-of b m) t)) in
+        let still = is-false (rules.all-same (rules.round b p (hearing-of given) (marks-of b m)) (marks-of b m))
+        (λ t. changed b z e (v ∙ all-eq (rules.round b p (hearing-of given) (marks-of b m)) (marks-of b m) t)) in
         let on = ap (λ (f : ℕ). rules.settle b p (hearing-of given) f (marks-of b m)) left ∙ settle-on b p (hearing-of given) (n - k) (marks-of b m) still in
-        let next : rules.settle b p (hearing-of given) (n - k) (rules.round b p (hearing-of given) (marks-of b m)) ≡ rules.settle b p (hearing-of given) (suc n - (k + 1)) (marks-of b r) = ap₂ (rules.settle b p (hearing-of given)) (omega arith) (sym v) in
+        let next : rules.settle b p (hearing-of given) (n - k) (rules.round b p (hearing-of given) (marks-of b m)) ≡ rules.settle b p (hearing-of given) (suc n - (k + 1))
+        (marks-of b r) = ap₂ (rules.settle b p (hearing-of given)) (omega arith) (sym v) in
         record {
           statuses-eq = u .statuses-eq ∙ ap (λ (x : rules.Settled). x .statuses) on ∙ ap (λ (x : rules.Settled). x .statuses) next;
           rounds-eq = u .rounds-eq ∙ ap (λ (x : rules.Settled). k + x .rounds) on ∙ omega (arith, ap (λ (x : rules.Settled). x .rounds) next);
@@ -460,7 +436,8 @@ module _ {tab : Table} {live : List Bool} {c : Task} {i n : ℕ} {given : Heard}
             absent = lib.Dec.eqb→eq (r .absent) (m .absent) (and-right (eqb (r .present) (m .present)) (eqb (r .absent) (m .absent)) t) j;
           }
 
-pub progress-end : {tab : Table} {live : List Bool} {c : Task} {i n : ℕ} {given : Heard} {m : Heard} {k : ℕ} → Progress tab live c i n given m k → n < k → k ≤ n + 1 → Ends tab live c i n given (record { marks = m; rounds = k })
+pub progress-end : {tab : Table} {live : List Bool} {c : Task} {i n : ℕ} {given : Heard} {m : Heard} {k : ℕ} → Progress tab live c i n given m k → n < k → k ≤ n + 1
+    → Ends tab live c i n given (record { marks = m; rounds = k })
 progress-end {n = n} {given} {m} {k} q h l = record {
   fine = q .fine;
   statuses-are = λ A y p d b z. sym (q .goes A y p d b z .statuses-eq ∙ ap (λ (x : rules.Settled). x .statuses) (none p b));
@@ -488,7 +465,8 @@ unknown-bit false false = refl
 
 module _ (b : Block) (m : Heard) (f : Fine (outs-from (b .inputs) (b .outputs)) m) where
   -- A word of the marks has the outputs with a status.
-  with-status : (v : Status) (w : Numbers) → ((k : ℕ) → outs-from (b .inputs) (b .outputs) k ≡ false → w k ≡ false) → ((k : ℕ) → rules.same (event-of m k) v ≡ w k) → w ≡ outputs-with v b (marks-of b m)
+  with-status : (v : Status) (w : Numbers) → ((k : ℕ) → outs-from (b .inputs) (b .outputs) k ≡ false → w k ≡ false) → ((k : ℕ) → rules.same (event-of m k) v ≡ w k)
+      → w ≡ outputs-with v b (marks-of b m)
   unfolding outputs-with
   with-status v w gone each = ext (λ k. go k (decLe (b .inputs) k))
     where
@@ -514,7 +492,8 @@ unfolding undecided statuses count
 undecided-count m s zero = refl
 undecided-count m s (suc n) =
     ap₂ (λ (x : Bool) (y : ℕ). cond x 1 0 + y) (ap (λ (x : ℕ). rules.same (event-of m x) unknown) (sym (add-zero s)))
-    (undecided-count m (suc s) n ∙ count-cong n (λ j. rules.same (event-of m (suc s + j)) unknown) (λ j. rules.same (event-of m (s + suc j)) unknown) (λ j l. ap (λ (x : ℕ). rules.same (event-of m x) unknown) (later j)))
+    (undecided-count m (suc s) n ∙ count-cong n (λ j. rules.same (event-of m (suc s + j)) unknown) (λ j. rules.same (event-of m (s + suc j)) unknown)
+    (λ j l. ap (λ (x : ℕ). rules.same (event-of m x) unknown) (later j)))
     ∙ sym (count-first n (λ j. rules.same (event-of m (s + j)) unknown))
   where
     later : (j : ℕ) → suc s + j ≡ s + suc j
@@ -526,21 +505,24 @@ count-between f i n r =
     ∙ ap₂ (λ (x y : ℕ). x + y) (count-none i g (λ k l t. let h = leb→le i k (and-left (leb i k) (ltb k (i + n)) (and-left (outs-from i n k) (f k) t)) in absurd (omega arith)))
     (count-add n r (λ k. g (i + k))
     ∙ ap₂ (λ (x y : ℕ). x + y) (count-cong n (λ k. g (i + k)) (λ k. f (i + k)) (λ k l. ap (λ (b : Bool). b && f (i + k)) (in-outs i n (i + k) (omega arith) (omega arith))))
-    (count-none r (λ k. g (i + (n + k))) (λ k l t. let h = ltb→lt (i + (n + k)) (i + n) (and-right (leb i (i + (n + k))) (ltb (i + (n + k)) (i + n)) (and-left (outs-from i n (i + (n + k))) (f (i + (n + k))) t)) in absurd (omega arith)))
+    (count-none r (λ k. g (i + (n + k))) (λ k l t. let h = ltb→lt (i + (n + k)) (i + n)
+    (and-right (leb i (i + (n + k))) (ltb (i + (n + k)) (i + n)) (and-left (outs-from i n (i + (n + k))) (f (i + (n + k))) t)) in absurd (omega arith)))
     ∙ add-zero (count n (λ k. f (i + k))))
     ∙ zero-add (count n (λ j. f (i + j)))
   where
     g : Numbers
     g k = outs-from i n k && f k
 
-pub undecided-is : (m : Heard) (i n o d : ℕ) → i + n ≤ 64 → ((k : ℕ) → bits o k ≡ outs-from i n k) → d ≡ bitOr (m .present) (m .absent) → count 64 (bits (bitAnd o (bitXor o d))) ≡ undecided (statuses i n m)
+pub undecided-is : (m : Heard) (i n o d : ℕ) → i + n ≤ 64 → ((k : ℕ) → bits o k ≡ outs-from i n k) → d ≡ bitOr (m .present) (m .absent)
+    → count 64 (bits (bitAnd o (bitXor o d))) ≡ undecided (statuses i n m)
 unfolding event-of
 undecided-is m i n o d h e q =
     ap (λ (f : Numbers). count 64 f) (ext (λ k.
     bits-less o d k ∙ ap₂ (λ (x y : Bool). x && not y) (e k) (ap (λ (x : ℕ). bits x k) q ∙ bits-or (m .present) (m .absent) k)))
     ∙ ap (λ (w : ℕ). count w (λ k. outs-from i n k && not (bits (m .present) k || bits (m .absent) k))) width
     ∙ count-between (λ k. not (bits (m .present) k || bits (m .absent) k)) i n (64 - (i + n))
-    ∙ count-cong n (λ j. not (bits (m .present) (i + j) || bits (m .absent) (i + j))) (λ j. rules.same (event-of m (i + j)) unknown) (λ j l. sym (unknown-bit (bits (m .present) (i + j)) (bits (m .absent) (i + j))))
+    ∙ count-cong n (λ j. not (bits (m .present) (i + j) || bits (m .absent) (i + j))) (λ j. rules.same (event-of m (i + j)) unknown)
+    (λ j l. sym (unknown-bit (bits (m .present) (i + j)) (bits (m .absent) (i + j))))
     ∙ sym (undecided-count m i n)
   where
     width : 64 ≡ i + (n + (64 - (i + n)))
@@ -612,8 +594,10 @@ kept-answer c A kn st cd kp ac = record {
 }
 
 -- One instant, put together.
-pub reacts-is : (b : Block) (ph : Phase) (A : Numbers) (G : Hearing) (r : Reacted) (m : Heard) (k : ℕ) (C K : Numbers) → let p = step (b .body) (state-of ph A) in let z = rules.settle b p G (suc (b .outputs)) (rules.begin b) in let E = event b G (marks-of b m) in
-    marks-of b m ≡ z .statuses → k ≡ z .rounds → C ≡ gives must p E .codes → K ≡ kept p E → IsAnswer b (rules.answer (record { statuses = marks-of b m; rounds = k }) (lowest rules.code-width C) K) r → Reacts b ph A G r
+pub reacts-is : (b : Block) (ph : Phase) (A : Numbers) (G : Hearing) (r : Reacted) (m : Heard) (k : ℕ) (C K : Numbers)
+    → let p = step (b .body) (state-of ph A) in let z = rules.settle b p G (suc (b .outputs)) (rules.begin b) in let E = event b G (marks-of b m) in
+    marks-of b m ≡ z .statuses → k ≡ z .rounds → C ≡ gives must p E .codes → K ≡ kept p E
+    → IsAnswer b (rules.answer (record { statuses = marks-of b m; rounds = k }) (lowest rules.code-width C) K) r → Reacts b ph A G r
 unfolding Reacts rules.react rules.final-of
 reacts-is b ph A G r m k C K s n c q a =
     let p = step (b .body) (state-of ph A) in
@@ -622,7 +606,8 @@ reacts-is b ph A G r m k C K s n c q a =
     let first = subst₂ (λ (X Y : Numbers). IsAnswer b (rules.answer (record { statuses = marks-of b m; rounds = k }) (lowest rules.code-width X) Y) r) c q a in
     subst (λ (x : rules.Settled). IsAnswer b (rules.answer x (lowest rules.code-width (gives must p (event b G (x .statuses)) .codes)) (kept p (event b G (x .statuses)))) r) e first
 
-pub instant-is : {tab : Table} {live : List Bool} {A : Numbers} {c : Task} {e : Heard} {end : Ended} {last : Kept} (r : Reacted) (i n : ℕ) (given : Heard) (ph : Phase) (body : Stmt) → At tab (c .at) body
+pub instant-is : {tab : Table} {live : List Bool} {A : Numbers} {c : Task} {e : Heard} {end : Ended} {last : Kept} (r : Reacted) (i n : ℕ) (given : Heard) (ph : Phase) (body : Stmt)
+    → At tab (c .at) body
     → ((B : Numbers) (t : Stmt) → step-of (c .going) B t ≡ step t (state-of ph B)) → Live tab A live → Ends tab live c i n given end
     → ((b : Block) (k : ℕ) → Sized b i k → Fine (outs-from i k) (end .marks) → event-of e ≡ event b (hearing-of given) (marks-of b (end .marks))) → Keeping A tab live (Same c) e last
     → ((b : Block) → Sized b i n → Fine (outs-from i n) (end .marks)

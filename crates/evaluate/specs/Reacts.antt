@@ -51,7 +51,7 @@ pub record Sized (b : Block) (i n : ℕ) : Type 0 where
   pub its-inputs : b .inputs ≡ i
   pub its-outputs : b .outputs ≡ n
 
--- One round, for whatever the part has to do.
+-- One round, for whatever the task asks.
 pub record Rounded (tab : Table) (live : List Bool) (c : Task) (i n : ℕ) (given : Heard) (m r : Heard) : Type 0 where
   pub fine : Fine (outs-from i n) m → Fine (outs-from i n) r
   pub rounds : (A : Numbers) → Live tab A live → (p : Step) → Does tab A c p → (b : Block) → Sized b i n → Fine (outs-from i n) m

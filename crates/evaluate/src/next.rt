@@ -29,7 +29,7 @@ ghost use Rattle.block.specs.Told.{table-of};
 ghost use Rattle.forms.specs.Forms.{Placed, Formed};
 ghost use Rattle.evaluate.specs.Next.{Keeping};
 
-// What the part has to do, as `form_of` says it. Each walk has a function of its own for that: with one caller it is compiled into its walk,
+// What the task asks, as `form_of` says it. Each walk has a function of its own for that: with one caller it is compiled into its walk,
 // and a round takes a fifth less time.
 fn kept_form(
     kinds: &[u16; 512],
@@ -51,7 +51,7 @@ fn kept_form(
     }
 }
 
-// Must's codes, and the pauses that the part keeps.
+// Must's codes, and the pauses that the task keeps.
 pub(crate) fn next_kept(
     kinds: &[u16; 512],
     operands: &[u16; 512],

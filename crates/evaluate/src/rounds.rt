@@ -232,7 +232,8 @@ fn undecided_of(inputs: u16, outputs: u16, marks: Heard) -> u32
 // The answer from the final marks, and must's codes with what is kept at them.
 fn answer_of(inputs: u16, outputs: u16, end: Ended, last: Kept) -> Reacted
     requires { ⌜ inputs + outputs ≤ 64 ⌝ }
-    ensures { λ r. ⌜ ((b : Block) → Sized b inputs outputs → Fine (outs-from inputs outputs) (end .marks) → IsAnswer b (answer (record { statuses = marks-of b (end .marks); rounds = end .rounds }) (lowest code-width (bits (last .codes))) (set-of (last .pauses))) r) ⌝ }
+    ensures { λ r. ⌜ ((b : Block) → Sized b inputs outputs → Fine (outs-from inputs outputs) (end .marks)
+        → IsAnswer b (answer (record { statuses = marks-of b (end .marks); rounds = end .rounds }) (lowest code-width (bits (last .codes))) (set-of (last .pauses))) r) ⌝ }
 {
     let marks = end.marks;
     let undecided = undecided_of(inputs, outputs, marks);
@@ -277,7 +278,8 @@ pub fn react(
     given: Heard,
 ) -> Reacted
     requires { ⌜ (inputs + outputs ≤ 64) × Placed (table-of (now kinds) (now operands) (now sizes)) 0 ⌝ }
-    ensures { λ r. ⌜ ((body : Stmt) → At (table-of (now (kinds .entry)) (now (operands .entry)) (now (sizes .entry))) 0 body → Reacts (record { inputs = inputs; outputs = outputs; body = body }) phase (set-of set) (hearing-of given) r) ⌝ }
+    ensures { λ r. ⌜ ((body : Stmt) → At (table-of (now (kinds .entry)) (now (operands .entry)) (now (sizes .entry))) 0 body
+        → Reacts (record { inputs = inputs; outputs = outputs; body = body }) phase (set-of set) (hearing-of given) r) ⌝ }
 {
     let live = actives(kinds, operands, sizes, set);
     let task = Task {

@@ -13,14 +13,14 @@ use lib.ListN.{length, getD, set}
 use lib.Seq.{getD-set-same, getD-set-other}
 use borrow.Author.Tests.{eq-eqb, ne-eqb}
 use Rattle.sets.specs.Numbers.{Numbers, empty, single, union, listed}
-use Rattle.sets.proofs.Members.{is-true, of-true, ext, same, and-right, or-out, and-in, and-left}
+use Rattle.sets.proofs.Members.{is-true, is-false, of-true, ext, same, and-right, or-out, and-in, and-left}
 use Rattle.sets.proofs.Counts.{listed-append}
 use Rattle.rules.specs.Statements.{depth, Stmt, nothing, pause, emit, present?_then_else_, suspend_on_, _⨾_, loop, _parallel_, trap, exit, local, pauses}
 use Rattle.rules.specs.Instant.{any, active, held}
-use Rattle.block.specs.Table.{Table, kind-of, operand-of, statements, Has, Small}
+use Rattle.block.specs.Table.{Table, kind-of, operand-of, statements, Row, Has, Small}
 use Rattle.forms.specs.Forms.{At, Live, LiveFrom, row-pauses, pauses-in, among}
-use Rattle.block.proofs.Rows.{row}
-use Rattle.forms.proofs.FormLaws.{in-table, Second, Kids, kids, Flags}
+use Rattle.block.proofs.Rows.{row, statements-pos}
+use Rattle.forms.proofs.FormLaws.{in-table, Second, behind, Kid, Kids, kids, Flags}
 
 -- Active pauses, part by part.
 any-append : (A : Numbers) (xs ys : List ℕ) → any A (xs ++ ys) ≡ (any A xs || any A ys)
@@ -28,46 +28,102 @@ unfolding any
 any-append A [] ys = refl
 any-append A (x ∷ xs) ys = ap (λ (b : Bool). A x || b) (any-append A xs ys) ∙ sym (or-assoc (A x) (any A xs) (any A ys))
 
-abbrev pub active-flag : ℕ → Bool → Bool → Bool → Bool
-active-flag k a lp lq =
-    cond (eqb k 17) a
-    (cond (eqb k 19) (lp || lq)
-    (cond (eqb k 20) lp (cond (eqb k 21) (lp || lq) (cond (eqb k 22) lp (cond (eqb k 23) (lp || lq) (cond (eqb k 24) lp (cond (eqb k 26) lp false)))))))
+-- A statement's flag from those of its children; how many there are is told by its size and the place after the first child.
+abbrev sized-flag : ℕ → ℕ → ℕ → Bool → Bool → Bool
+sized-flag z i n lp lq = cond (ltb z 2) false (cond (ltb n (i + z)) (lp || lq) lp)
 
-module _ (tab : Table) (A : Numbers) (i n : ℕ) (lp lq : Bool) (f : Flags tab A i n lp lq) where
-  flag-is : (t : Stmt) → Kids tab i n t → active-flag (kind-of t) (ltb (operand-of t) 128 && A (operand-of t)) lp lq ≡ active A t
-  unfolding Kids kind-of operand-of active any pauses
+one-flag : (i n m : ℕ) (lp lq : Bool) → 1 ≤ m → n ≡ i + 1 + m → sized-flag (1 + m) i n lp lq ≡ lp
+one-flag i n m lp lq h e =
+    let small = is-false (ltb (1 + m) 2) (λ t. let l = ltb→lt (1 + m) 2 t in omega arith) in
+    let last = is-false (ltb n (i + (1 + m))) (λ t. let l = ltb→lt n (i + (1 + m)) t in omega arith) in
+    rw (small, last)
+
+two-flag : (i n m r : ℕ) (lp lq : Bool) → 1 ≤ m → 1 ≤ r → n ≡ i + 1 + m → sized-flag (1 + m + r) i n lp lq ≡ (lp || lq)
+two-flag i n m r lp lq h k e =
+    let small = is-false (ltb (1 + m + r) 2) (λ t. let l = ltb→lt (1 + m + r) 2 t in omega arith) in
+    let more = is-true (ltb n (i + (1 + m + r))) (lt→ltb n (i + (1 + m + r)) (omega arith)) in
+    rw (small, more)
+
+abbrev active-flag : ℕ → ℕ → ℕ → ℕ → Bool → Bool → Bool → Bool
+active-flag k z i n a lp lq = cond (eqb k 17) a (sized-flag z i n lp lq)
+
+module _ {tab : Table} {A : Numbers} {i n : ℕ} {lp lq : Bool} (s : Second tab i n) (f : Flags tab A i n lp lq) where
+  with-one : (p : Stmt) → Kid tab i (i + 1) p → sized-flag (1 + statements p) i n lp lq ≡ active A p
+  with-one p k = one-flag i n (statements p) lp lq (statements-pos p) (behind i s p (k .there)) ∙ f .on-first p (k .there)
+
+  with-two : (p q : Stmt) → Kid tab i (i + 1) p → Kid tab i n q → sized-flag (1 + statements p + statements q) i n lp lq ≡ any A (pauses p ++ pauses q)
+  unfolding active
+  with-two p q k l =
+      two-flag i n (statements p) (statements q) lp lq (statements-pos p) (statements-pos q) (behind i s p (k .there))
+      ∙ ap₂ (λ (x y : Bool). x || y) (f .on-first p (k .there)) (f .on-next q (l .after) (l .there)) ∙ sym (any-append A (pauses p) (pauses q))
+
+  flag-is : (t : Stmt) → Kids tab i n t → active-flag (kind-of t) (statements t) i n (ltb (operand-of t) 128 && A (operand-of t)) lp lq ≡ active A t
+  unfolding Kids kind-of operand-of statements active any pauses
   flag-is nothing k = refl
   flag-is (pause m) k = ap (λ (b : Bool). b && A m) (is-true (ltb m 128) (lt→ltb m 128 k)) ∙ sym (or-false (A m))
   flag-is (emit s) k = refl
-  flag-is (present? s then p else q) k =
-      ap₂ (λ (x y : Bool). x || y) (f .on-first p (k .1 .there)) (f .on-next q (k .2 .after) (k .2 .there)) ∙ sym (any-append A (pauses p) (pauses q))
-  flag-is (suspend p on s) k = f .on-first p (k .1 .there)
-  flag-is (p ⨾ q) k = ap₂ (λ (x y : Bool). x || y) (f .on-first p (k .0 .there)) (f .on-next q (k .1 .after) (k .1 .there)) ∙ sym (any-append A (pauses p) (pauses q))
-  flag-is (loop p) k = f .on-first p (k .there)
-  flag-is (p parallel q) k =
-      ap₂ (λ (x y : Bool). x || y) (f .on-first p (k .0 .there)) (f .on-next q (k .1 .after) (k .1 .there)) ∙ sym (any-append A (pauses p) (pauses q))
-  flag-is (trap p) k = f .on-first p (k .there)
+  flag-is (present? s then p else q) k = with-two p q (k .1) (k .2)
+  flag-is (suspend p on s) k = with-one p (k .1)
+  flag-is (p ⨾ q) k = with-two p q (k .0) (k .1)
+  flag-is (loop p) k = with-one p k
+  flag-is (p parallel q) k = with-two p q (k .0) (k .1)
+  flag-is (trap p) k = with-one p k
   flag-is (exit (depth d)) k = refl
-  flag-is (local s p) k = f .on-first p (k .1 .there)
+  flag-is (local s p) k = with-one p (k .1)
 
--- The code's arm for the kind k.
-pub active-at : {tab : Table} {A : Numbers} {live : List Bool} {i : ℕ} (n : ℕ) (lp lq : Bool) → LiveFrom tab A live (i + 1) → Second tab i n → (i + 1 < 512 → lp ≡ getD live (i + 1) false) → (n < 512 → lq ≡ getD live n false)
-    → (k : ℕ) → getD (tab .kinds) i 0 ≡ k → (t : Stmt) → At tab i t → active-flag k (ltb (getD (tab .operands) i 0) 128 && A (getD (tab .operands) i 0)) lp lq ≡ active A t
-active-at {tab} {A} {live} {i} n lp lq l s g h k e t a =
-    subst₂ (λ (x y : ℕ). active-flag x (ltb y 128 && A y) lp lq ≡ active A t) (sym (row t (a .has) .its-kind) ∙ e) (sym (row t (a .has) .its-operand))
-    (flag-is tab A i n lp lq flags t (kids s t a))
-  where
-    flags : Flags tab A i n lp lq
-    flags = record {
-      on-first = λ p b. g (in-table (record { tree = p; there = b })) ∙ l .says (i + 1) p (omega arith) b;
-      on-next = λ q c b. h (in-table (record { tree = q; there = b })) ∙ l .says n q (omega arith) b;
-    }
+-- A row's flag, from those of the rows behind it.
+module _ {tab : Table} {A : Numbers} {live : List Bool} {i : ℕ} (l : LiveFrom tab A live (i + 1)) (t : Stmt) (a : At tab i t) where
+  abbrev k : ℕ
+  k = getD (tab .kinds) i 0
+
+  abbrev o : ℕ
+  o = getD (tab .operands) i 0
+
+  abbrev z : ℕ
+  z = getD (tab .sizes) i 0
+
+  abbrev behind-first : ℕ
+  behind-first = i + 1 + getD (tab .sizes) (i + 1) 0
+
+  flagged : {n : ℕ} {lp lq : Bool} → Second tab i n → (i + 1 < 512 → lp ≡ getD live (i + 1) false) → (n < 512 → lq ≡ getD live n false)
+      → active-flag k z i n (ltb o 128 && A o) lp lq ≡ active A t
+  flagged {n} {lp} {lq} s g h = rw (r .its-kind, r .its-operand, r .its-size) (flag-is s flags t (kids s t a))
+    where
+      r : Row tab i t
+      r = row t (a .has)
+
+      flags : Flags tab A i n lp lq
+      flags = record {
+        on-first = λ p b. g (in-table (record { tree = p; there = b })) ∙ l .says (i + 1) p (omega arith) b;
+        on-next = λ q c b. h (in-table (record { tree = q; there = b })) ∙ l .says n q (omega arith) b;
+      }
+
+  pub pause-active : k ≡ 17 → (ltb o 128 && A o) ≡ active A t
+  pause-active e = rw (eq-eqb k 17 e) at (flagged {n = behind-first} {lp = getD live (i + 1) false} {lq = getD live behind-first false} (λ h. refl) (λ h. refl) (λ h. refl))
+
+  module _ (no : k ≡ 17 → ⊥) where
+    pub none-active : z < 2 → false ≡ active A t
+    none-active e =
+        rw (ne-eqb k 17 no, is-true (ltb z 2) (lt→ltb z 2 e))
+        at (flagged {n = behind-first} {lp = getD live (i + 1) false} {lq = getD live behind-first false} (λ h. refl) (λ h. refl) (λ h. refl))
+
+    module _ (e : 2 ≤ z) {n : ℕ} (s : Second tab i n) {lp : Bool} (g : i + 1 < 512 → lp ≡ getD live (i + 1) false) where
+      more : ltb z 2 ≡ false
+      more = is-false (ltb z 2) (λ b. let c = ltb→lt z 2 b in omega arith)
+
+      pub one-active : i + z ≤ n → lp ≡ active A t
+      one-active j =
+          rw (ne-eqb k 17 no, more, is-false (ltb n (i + z)) (λ b. let c = ltb→lt n (i + z) b in omega arith))
+          at (flagged {lq = getD live n false} s g (λ h. refl))
+
+      pub two-active : {lq : Bool} → n < i + z → (n < 512 → lq ≡ getD live n false) → (lp || lq) ≡ active A t
+      two-active j h = rw (ne-eqb k 17 no, more, is-true (ltb n (i + z)) (lt→ltb n (i + z) j)) at (flagged s g h)
 
 pub live-none : {tab : Table} {A : Numbers} {live : List Bool} → LiveFrom tab A live 512
 live-none = record { says = λ i t h a. let l = in-table (record { tree = t; there = a }) in absurd (omega arith) }
 
-pub live-more : {tab : Table} {A : Numbers} (live : List Bool) (i : ℕ) (b : Bool) → i < length live → LiveFrom tab A live (i + 1) → ((t : Stmt) → At tab i t → b ≡ active A t) → LiveFrom tab A (set live i b) i
+pub live-more : {tab : Table} {A : Numbers} (live : List Bool) (i : ℕ) (b : Bool) → i < length live → LiveFrom tab A live (i + 1) → ((t : Stmt) → At tab i t → b ≡ active A t)
+    → LiveFrom tab A (set live i b) i
 live-more {tab} {A} live i b l f g = record { says = λ j t h a. go j t h a (ℕ-discrete j i) }
   where
     go : (j : ℕ) (t : Stmt) → i ≤ j → At tab j t → Dec (j ≡ i) → getD (set live i b) j false ≡ active A t

@@ -19,7 +19,8 @@ use Rattle.forms.specs.declared.form.Form.the-variants.{Done, Stay, Keep
 use Rattle.forms.specs.Forms.{At, Placed, Live, step-of, Does, Shows, Under, TasksUnder, Formed}
 
 -- Every statement has one of the eleven kinds.
-pub some-kind : (t : Stmt) → (kind-of t ≡ 16 → ⊥) → (kind-of t ≡ 17 → ⊥) → (kind-of t ≡ 18 → ⊥) → (kind-of t ≡ 19 → ⊥) → (kind-of t ≡ 20 → ⊥) → (kind-of t ≡ 21 → ⊥) → (kind-of t ≡ 22 → ⊥) → (kind-of t ≡ 23 → ⊥) → (kind-of t ≡ 24 → ⊥) → (kind-of t ≡ 25 → ⊥) → (kind-of t ≡ 26 → ⊥) → ⊥
+pub some-kind : (t : Stmt) → (kind-of t ≡ 16 → ⊥) → (kind-of t ≡ 17 → ⊥) → (kind-of t ≡ 18 → ⊥) → (kind-of t ≡ 19 → ⊥) → (kind-of t ≡ 20 → ⊥) → (kind-of t ≡ 21 → ⊥)
+    → (kind-of t ≡ 22 → ⊥) → (kind-of t ≡ 23 → ⊥) → (kind-of t ≡ 24 → ⊥) → (kind-of t ≡ 25 → ⊥) → (kind-of t ≡ 26 → ⊥) → ⊥
 unfolding kind-of
 some-kind nothing f0 f1 f2 f3 f4 f5 f6 f7 f8 f9 f10 = f0 refl
 some-kind (pause n) f0 f1 f2 f3 f4 f5 f6 f7 f8 f9 f10 = f1 refl
@@ -33,6 +34,10 @@ some-kind (trap p) f0 f1 f2 f3 f4 f5 f6 f7 f8 f9 f10 = f8 refl
 some-kind (exit d) f0 f1 f2 f3 f4 f5 f6 f7 f8 f9 f10 = f9 refl
 some-kind (local s p) f0 f1 f2 f3 f4 f5 f6 f7 f8 f9 f10 = f10 refl
 
+-- A statement by its number, and how it is taken.
+abbrev pub task : ℕ → Going → Task
+task j g = record { at = j; going = g }
+
 pub in-table : {tab : Table} {i : ℕ} → Placed tab i → i < 512
 in-table {i = i} h = omega (arith, h .there .room, statements-pos (h .tree))
 
@@ -42,15 +47,18 @@ pub record Kid (tab : Table) (i j : ℕ) (t : Stmt) : Type 0 where
   pub smaller : getD (tab .sizes) j 0 < getD (tab .sizes) i 0
   pub after : i < j
 
-pub kid-under : {tab : Table} {i j : ℕ} {t : Stmt} (g : Going) → Kid tab i j t → Under tab i (record { at = j; going = g })
+pub kid-under : {tab : Table} {i j : ℕ} {t : Stmt} (g : Going) → Kid tab i j t → Under tab i (task j g)
 kid-under {t = t} g k = record { placed = record { tree = t; there = k .there }; smaller = k .smaller }
 
-pub kid-does : {tab : Table} (A : Numbers) {i j : ℕ} {t : Stmt} (g : Going) → Kid tab i j t → Does tab A (record { at = j; going = g }) (step-of g A t)
+pub kid-does : {tab : Table} (A : Numbers) {i j : ℕ} {t : Stmt} (g : Going) → Kid tab i j t → Does tab A (task j g) (step-of g A t)
 kid-does A {t = t} g k = record { tree = t; there = k .there; its-step = refl }
 
 -- The second child's place, as the code finds it.
 abbrev pub Second : Table → ℕ → ℕ → Type 0
 Second tab i n = i + 1 < 512 → n ≡ i + 1 + getD (tab .sizes) (i + 1) 0
+
+pub behind : {tab : Table} (i : ℕ) {n : ℕ} → Second tab i n → (p : Stmt) → At tab (i + 1) p → n ≡ i + 1 + statements p
+behind i f p a = f (in-table (record { tree = p; there = a })) ∙ ap (λ (x : ℕ). i + 1 + x) (row p (a .has) .its-size)
 
 first-kid : {tab : Table} {i : ℕ} (m : ℕ) (p : Stmt) → getD (tab .sizes) i 0 ≡ m → statements p < m → i + m ≤ 512 → Has tab (i + 1) p → Small p → Kid tab i (i + 1) p
 first-kid {tab} {i} m p e l h k s = record {
@@ -90,14 +98,21 @@ unfolding Kids Has Small statements
 kids f nothing h = tt
 kids f (pause m) h = h .small
 kids f (emit s) h = h .small
-kids f (present? s then p else q) h =
-    (h .small .0, first-kid (1 + statements p + statements q) p (h .has .0 .its-size) (omega (arith, statements-pos q)) (h .room) (h .has .1) (h .small .1), second-kid (1 + statements p + statements q) p q f (h .has .0 .its-size) refl (h .room) (h .has .1) (h .has .2) (h .small .2))
+kids f (present? s then p else q) h = (
+  h .small .0,
+  first-kid (1 + statements p + statements q) p (h .has .0 .its-size) (omega (arith, statements-pos q)) (h .room) (h .has .1) (h .small .1),
+  second-kid (1 + statements p + statements q) p q f (h .has .0 .its-size) refl (h .room) (h .has .1) (h .has .2) (h .small .2),
+)
 kids f (suspend p on s) h = (h .small .0, first-kid (1 + statements p) p (h .has .0 .its-size) (omega arith) (h .room) (h .has .1) (h .small .1))
-kids f (p ⨾ q) h =
-    (first-kid (1 + statements p + statements q) p (h .has .0 .its-size) (omega (arith, statements-pos q)) (h .room) (h .has .1) (h .small .0), second-kid (1 + statements p + statements q) p q f (h .has .0 .its-size) refl (h .room) (h .has .1) (h .has .2) (h .small .1))
+kids f (p ⨾ q) h = (
+  first-kid (1 + statements p + statements q) p (h .has .0 .its-size) (omega (arith, statements-pos q)) (h .room) (h .has .1) (h .small .0),
+  second-kid (1 + statements p + statements q) p q f (h .has .0 .its-size) refl (h .room) (h .has .1) (h .has .2) (h .small .1),
+)
 kids f (loop p) h = first-kid (1 + statements p) p (h .has .0 .its-size) (omega arith) (h .room) (h .has .1) (h .small)
-kids f (p parallel q) h =
-    (first-kid (1 + statements p + statements q) p (h .has .0 .its-size) (omega (arith, statements-pos q)) (h .room) (h .has .1) (h .small .0), second-kid (1 + statements p + statements q) p q f (h .has .0 .its-size) refl (h .room) (h .has .1) (h .has .2) (h .small .1))
+kids f (p parallel q) h = (
+  first-kid (1 + statements p + statements q) p (h .has .0 .its-size) (omega (arith, statements-pos q)) (h .room) (h .has .1) (h .small .0),
+  second-kid (1 + statements p + statements q) p q f (h .has .0 .its-size) refl (h .room) (h .has .1) (h .has .2) (h .small .1),
+)
 kids f (trap p) h = first-kid (1 + statements p) p (h .has .0 .its-size) (omega arith) (h .room) (h .has .1) (h .small)
 kids f (exit (depth d)) h = h .small
 kids f (local s p) h = (h .small .0, first-kid (1 + statements p) p (h .has .0 .its-size) (omega arith) (h .room) (h .has .1) (h .small .1))
@@ -114,13 +129,7 @@ started-form k o p q =
     (cond (eqb k 23) (Beside p q) (cond (eqb k 24) (Catch p) (cond (eqb k 25) (Leave (record { 0 = o })) (cond (eqb k 26) (Scope o p) Done)))))))))
 
 module _ (tab : Table) (i n : ℕ) where
-  abbrev pub first-task : Going → Task
-  first-task g = record { at = i + 1; going = g }
-
-  abbrev pub next-task : Going → Task
-  next-task g = record { at = n; going = g }
-
-  pub started-shows : (A : Numbers) (t : Stmt) → Kids tab i n t → Shows tab A (started-form (kind-of t) (operand-of t) (first-task Started) (next-task Started)) (started t)
+  started-shows : (A : Numbers) (t : Stmt) → Kids tab i n t → Shows tab A (started-form (kind-of t) (operand-of t) (task (i + 1) Started) (task n Started)) (started t)
   unfolding Kids Shows kind-of operand-of started step-of
   started-shows A nothing k = refl
   started-shows A (pause m) k = (k, refl)
@@ -135,7 +144,7 @@ module _ (tab : Table) (i n : ℕ) where
   started-shows A (exit (depth d)) k = (k, refl)
   started-shows A (local s p) k = (k .0, record { inner = started p; made = refl; does = kid-does A Started (k .1) })
 
-  pub started-under : (t : Stmt) → Kids tab i n t → TasksUnder tab i (started-form (kind-of t) (operand-of t) (first-task Started) (next-task Started))
+  started-under : (t : Stmt) → Kids tab i n t → TasksUnder tab i (started-form (kind-of t) (operand-of t) (task (i + 1) Started) (task n Started))
   unfolding Kids TasksUnder kind-of operand-of
   started-under nothing k = tt
   started-under (pause m) k = tt
@@ -149,18 +158,20 @@ module _ (tab : Table) (i n : ℕ) where
   started-under (exit (depth d)) k = tt
   started-under (local s p) k = kid-under Started (k .1)
 
-  -- The code's arm for the kind k.
-  pub started-formed : Placed tab i → Second tab i n → (k : ℕ) → getD (tab .kinds) i 0 ≡ k → (live : List Bool)
-      → Formed tab live (record { at = i; going = Started }) (started-form k (getD (tab .operands) i 0) (first-task Started) (next-task Started))
-  unfolding step-of
-  started-formed pl f k e live = record {
-    tasks-under = subst₂ (λ (x y : ℕ). TasksUnder tab i (started-form x y (first-task Started) (next-task Started)))
-        (sym (row (pl .tree) (pl .there .has) .its-kind) ∙ e) (sym (row (pl .tree) (pl .there .has) .its-operand)) (started-under (pl .tree) (kids f (pl .tree) (pl .there)));
-    shows = λ A l p d.
-        subst (Shows tab A (started-form k (getD (tab .operands) i 0) (first-task Started) (next-task Started))) (sym (d .its-step))
-        (subst₂ (λ (x y : ℕ). Shows tab A (started-form x y (first-task Started) (next-task Started)) (started (d .tree)))
-        (sym (row (d .tree) (d .there .has) .its-kind) ∙ e) (sym (row (d .tree) (d .there .has) .its-operand)) (started-shows A (d .tree) (kids f (d .tree) (d .there))));
-  }
+-- The code's arm for the kind k.
+pub started-formed : {tab : Table} {i n : ℕ} → Placed tab i → Second tab i n → (k : ℕ) → getD (tab .kinds) i 0 ≡ k → (live : List Bool)
+    → Formed tab live (task i Started) (started-form k (getD (tab .operands) i 0) (task (i + 1) Started) (task n Started))
+unfolding step-of
+started-formed {tab} {i} {n} pl f k e live = record {
+  tasks-under = subst₂ (λ (x y : ℕ). TasksUnder tab i (started-form x y (task (i + 1) Started) (task n Started)))
+      (sym (row (pl .tree) (pl .there .has) .its-kind) ∙ e) (sym (row (pl .tree) (pl .there .has) .its-operand))
+      (started-under tab i n (pl .tree) (kids f (pl .tree) (pl .there)));
+  shows = λ A l p d.
+      subst (Shows tab A (started-form k (getD (tab .operands) i 0) (task (i + 1) Started) (task n Started))) (sym (d .its-step))
+      (subst₂ (λ (x y : ℕ). Shows tab A (started-form x y (task (i + 1) Started) (task n Started)) (started (d .tree)))
+      (sym (row (d .tree) (d .there .has) .its-kind) ∙ e) (sym (row (d .tree) (d .there .has) .its-operand))
+      (started-shows tab i n A (d .tree) (kids f (d .tree) (d .there))));
+}
 
 -- Resumed.
 abbrev pub arm-task : Bool → ℕ → Task
@@ -168,12 +179,12 @@ arm-task b j = record { at = j; going = cond b Resumed Idle }
 
 abbrev pub resumed-form : ℕ → ℕ → ℕ → ℕ → Bool → Bool → Form
 resumed-form k o i n lp lq =
-    cond (eqb k 19) (Same (cond lp (record { at = i + 1; going = Resumed }) (record { at = n; going = Resumed })))
-    (cond (eqb k 20) (Test o (record { at = i + 1; going = Held }) (record { at = i + 1; going = Resumed }))
-    (cond (eqb k 21) (cond lp (Chain (record { at = i + 1; going = Resumed }) (record { at = n; going = Started })) (Same (record { at = n; going = Resumed })))
-    (cond (eqb k 22) (Chain (record { at = i + 1; going = Resumed }) (record { at = i + 1; going = Started }))
+    cond (eqb k 19) (Same (cond lp (task (i + 1) Resumed) (task n Resumed)))
+    (cond (eqb k 20) (Test o (task (i + 1) Held) (task (i + 1) Resumed))
+    (cond (eqb k 21) (cond lp (Chain (task (i + 1) Resumed) (task n Started)) (Same (task n Resumed)))
+    (cond (eqb k 22) (Chain (task (i + 1) Resumed) (task (i + 1) Started))
     (cond (eqb k 23) (Beside (arm-task lp (i + 1)) (arm-task lq n))
-    (cond (eqb k 24) (Catch (record { at = i + 1; going = Resumed })) (cond (eqb k 26) (Scope o (record { at = i + 1; going = Resumed })) Done))))))
+    (cond (eqb k 24) (Catch (task (i + 1) Resumed)) (cond (eqb k 26) (Scope o (task (i + 1) Resumed)) Done))))))
 
 -- What the code's two flags say of the children.
 pub record Flags (tab : Table) (A : Numbers) (i n : ℕ) (lp lq : Bool) : Type 0 where
@@ -182,13 +193,13 @@ pub record Flags (tab : Table) (A : Numbers) (i n : ℕ) (lp lq : Bool) : Type 0
 
 module _ (tab : Table) (i n : ℕ) where
   either-does : (A : Numbers) (b : Bool) {p q : Stmt} → Kid tab i (i + 1) p → Kid tab i n q
-      → Does tab A (cond b (record { at = i + 1; going = Resumed }) (record { at = n; going = Resumed })) (cond b (resumed A p) (resumed A q))
+      → Does tab A (cond b (task (i + 1) Resumed) (task n Resumed)) (cond b (resumed A p) (resumed A q))
   unfolding step-of
   either-does A true k l = kid-does A Resumed k
   either-does A false k l = kid-does A Resumed l
 
   either-chain : (A : Numbers) (b : Bool) (p q : Stmt) → Kid tab i (i + 1) p → Kid tab i n q
-      → Shows tab A (cond b (Chain (record { at = i + 1; going = Resumed }) (record { at = n; going = Started })) (Same (record { at = n; going = Resumed })))
+      → Shows tab A (cond b (Chain (task (i + 1) Resumed) (task n Started)) (Same (task n Resumed)))
       (cond b (chain (resumed A p) (started q)) (resumed A q))
   unfolding Shows step-of
   either-chain A true p q k l = record { first = resumed A p; later = started q; made = refl; left = kid-does A Resumed k; right = kid-does A Started l }
@@ -199,13 +210,13 @@ module _ (tab : Table) (i n : ℕ) where
   arm-does A true k = kid-does A Resumed k
   arm-does A false k = kid-does A Idle k
 
-  pub resumed-shows : (A : Numbers) (lp lq : Bool) → Flags tab A i n lp lq → (t : Stmt) → Kids tab i n t → Shows tab A (resumed-form (kind-of t) (operand-of t) i n lp lq) (resumed A t)
+  resumed-shows : (A : Numbers) (lp lq : Bool) → Flags tab A i n lp lq → (t : Stmt) → Kids tab i n t → Shows tab A (resumed-form (kind-of t) (operand-of t) i n lp lq) (resumed A t)
   unfolding Kids Shows kind-of operand-of resumed step-of
   resumed-shows A lp lq f nothing k = refl
   resumed-shows A lp lq f (pause m) k = refl
   resumed-shows A lp lq f (emit s) k = refl
   resumed-shows A lp lq f (present? s then p else q) k =
-      subst (λ (b : Bool). Does tab A (cond lp (record { at = i + 1; going = Resumed }) (record { at = n; going = Resumed })) (cond b (resumed A p) (resumed A q)))
+      subst (λ (b : Bool). Does tab A (cond lp (task (i + 1) Resumed) (task n Resumed)) (cond b (resumed A p) (resumed A q)))
       (f .on-first p (k .1 .there)) (either-does A lp (k .1) (k .2))
   resumed-shows A lp lq f (suspend p on s) k =
       (k .0, record { first = stay (held A p); later = resumed A p; made = refl; left = kid-does A Held (k .1); right = kid-does A Resumed (k .1) })
@@ -224,17 +235,17 @@ module _ (tab : Table) (i n : ℕ) where
   resumed-shows A lp lq f (exit (depth d)) k = refl
   resumed-shows A lp lq f (local s p) k = (k .0, record { inner = resumed A p; made = refl; does = kid-does A Resumed (k .1) })
 
-  either-under : (b : Bool) {p q : Stmt} → Kid tab i (i + 1) p → Kid tab i n q → Under tab i (cond b (record { at = i + 1; going = Resumed }) (record { at = n; going = Resumed }))
+  either-under : (b : Bool) {p q : Stmt} → Kid tab i (i + 1) p → Kid tab i n q → Under tab i (cond b (task (i + 1) Resumed) (task n Resumed))
   either-under true k l = kid-under Resumed k
   either-under false k l = kid-under Resumed l
 
   chain-under : (b : Bool) {p q : Stmt} → Kid tab i (i + 1) p → Kid tab i n q
-      → TasksUnder tab i (cond b (Chain (record { at = i + 1; going = Resumed }) (record { at = n; going = Started })) (Same (record { at = n; going = Resumed })))
+      → TasksUnder tab i (cond b (Chain (task (i + 1) Resumed) (task n Started)) (Same (task n Resumed)))
   unfolding TasksUnder
   chain-under true k l = (kid-under Resumed k, kid-under Started l)
   chain-under false k l = kid-under Resumed l
 
-  pub resumed-under : (lp lq : Bool) (t : Stmt) → Kids tab i n t → TasksUnder tab i (resumed-form (kind-of t) (operand-of t) i n lp lq)
+  resumed-under : (lp lq : Bool) (t : Stmt) → Kids tab i n t → TasksUnder tab i (resumed-form (kind-of t) (operand-of t) i n lp lq)
   unfolding Kids TasksUnder kind-of operand-of
   resumed-under lp lq nothing k = tt
   resumed-under lp lq (pause m) k = tt
@@ -248,26 +259,30 @@ module _ (tab : Table) (i n : ℕ) where
   resumed-under lp lq (exit (depth d)) k = tt
   resumed-under lp lq (local s p) k = kid-under Resumed (k .1)
 
-  pub resumed-formed : Placed tab i → Second tab i n → (live : List Bool) (lp lq : Bool) → (i + 1 < 512 → lp ≡ getD live (i + 1) false) → (n < 512 → lq ≡ getD live n false) → (k : ℕ) → getD (tab .kinds) i 0 ≡ k
-      → Formed tab live (record { at = i; going = Resumed }) (resumed-form k (getD (tab .operands) i 0) i n lp lq)
-  unfolding step-of
-  resumed-formed pl f live lp lq g h k e = record {
-    tasks-under = subst₂ (λ (x y : ℕ). TasksUnder tab i (resumed-form x y i n lp lq))
-        (sym (row (pl .tree) (pl .there .has) .its-kind) ∙ e) (sym (row (pl .tree) (pl .there .has) .its-operand)) (resumed-under lp lq (pl .tree) (kids f (pl .tree) (pl .there)));
-    shows = λ A l p d.
-        subst (Shows tab A (resumed-form k (getD (tab .operands) i 0) i n lp lq)) (sym (d .its-step))
-        (subst₂ (λ (x y : ℕ). Shows tab A (resumed-form x y i n lp lq) (resumed A (d .tree)))
-        (sym (row (d .tree) (d .there .has) .its-kind) ∙ e) (sym (row (d .tree) (d .there .has) .its-operand)) (resumed-shows A lp lq (flags A l) (d .tree) (kids f (d .tree) (d .there))));
-  }
-    where
-      flags : (A : Numbers) → Live tab A live → Flags tab A i n lp lq
-      flags A l = record {
-        on-first = λ p a. g (in-table (record { tree = p; there = a })) ∙ l .says (i + 1) p a;
-        on-next = λ q b a. h (in-table (record { tree = q; there = a })) ∙ l .says n q a;
-      }
+pub resumed-formed : {tab : Table} {i n : ℕ} → Placed tab i → Second tab i n → {live : List Bool} {lp lq : Bool}
+    → (i + 1 < 512 → lp ≡ getD live (i + 1) false) → (n < 512 → lq ≡ getD live n false) → (k : ℕ) → getD (tab .kinds) i 0 ≡ k
+    → Formed tab live (task i Resumed) (resumed-form k (getD (tab .operands) i 0) i n lp lq)
+unfolding step-of
+resumed-formed {tab} {i} {n} pl f {live} {lp} {lq} g h k e = record {
+  tasks-under = subst₂ (λ (x y : ℕ). TasksUnder tab i (resumed-form x y i n lp lq))
+      (sym (row (pl .tree) (pl .there .has) .its-kind) ∙ e) (sym (row (pl .tree) (pl .there .has) .its-operand))
+      (resumed-under tab i n lp lq (pl .tree) (kids f (pl .tree) (pl .there)));
+  shows = λ A l p d.
+      subst (Shows tab A (resumed-form k (getD (tab .operands) i 0) i n lp lq)) (sym (d .its-step))
+      (subst₂ (λ (x y : ℕ). Shows tab A (resumed-form x y i n lp lq) (resumed A (d .tree)))
+      (sym (row (d .tree) (d .there .has) .its-kind) ∙ e) (sym (row (d .tree) (d .there .has) .its-operand))
+      (resumed-shows tab i n A lp lq (flags A l) (d .tree) (kids f (d .tree) (d .there))));
+}
+  where
+    flags : (A : Numbers) → Live tab A live → Flags tab A i n lp lq
+    flags A l = record {
+      on-first = λ p a. g (in-table (record { tree = p; there = a })) ∙ l .says (i + 1) p a;
+      on-next = λ q b a. h (in-table (record { tree = q; there = a })) ∙ l .says n q a;
+    }
 
 -- The kinds that have nothing to do when resumed.
-pub resumed-done : (A : Numbers) (t : Stmt) → (kind-of t ≡ 19 → ⊥) → (kind-of t ≡ 20 → ⊥) → (kind-of t ≡ 21 → ⊥) → (kind-of t ≡ 22 → ⊥) → (kind-of t ≡ 23 → ⊥) → (kind-of t ≡ 24 → ⊥) → (kind-of t ≡ 26 → ⊥) → resumed A t ≡ done
+pub resumed-done : (A : Numbers) (t : Stmt) → (kind-of t ≡ 19 → ⊥) → (kind-of t ≡ 20 → ⊥) → (kind-of t ≡ 21 → ⊥) → (kind-of t ≡ 22 → ⊥)
+    → (kind-of t ≡ 23 → ⊥) → (kind-of t ≡ 24 → ⊥) → (kind-of t ≡ 26 → ⊥) → resumed A t ≡ done
 unfolding resumed kind-of
 resumed-done A nothing a b c d e f g = refl
 resumed-done A (pause m) a b c d e f g = refl
@@ -289,8 +304,8 @@ pub idle-formed : {tab : Table} {live : List Bool} (c : Task) → c .going ≡ I
 unfolding step-of
 idle-formed c e = done-formed (λ A t h. ap (λ (g : Going). step-of g A t) e)
 
-pub going-formed : {tab : Table} {live : List Bool} (c : Task) (g : Going) (f : Form) → c .going ≡ g → Formed tab live (record { at = c .at; going = g }) f → Formed tab live c f
-going-formed {tab} {live} c g f e h = subst (λ (x : Going). Formed tab live (record { at = c .at; going = x }) f) (sym e) h
+pub going-formed : {tab : Table} {live : List Bool} (c : Task) (g : Going) (f : Form) → c .going ≡ g → Formed tab live (task (c .at) g) f → Formed tab live c f
+going-formed {tab} {live} c g f e h = subst (λ (x : Going). Formed tab live (task (c .at) x) f) (sym e) h
 
 pub keep-formed : {tab : Table} {live : List Bool} (c : Task) → Placed tab (c .at) → c .going ≡ Held → Formed tab live c (Keep (c .at))
 unfolding TasksUnder Shows step-of
@@ -302,6 +317,36 @@ keep-formed c pl e = record {
 pub formed : {tab : Table} {live : List Bool} {c : Task} {f g : Form} → Formed tab live c f → f ≡ g → Formed tab live c g
 formed {tab} {live} {c} h e = subst (Formed tab live c) e h
 
--- A call on a part: the part is placed, and smaller.
+-- The tasks of a form are placed, and smaller.
+module _ {tab : Table} {live : List Bool} {c : Task} {f : Form} (h : Formed tab live c f) where
+  pub under-test : {s : ℕ} {p q : Task} → f ≡ Test s p q → Under tab (c .at) p × Under tab (c .at) q
+  unfolding TasksUnder
+  under-test e = formed h e .tasks-under
+
+  pub under-catch : {p : Task} → f ≡ Catch p → Under tab (c .at) p
+  unfolding TasksUnder
+  under-catch e = formed h e .tasks-under
+
+  pub under-scope : {s : ℕ} {p : Task} → f ≡ Scope s p → Under tab (c .at) p
+  unfolding TasksUnder
+  under-scope e = formed h e .tasks-under
+
+  pub under-chain : {p q : Task} → f ≡ Chain p q → Under tab (c .at) p × Under tab (c .at) q
+  unfolding TasksUnder
+  under-chain e = formed h e .tasks-under
+
+  pub under-beside : {p q : Task} → f ≡ Beside p q → Under tab (c .at) p × Under tab (c .at) q
+  unfolding TasksUnder
+  under-beside e = formed h e .tasks-under
+
+  pub under-same : {p : Task} → f ≡ Same p → Under tab (c .at) p
+  unfolding TasksUnder
+  under-same e = formed h e .tasks-under
+
+  pub placed-keep : {i : ℕ} → f ≡ Keep i → Placed tab i
+  unfolding TasksUnder
+  placed-keep e = formed h e .tasks-under
+
+-- A call on a task that is smaller.
 pub call-task : {tab : Table} {i t : ℕ} {p : Task} → Under tab i p → getD (tab .sizes) i 0 ≡ t → (getD (tab .sizes) (p .at) 0 < t) × Placed tab (p .at)
 call-task u e = (omega (arith, u .smaller), u .placed)

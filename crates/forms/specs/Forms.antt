@@ -41,13 +41,13 @@ pub record Live (tab : Table) (A : Numbers) (live : List Bool) : Type 0 where
 pub record LiveFrom (tab : Table) (A : Numbers) (live : List Bool) (j : ℕ) : Type 0 where
   pub says : (i : ℕ) (t : Stmt) → j ≤ i → At tab i t → getD live i false ≡ active A t
 
--- A part of the table has this to do.
+-- A task has this to do.
 pub record Does (tab : Table) (A : Numbers) (c : Task) (p : Step) : Type 0 where
   pub tree : Stmt
   pub there : At tab (c .at) tree
   pub its-step : p ≡ step-of (c .going) A tree
 
--- A step made of one part's, and of two parts'.
+-- A step made of one task's, and of two tasks'.
 pub record OfOne (tab : Table) (A : Numbers) (make : Step → Step) (c : Task) (p : Step) : Type 0 where
   pub inner : Step
   pub made : p ≡ make inner
@@ -80,7 +80,7 @@ Shows tab A (Chain c d) p = OfTwo tab A chain c d p
 Shows tab A (Beside c d) p = OfTwo tab A beside c d p
 Shows tab A (Same c) p = Does tab A c p
 
--- A part is placed in the table, and is smaller than the statement at i.
+-- A task is placed in the table, and is smaller than the statement at i.
 pub record Under (tab : Table) (i : ℕ) (c : Task) : Type 0 where
   pub placed : Placed tab (c .at)
   pub smaller : getD (tab .sizes) (c .at) 0 < getD (tab .sizes) i 0
@@ -98,7 +98,7 @@ TasksUnder tab i (Chain c d) = Under tab i c × Under tab i d
 TasksUnder tab i (Beside c d) = Under tab i c × Under tab i d
 TasksUnder tab i (Same c) = Under tab i c
 
--- The form of a part.
+-- The form of a task.
 pub record Formed (tab : Table) (live : List Bool) (c : Task) (f : Form) : Type 0 where
   pub tasks-under : TasksUnder tab (c .at) f
   pub shows : (A : Numbers) → Live tab A live → (p : Step) → Does tab A c p → Shows tab A f p

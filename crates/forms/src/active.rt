@@ -22,7 +22,7 @@ fn or(a: bool, b: bool) -> bool
     if a { true } else { b }
 }
 
-// Whether the statement at a place holds an active pause, where that is known of all later ones.
+// Whether the statement at a place holds an active pause, where that is known of all later ones. How many children it has is told by the sizes.
 fn holds_active(
     kinds: &[u16; 512],
     operands: &[u16; 512],
@@ -32,24 +32,22 @@ fn holds_active(
     at: usize,
 ) -> bool
     requires { ⌜ at < 512 ⌝ }
-    ensures { λ r. ⌜ (LiveFrom (table-of (now (kinds .entry)) (now (operands .entry)) (now (sizes .entry))) (set-of set) (now (live .entry)) (at + 1) → (t : Stmt) → At (table-of (now (kinds .entry)) (now (operands .entry)) (now (sizes .entry))) at t → r ≡ active (set-of set) t) ⌝ }
+    ensures { λ r. ⌜ (LiveFrom (table-of (now (kinds .entry)) (now (operands .entry)) (now (sizes .entry))) (set-of set) (now (live .entry)) (at + 1)
+        → (t : Stmt) → At (table-of (now (kinds .entry)) (now (operands .entry)) (now (sizes .entry))) at t → r ≡ active (set-of set) t) ⌝ }
 {
-    let kind = kinds[at];
-    let first = live_at(live, at + 1);
-    match kind {
-        16 => false,
-        17 => has_pause(set, operands[at]),
-        18 => false,
-        19 => or(first, live_at(live, second_at(sizes, at))),
-        20 => first,
-        21 => or(first, live_at(live, second_at(sizes, at))),
-        22 => first,
-        23 => or(first, live_at(live, second_at(sizes, at))),
-        24 => first,
-        25 => false,
-        26 => first,
-        _ => false,
+    if kinds[at] == 17 {
+        return has_pause(set, operands[at]);
     }
+    let size = wide(sizes[at]);
+    if size < 2 {
+        return false;
+    }
+    let first = live_at(live, at + 1);
+    let next = second_at(sizes, at);
+    if next < at + size {
+        return or(first, live_at(live, next));
+    }
+    first
 }
 
 // Which statements hold an active pause: from the last row to the first, so that a statement's children are done before it.

@@ -18,13 +18,13 @@ pub enum Going {
     Idle,
 }
 
-// A statement by its number.
+// What there is to do of a statement: its number, and how it is taken.
 pub struct Task {
     pub at: usize,
     pub going: Going,
 }
 
-// The things that there are to do, with the parts of the statement that do them.
+// The things that there are to do, with the tasks that they leave.
 pub enum Form {
     Done,
     Stay(u16),

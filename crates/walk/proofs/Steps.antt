@@ -1,6 +1,6 @@
--- Each way through the walks: what the words of the parts say of the words of the whole. One lemma a way, for every question that takes it.
+-- Each way through the walks: what the words of the tasks say of the words of the whole. One lemma a way, for every question that takes it.
 -- Assumes nothing.
-use mathlib.Core.Path.{_≡_, refl, sym, ap, ap₂, _∙_, subst}
+use mathlib.Core.Path.{_≡_, refl, sym, ap, ap₂, _∙_, subst, subst⁻¹}
 use mathlib.Core.Bool.{Bool, true, false}
 use mathlib.Core.List.{List}
 use Prim.Native.Nat.{ℕ, _+_, _*_, _<_, max}
@@ -23,7 +23,8 @@ use Rattle.forms.specs.declared.form.Form.{Form}
 use Rattle.forms.specs.declared.form.Form.the-variants.{Done, Stay, Keep, Say, Leave, Test, Catch, Scope, Chain, Beside, Same}
 use Rattle.words.specs.Words.{event-of, seen-as, given-of, quiet, loud}
 use Rattle.forms.specs.Forms.{Placed, Live, Shows, Under, Formed}
-use Rattle.walk.specs.Walks.{Followed, Hidden, Gives, Walked}
+use Rattle.walk.specs.Walks.{Doubted, Caught, Both, Followed, Hidden, Gives, Walked}
+use Rattle.forms.proofs.FormLaws.{formed}
 
 -- The rules, as the questions meet them.
 leave-gives : (k : Question) (d : ℕ) (E : Event) → gives k (leave (depth d)) E ≡ quiet (d + 2)
@@ -50,7 +51,7 @@ doubted-can m s p q E e = rw (← e)
 pub skipped : (X Y Z : Given) → X .codes 0 ≡ false → followed X Y ≡ followed X Z
 skipped X Y Z e = rw e
 
--- A part does what its form shows.
+-- A task does what its form shows.
 pub via-form : {k : Question} {tab : Table} {live : List Bool} {c : Task} {f : Form} {e : Heard} {x : GivenWords} → Formed tab live c f → Gives k tab live f e x → Gives k tab live (Same c) e x
 unfolding Shows
 via-form h g = record { at = λ A l p d. g .at A l p (h .shows A l p d) }
@@ -115,7 +116,8 @@ module _ {k : Question} {tab : Table} {live : List Bool} {e : Heard} {x : GivenW
   via-beside r g h = record { at = λ A l p w. r ∙ ap₂ both (g .at A l (w .first) (w .left)) (h .at A l (w .later) (w .right)) ∙ same-step k e (w .made) }
 
   -- The second part's question is the one that the first part's must code asks for.
-  pub via-chain : {p q : Task} {a b m : GivenWords} (z : Bool) → given-of x ≡ followed (given-of a) (given-of b) → Gives k tab live (Same p) e a → Gives must tab live (Same p) e m → bits (m .codes) 0 ≡ z
+  pub via-chain : {p q : Task} {a b m : GivenWords} (z : Bool) → given-of x ≡ followed (given-of a) (given-of b) → Gives k tab live (Same p) e a → Gives must tab live (Same p) e m
+      → bits (m .codes) 0 ≡ z
       → Gives (onward k z) tab live (Same q) e b → Gives k tab live (Chain p q) e x
   unfolding Shows gives given-of
   via-chain z r g n v h = record {
@@ -125,7 +127,8 @@ module _ {k : Question} {tab : Table} {live : List Bool} {e : Heard} {x : GivenW
         ∙ same-step k e (w .made);
   }
 
-  pub via-skipped : {p q : Task} {a : GivenWords} (b : GivenWords) → given-of x ≡ followed (given-of a) (given-of b) → Gives k tab live (Same p) e a → bits (a .codes) 0 ≡ false → Gives k tab live (Chain p q) e x
+  pub via-skipped : {p q : Task} {a : GivenWords} (b : GivenWords) → given-of x ≡ followed (given-of a) (given-of b) → Gives k tab live (Same p) e a → bits (a .codes) 0 ≡ false
+      → Gives k tab live (Chain p q) e x
   unfolding Shows gives given-of
   via-skipped {a = a} b r g v = record {
     at = λ A l p w.
@@ -162,13 +165,43 @@ module _ {tab : Table} {live : List Bool} {e : Heard} {x : GivenWords} where
         r ∙ ap₂ either (g .at A l (w .first) (w .left)) (h .at A l (w .later) (w .right)) ∙ doubted-can m s (w .first) (w .later) (event-of e) (v (d .0)) ∙ same-step (can m) e (w .made);
   }
 
-  pub open-chain : {p q : Task} {a b : GivenWords} → given-of x ≡ followed (given-of a) (given-of b) → Gives (can opened) tab live (Same p) e a → Gives (can opened) tab live (Same q) e b → Gives (can opened) tab live (Chain p q) e x
+  pub open-chain : {p q : Task} {a b : GivenWords} → given-of x ≡ followed (given-of a) (given-of b) → Gives (can opened) tab live (Same p) e a
+      → Gives (can opened) tab live (Same q) e b → Gives (can opened) tab live (Chain p q) e x
   unfolding Shows gives
   open-chain r g h = record { at = λ A l p w. r ∙ ap₂ followed (g .at A l (w .first) (w .left)) (h .at A l (w .later) (w .right)) ∙ same-step (can opened) e (w .made) }
 
--- Both questions of one walk.
-pub walked-form : {m : Mark} {tab : Table} {live : List Bool} {c : Task} {f : Form} {e : Heard} {r : MustCan} → Formed tab live c f → Walked m tab live f e r → Walked m tab live (Same c) e r
-walked-form h w = record { in-must = λ q. via-form h (w .in-must q); in-can = via-form h (w .in-can) }
+-- Both questions of one walk: by the task's form, and form by form.
+pub walked-as : {m : Mark} {tab : Table} {live : List Bool} {c : Task} {f g : Form} {e : Heard} {r : MustCan} → Formed tab live c f → f ≡ g
+    → Walked m tab live g e r → Walked m tab live (Same c) e r
+walked-as h q w = record { in-must = λ i. via-form (formed h q) (w .in-must i); in-can = via-form (formed h q) (w .in-can) }
+
+pub walked-sure : {m : Mark} {tab : Table} {live : List Bool} {f : Form} {e : Heard} {x : GivenWords} {r : MustCan} → (r .must ≡ x) × (r .can ≡ x)
+    → ((k : Question) → Gives k tab live f e x) → Walked m tab live f e r
+walked-sure {m} {tab} {live} {f} {e} s g = record {
+  in-must = λ h. subst⁻¹ (Gives must tab live f e) (s .0) (g must);
+  in-can = subst⁻¹ (Gives (can m) tab live f e) (s .1) (g (can m));
+}
+
+module _ {m : Mark} {tab : Table} {live : List Bool} {e : Heard} {p q : Task} {r : MustCan} where
+  pub walked-present : {s : ℕ} → (s < 64 → present ≡ event-of e s) → Walked m tab live (Same p) e r → Walked m tab live (Test s p q) e r
+  walked-present v w = record { in-must = λ h. via-present v (w .in-must h); in-can = via-present v (w .in-can) }
+
+  pub walked-absent : {s : ℕ} → (s < 64 → absent ≡ event-of e s) → Walked m tab live (Same q) e r → Walked m tab live (Test s p q) e r
+  walked-absent v w = record { in-must = λ h. via-absent v (w .in-must h); in-can = via-absent v (w .in-can) }
+
+  pub walked-doubted : {s : ℕ} {a b : MustCan} → (s < 64 → unknown ≡ event-of e s) → Doubted r (a .can) (b .can) → Walked opened tab live (Same p) e a
+      → Walked opened tab live (Same q) e b → Walked m tab live (Test s p q) e r
+  walked-doubted v d wa wb = record { in-must = λ h. must-unknown v (d .in-must); in-can = can-unknown v (d .in-can) (wa .in-can) (wb .in-can) }
+
+  pub walked-beside : {a b : MustCan} → Both r a b → Walked m tab live (Same p) e a → Walked m tab live (Same q) e b → Walked m tab live (Beside p q) e r
+  walked-beside d wa wb = record {
+    in-must = λ h. via-beside (d .in-must) (wa .in-must h) (wb .in-must h);
+    in-can = via-beside (d .in-can) (wa .in-can) (wb .in-can);
+  }
+
+pub walked-catch : {m : Mark} {tab : Table} {live : List Bool} {e : Heard} {p : Task} {a r : MustCan} → Caught r a → Walked m tab live (Same p) e a
+    → Walked m tab live (Catch p) e r
+walked-catch d w = record { in-must = λ h. via-catch (d .in-must) (w .in-must h); in-can = via-catch (d .in-can) (w .in-can) }
 
 pub under : {m n : Mark} {tab : Table} {live : List Bool} {f : Form} {e : Heard} {x : GivenWords} → m ≡ n → Gives (can m) tab live f e x → Gives (can n) tab live f e x
 under {tab = tab} {live} {f} {e} {x} q g = subst (λ (y : Mark). Gives (can y) tab live f e x) q g
@@ -213,7 +246,7 @@ module _ {m : Mark} {tab : Table} {live : List Bool} {e u : Heard} {s : ℕ} {p 
   pub walked-same : {r : MustCan} → (s < 64 → Hidden r s a) → v ≡ unknown → Walked m tab live (Scope s p) e r
   walked-same hid w = walked-local hid (λ l. doubt l ∙ ap (giving (event-of e) s) (sym w)) wa
 
--- A call on a part: the part is placed, and smaller. The measure is twice the size; a local's or a sequence's own walk is one above its parts'.
+-- A call on a task: it is placed, and smaller. The measure is twice the size; a local's or a sequence's own walk is one above its tasks'.
 module _ {tab : Table} {i t : ℕ} where
   pub call : {p : Task} → Under tab i p → 2 * getD (tab .sizes) i 0 ≡ t → (2 * getD (tab .sizes) (p .at) 0 < t) × Placed tab (p .at)
   call u e = (omega (arith, u .smaller), u .placed)
@@ -234,9 +267,3 @@ module _ {tab : Table} {t : ℕ} where
 
   pub call-later : {i j : ℕ} → Placed tab i × Placed tab j → 2 * max (getD (tab .sizes) i 0) (getD (tab .sizes) j 0) + 1 ≡ t → (2 * getD (tab .sizes) j 0 < t) × Placed tab j
   call-later pl e = (omega arith, pl .1)
-
-pub told-one : {x y : GivenWords} {g : Given} → x ≡ y → given-of y ≡ g → given-of x ≡ g
-told-one e h = ap given-of e ∙ h
-
-pub told-if : {x y : GivenWords} {P : Type 0} {g : Given} → x ≡ y → (P → given-of y ≡ g) → P → given-of x ≡ g
-told-if e f h = ap given-of e ∙ f h

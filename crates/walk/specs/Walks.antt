@@ -35,7 +35,7 @@ pub record Hidden (r : MustCan) (s : ℕ) (a : MustCan) : Type 0 where
   pub in-must : given-of (r .must) ≡ hidden s (given-of (a .must))
   pub in-can : given-of (r .can) ≡ hidden s (given-of (a .can))
 
--- The words are what the question gives, for whatever the form shows; a part is the form `Same`.
+-- The words are what the question gives, for whatever the form shows; a task is the form `Same`.
 pub record Gives (k : Question) (tab : Table) (live : List Bool) (f : Form) (e : Heard) (x : GivenWords) : Type 0 where
   pub at : (A : Numbers) → Live tab A live → (p : Step) → Shows tab A f p → given-of x ≡ gives k p (event-of e)
 

@@ -55,7 +55,8 @@ high-one b n l e = pauses-eq (0 ∷ b ∷ []) (λ k h. bits-zero k ∙ sym (eqb-
 
 pub joined-is : (a b : List ℕ) → set-of (bitOr (getD a 0 0) (getD b 0 0) ∷ bitOr (getD a 1 0) (getD b 1 0) ∷ []) ≡ union (set-of a) (set-of b)
 joined-is a b =
-    pauses-eq (bitOr (getD a 0 0) (getD b 0 0) ∷ bitOr (getD a 1 0) (getD b 1 0) ∷ []) (λ n h. bits-or (getD a 0 0) (getD b 0 0) n ∙ ap₂ (λ (x y : Bool). x || y) (sym (low-pause a n h)) (sym (low-pause b n h)))
+    pauses-eq (bitOr (getD a 0 0) (getD b 0 0) ∷ bitOr (getD a 1 0) (getD b 1 0) ∷ [])
+    (λ n h. bits-or (getD a 0 0) (getD b 0 0) n ∙ ap₂ (λ (x y : Bool). x || y) (sym (low-pause a n h)) (sym (low-pause b n h)))
     (λ n h. bits-or (getD a 1 0) (getD b 1 0) (n - 64) ∙ ap₂ (λ (x y : Bool). x || y) (sym (high-pause a n h)) (sym (high-pause b n h)))
 
 pub low-test : (a : List ℕ) (n : ℕ) → n < 64 → not (eqb (bitAnd (getD a 0 0) ((1 * 2 ^ n) % 2 ^ 64)) 0) ≡ (ltb n 128 && set-of a n)

@@ -139,7 +139,8 @@ pub fn kept_beside(a: Kept, b: Kept) -> Kept
 
 // A sequence.
 pub fn kept_chain(a: Kept, b: Kept) -> Kept
-    ensures { λ r. ⌜ KeptWith r (union (without 0 (bits (a .codes))) (only-if (bits (a .codes) 0) (bits (b .codes)))) (union (set-of (a .pauses)) (only-if (bits (a .codes) 0) (set-of (b .pauses)))) ⌝ }
+    ensures { λ r. ⌜ KeptWith r (union (without 0 (bits (a .codes))) (only-if (bits (a .codes) 0) (bits (b .codes))))
+        (union (set-of (a .pauses)) (only-if (bits (a .codes) 0) (set-of (b .pauses)))) ⌝ }
 {
     let codes = followed_codes(a.codes, b.codes);
     let first = a.pauses;

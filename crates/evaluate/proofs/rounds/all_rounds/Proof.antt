@@ -20,38 +20,47 @@ Inv-loop kinds operands sizes live part inputs outputs given marks₀ rounds₀ 
 abbrev μ-loop : tie.MeasureT-loop
 μ-loop kinds operands sizes live part inputs outputs given marks₀ rounds₀ marks rounds = outputs + 1 - rounds
 
-loop-holds : tie.Need-loop-holds Inv-loop μ-loop
-loop-holds c = (omega arith, progress-none (c .args .inputs) (c .args .outputs))
-
-undecided-of-requires : tie.Need-undecided-of-requires Inv-loop μ-loop
-undecided-of-requires c κs = c .before .before .pre .0
-
 add-t14 : tie.Need-add-t14 Inv-loop μ-loop
-add-t14 c = omega (arith, c .before .before .loop-test .taken, c .before .before .before .before .pre .0)
+add-t14 c =
+    let p1 = c .before .before in
+    let p2 = p1 .before .before in
+    omega (arith, p1 .loop-test .taken, p2 .pre .0)
 
 returns : tie.Need-returns Inv-loop μ-loop
-returns c = progress-decided (c .before .before .before .loop .inv .1) (c .before .before .loop-test .taken) (sym (c .before .undecided-of .ensures) ∙ c .if1 .taken)
+returns c =
+    let p1 = c .before .before in
+    let p2 = p1 .before in
+    progress-decided (p2 .loop .inv .1) (p1 .loop-test .taken) (sym (c .before .undecided-of .ensures) ∙ c .if1 .taken)
 
 round-of-requires : tie.Need-round-of-requires Inv-loop μ-loop
-round-of-requires c κs = c .before .before .before .before .pre
+round-of-requires c κs =
+    let p1 = c .before .before .before .before in
+    p1 .pre
 
 add-rounds : tie.Need-add-rounds Inv-loop μ-loop
-add-rounds c = omega (arith, c .before .before .before .loop-test .taken, c .before .before .before .before .before .pre .0)
-
-same-marks-requires : tie.Need-same-marks-requires Inv-loop μ-loop
-same-marks-requires c κs = tt
+add-rounds c =
+    let p1 = c .before .before .before in
+    let p2 = p1 .before .before in
+    omega (arith, p1 .loop-test .taken, p2 .pre .0)
 
 returns-2 : tie.Need-returns-2 Inv-loop μ-loop
-returns-2 c = progress-stop (c .before .before .before .before .before .before .loop .inv .1) (c .before .before .before .before .before .loop-test .taken) (c .before .before .round-of .ensures) (sym (c .before .same-marks .ensures) ∙ c .if2 .taken)
+returns-2 c =
+    let p1 = c .before .before in
+    let p2 = p1 .before .before .before in
+    let p3 = p2 .before in
+    progress-stop (p3 .loop .inv .1) (p2 .loop-test .taken) (p1 .round-of .ensures) (sym (c .before .same-marks .ensures) ∙ c .if2 .taken)
 
 loop-less : tie.Need-loop-less Inv-loop μ-loop
-loop-less c = omega (arith, c .before .before .before .before .before .loop-test .taken)
+loop-less c =
+    let p1 = c .before .before .before .before .before in
+    omega (arith, p1 .loop-test .taken)
 
 loop-again : tie.Need-loop-again Inv-loop μ-loop
-loop-again c = (omega (arith, c .before .before .before .before .before .loop-test .taken), progress-more (c .before .before .before .before .before .before .loop .inv .1) (c .before .before .before .before .before .loop-test .taken) (c .before .before .round-of .ensures) (sym (c .before .same-marks .ensures) ∙ c .if2 .left))
-
-returns-3 : tie.Need-returns-3 Inv-loop μ-loop
-returns-3 c = progress-end (c .before .loop .inv .1) (c .loop-test .left) (c .before .loop .inv .0)
+loop-again c =
+    let p1 = c .before .before in
+    let p2 = p1 .before .before .before in
+    let p3 = p2 .before in
+    (omega (arith, p2 .loop-test .taken), progress-more (p3 .loop .inv .1) (p2 .loop-test .taken) (p1 .round-of .ensures) (sym (c .before .same-marks .ensures) ∙ c .if2 .left))
 
 pub all-rounds-spec : {M : Type 1} → statement M
 all-rounds-spec =
@@ -59,14 +68,14 @@ all-rounds-spec =
     (tie.spec
     Inv-loop
     μ-loop
-    loop-holds
-    undecided-of-requires
+    (λ c. (omega arith, progress-none (c .args .inputs) (c .args .outputs)))
+    (λ c κs. c .before .before .pre .0)
     add-t14
     returns
     round-of-requires
     add-rounds
-    same-marks-requires
+    (λ c κs. tt)
     returns-2
     loop-less
     loop-again
-    returns-3)
+    (λ c. progress-end (c .before .loop .inv .1) (c .loop-test .left) (c .before .loop .inv .0)))

@@ -9,35 +9,36 @@ use borrow.Author.Needs.{needs}
 use Rattle.evaluate.proofs.rounds.answer_of.Statement.{statement}
 use Rattle.evaluate.proofs.rounds.answer_of.Tie as tie
 
-undecided-of-requires : tie.Need-undecided-of-requires
-undecided-of-requires c κs = search needs
-
-legal-codes-requires : tie.Need-legal-codes-requires
-legal-codes-requires c κs = search needs
-
 returns : tie.Need-returns
-returns c = λ b z f. not-known (lowest 18 (bits (c .before .before .before .before .args .last .codes))) (set-of (c .before .before .before .before .args .last .pauses)) (no-code (c .before .before .before .before .args .last .codes) (c .before .legal-codes .result) (c .before .legal-codes .ensures) (c .if1 .taken)) (record { known-is = refl; outputs-are = outputs-stand z f refl refl (c .before .before .undecided-of .ensures) (c .before .before .before .before .args .end .rounds) refl; code-is = refl; kept-is = none-kept; active-is = refl })
-
-code-in-requires : tie.Need-code-in-requires
-code-in-requires c κs = search needs
-
-kept-for-requires : tie.Need-kept-for-requires
-kept-for-requires c κs = search needs
-
-pause-count-requires : tie.Need-pause-count-requires
-pause-count-requires c κs = search needs
+returns c =
+    let p1 = c .before .before in
+    let p2 = p1 .before .before in
+    λ b z f.
+    not-known (lowest 18 (bits (p2 .args .last .codes))) (set-of (p2 .args .last .pauses))
+    (no-code (p2 .args .last .codes) (c .before .legal-codes .result) (c .before .legal-codes .ensures) (c .if1 .taken))
+    (record { known-is = refl; outputs-are = outputs-stand z f refl refl (p1 .undecided-of .ensures) (p2 .args .end .rounds) refl; code-is = refl; kept-is = none-kept; active-is = refl })
 
 returns-2 : tie.Need-returns-2
-returns-2 c = λ b z f. is-known (lowest 18 (bits (c .before .before .before .before .before .before .before .before .args .last .codes))) (set-of (c .before .before .before .before .before .before .before .before .args .last .pauses)) (c .before .before .before .code-in .result .0) (the-code (c .before .before .before .before .before .before .before .before .args .last .codes) (c .before .before .before .before .before .legal-codes .result) (c .before .before .before .before .before .legal-codes .ensures) (c .before .before .before .code-in .result .0) (c .before .before .before .code-in .ensures (c .before .before .before .before .if1 .left))) (kept-answer (c .before .before .before .code-in .result .0) (set-of (c .before .before .before .before .before .before .before .before .args .last .pauses)) refl (outputs-stand z f refl refl (c .before .before .before .before .before .before .undecided-of .ensures) (c .before .before .before .before .before .before .before .before .args .end .rounds) refl) refl (c .before .kept-for .ensures) (c .pause-count .ensures))
+returns-2 c =
+    let p1 = c .before .before .before in
+    let p2 = p1 .before in
+    let p3 = p2 .before in
+    let p4 = p3 .before in
+    let p5 = p4 .before .before in
+    λ b z f.
+    is-known (lowest 18 (bits (p5 .args .last .codes))) (set-of (p5 .args .last .pauses)) (p1 .code-in .result .0)
+    (the-code (p5 .args .last .codes) (p3 .legal-codes .result) (p3 .legal-codes .ensures) (p1 .code-in .result .0) (p1 .code-in .ensures (p2 .if1 .left)))
+    (kept-answer (p1 .code-in .result .0) (set-of (p5 .args .last .pauses)) refl (outputs-stand z f refl refl (p4 .undecided-of .ensures) (p5 .args .end .rounds) refl) refl
+    (c .before .kept-for .ensures) (c .pause-count .ensures))
 
 pub answer-of-spec : {M : Type 1} → statement M
 answer-of-spec =
     tie.close
     (tie.spec
-    undecided-of-requires
-    legal-codes-requires
+    (λ c κs. search needs)
+    (λ c κs. search needs)
     returns
-    code-in-requires
-    kept-for-requires
-    pause-count-requires
+    (λ c κs. search needs)
+    (λ c κs. search needs)
+    (λ c κs. search needs)
     returns-2)

@@ -4,8 +4,5 @@ use Rattle.sets.proofs.Words.{lowest-there}
 use Rattle.evaluate.proofs.rounds.code_in.Statement.{statement}
 use Rattle.evaluate.proofs.rounds.code_in.Tie as tie
 
-returns : tie.Need-returns
-returns c = λ f. lowest-there 32 (c .fits .codes .fits) f
-
 pub code-in-spec : {M : Type 1} → statement M
-code-in-spec = tie.close (tie.spec returns)
+code-in-spec = tie.close (tie.spec (λ c. λ f. lowest-there 32 (c .fits .codes .fits) f))

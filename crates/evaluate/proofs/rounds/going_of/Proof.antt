@@ -9,15 +9,6 @@ use borrow.Author.Needs.{needs}
 use Rattle.evaluate.proofs.rounds.going_of.Statement.{statement}
 use Rattle.evaluate.proofs.rounds.going_of.Tie as tie
 
-enum-told : tie.Need-enum-told
-enum-told c = search needs
-
-enum-told-2 : tie.Need-enum-told-2
-enum-told-2 c = search needs
-
-enum-told-3 : tie.Need-enum-told-3
-enum-told-3 c = search needs
-
 returns : tie.Need-returns
 unfolding step-of step started
 returns c = λ A t. ap (λ ph. step t (state-of ph A)) (sym (c .enum-told .given .1))
@@ -31,4 +22,4 @@ unfolding step-of step started
 returns-3 c = λ A t. ap (λ ph. step t (state-of ph A)) (sym (c .enum-told3 .given .1))
 
 pub going-of-spec : {M : Type 1} → statement M
-going-of-spec = tie.close (tie.spec enum-told enum-told-2 enum-told-3 returns returns-2 returns-3)
+going-of-spec = tie.close (tie.spec (λ c. search needs) (λ c. search needs) (λ c. search needs) returns returns-2 returns-3)

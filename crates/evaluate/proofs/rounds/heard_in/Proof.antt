@@ -7,11 +7,11 @@ use borrow.Author.Needs.{needs}
 use Rattle.evaluate.proofs.rounds.heard_in.Statement.{statement}
 use Rattle.evaluate.proofs.rounds.heard_in.Tie as tie
 
-below-requires : tie.Need-below-requires
-below-requires c κs = search needs
-
 returns : tie.Need-returns
-returns c = λ b n z f. heard-event b (c .before .before .before .before .below .result) (c .before .before .before .before .before .args .given) (c .before .before .before .before .before .args .marks) (λ k. c .before .before .before .before .below .ensures k ∙ ap (ltb k) (sym (z .its-inputs))) (fine-block z f)
+returns c =
+    let p1 = c .before .before .before .before in
+    let p2 = p1 .before in
+    λ b n z f. heard-event b (p1 .below .result) (p2 .args .given) (p2 .args .marks) (λ k. p1 .below .ensures k ∙ ap (ltb k) (sym (z .its-inputs))) (fine-block z f)
 
 pub heard-in-spec : {M : Type 1} → statement M
-heard-in-spec = tie.close (tie.spec below-requires returns)
+heard-in-spec = tie.close (tie.spec (λ c κs. search needs) returns)

@@ -4,8 +4,5 @@ use Rattle.evaluate.proofs.RoundLaws.{legal-is}
 use Rattle.evaluate.proofs.rounds.legal_codes.Statement.{statement}
 use Rattle.evaluate.proofs.rounds.legal_codes.Tie as tie
 
-returns : tie.Need-returns
-returns c = legal-is (c .args .codes)
-
 pub legal-codes-spec : {M : Type 1} → statement M
-legal-codes-spec = tie.close (tie.spec returns)
+legal-codes-spec = tie.close (tie.spec (λ c. legal-is (c .args .codes)))

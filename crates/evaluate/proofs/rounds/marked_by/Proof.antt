@@ -4,8 +4,5 @@ use Rattle.evaluate.proofs.RoundLaws.{marks-are}
 use Rattle.evaluate.proofs.rounds.marked_by.Statement.{statement}
 use Rattle.evaluate.proofs.rounds.marked_by.Tie as tie
 
-returns : tie.Need-returns
-returns c = marks-are (c .before .before .args .outs) (c .before .before .args .marks) (c .before .before .args .a)
-
 pub marked-by-spec : {M : Type 1} → statement M
-marked-by-spec = tie.close (tie.spec returns)
+marked-by-spec = tie.close (tie.spec (λ c. marks-are (c .before .before .args .outs) (c .before .before .args .marks) (c .before .before .args .a)))

@@ -5,35 +5,25 @@ use borrow.Author.Needs.{needs}
 use Rattle.evaluate.proofs.rounds.react.Statement.{statement}
 use Rattle.evaluate.proofs.rounds.react.Tie as tie
 
-actives-requires : tie.Need-actives-requires
-actives-requires c κs = search needs
-
-going-of-requires : tie.Need-going-of-requires
-going-of-requires c κs = search needs
-
-all-rounds-requires : tie.Need-all-rounds-requires
-all-rounds-requires c κs = search needs
-
-heard-in-requires : tie.Need-heard-in-requires
-heard-in-requires c κs = search needs
-
-next-kept-requires : tie.Need-next-kept-requires
-next-kept-requires c κs = search needs
-
-answer-of-requires : tie.Need-answer-of-requires
-answer-of-requires c κs = search needs
-
 returns : tie.Need-returns
-returns c = λ body a. instant-is (c .answer-of .result) (c .before .before .before .before .before .before .before .before .args .inputs) (c .before .before .before .before .before .before .before .before .args .outputs) (c .before .before .before .before .before .before .before .before .args .given) (c .before .before .before .before .before .before .before .before .args .phase) body a (c .before .before .before .before .before .before .going-of .ensures) (c .before .before .before .before .before .before .before .actives .ensures) (c .before .before .before .before .all-rounds .ensures) (c .before .before .before .heard-in .ensures) (c .before .next-kept .ensures) (c .answer-of .ensures)
+returns c =
+    let p1 = c .before .before .before in
+    let p2 = p1 .before in
+    let p3 = p2 .before .before in
+    let p4 = p3 .before in
+    let p5 = p4 .before in
+    λ body a.
+    instant-is (c .answer-of .result) (p5 .args .inputs) (p5 .args .outputs) (p5 .args .given) (p5 .args .phase) body a (p3 .going-of .ensures)
+    (p4 .actives .ensures) (p2 .all-rounds .ensures) (p1 .heard-in .ensures) (c .before .next-kept .ensures) (c .answer-of .ensures)
 
 pub react-spec : {M : Type 1} → statement M
 react-spec =
     tie.close
     (tie.spec
-    actives-requires
-    going-of-requires
-    all-rounds-requires
-    heard-in-requires
-    next-kept-requires
-    answer-of-requires
+    (λ c κs. search needs)
+    (λ c κs. search needs)
+    (λ c κs. search needs)
+    (λ c κs. search needs)
+    (λ c κs. search needs)
+    (λ c κs. search needs)
     returns)

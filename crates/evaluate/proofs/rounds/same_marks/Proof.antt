@@ -8,10 +8,15 @@ use Rattle.evaluate.proofs.rounds.same_marks.Statement.{statement}
 use Rattle.evaluate.proofs.rounds.same_marks.Tie as tie
 
 returns : tie.Need-returns
-returns c = sym (ap (λ (x : Bool). x && eqb (c .before .before .before .before .before .args .a .absent) (c .before .before .before .before .before .args .b .absent)) (eq-eqb (c .before .before .before .before .before .args .a .present) (c .before .before .before .before .before .args .b .present) (c .before .before .if1 .taken)))
+returns c =
+    let p1 = c .before .before in
+    let p2 = p1 .before .before .before in
+    sym (ap (λ (x : Bool). x && eqb (p2 .args .a .absent) (p2 .args .b .absent)) (eq-eqb (p2 .args .a .present) (p2 .args .b .present) (p1 .if1 .taken)))
 
 returns-2 : tie.Need-returns-2
-returns-2 c = sym (ap (λ (x : Bool). x && eqb (c .before .before .before .args .a .absent) (c .before .before .before .args .b .absent)) (ne-eqb (c .before .before .before .args .a .present) (c .before .before .before .args .b .present) (c .if1 .left)))
+returns-2 c =
+    let p1 = c .before .before .before in
+    sym (ap (λ (x : Bool). x && eqb (p1 .args .a .absent) (p1 .args .b .absent)) (ne-eqb (p1 .args .a .present) (p1 .args .b .present) (c .if1 .left)))
 
 pub same-marks-spec : {M : Type 1} → statement M
 same-marks-spec = tie.close (tie.spec returns returns-2)

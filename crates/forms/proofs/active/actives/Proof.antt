@@ -17,26 +17,26 @@ Inv-loop kinds operands sizes set live₀ i₀ live i = (i ≤ 512) × (length l
 abbrev μ-loop : tie.MeasureT-loop
 μ-loop kinds operands sizes set live₀ i₀ live i = i
 
-loop-holds : tie.Need-loop-holds Inv-loop μ-loop
-loop-holds c = (omega arith, refl, live-none)
-
-sub-i : tie.Need-sub-i Inv-loop μ-loop
-sub-i c = c .loop-test .taken
-
-holds-active-requires : tie.Need-holds-active-requires Inv-loop μ-loop
-holds-active-requires c κs = omega (arith, c .before .loop-test .taken, c .before .before .loop .inv .0)
-
 array-write-live : tie.Need-array-write-live Inv-loop μ-loop
-array-write-live c = omega (arith, c .before .before .loop-test .taken, c .before .before .before .loop .inv .0)
+array-write-live c =
+    let p1 = c .before .before in
+    let p2 = p1 .before in
+    omega (arith, p1 .loop-test .taken, p2 .loop .inv .0)
 
 loop-less : tie.Need-loop-less Inv-loop μ-loop
-loop-less c = pred-less (c .before .before .before .loop .i) (c .before .before .loop-test .taken)
+loop-less c =
+    let p1 = c .before .before in
+    let p2 = p1 .before in
+    pred-less (p2 .loop .i) (p1 .loop-test .taken)
 
 loop-again : tie.Need-loop-again Inv-loop μ-loop
-loop-again c = (omega (arith, c .before .before .before .loop .inv .0), length-set (c .before .before .before .loop .live) (c .before .before .before .loop .i - 1) (c .holds-active .result) ∙ c .before .before .before .loop .inv .1, live-step (c .before .before .before .loop .live) (c .before .before .before .loop .i) (c .holds-active .result) (c .before .before .loop-test .taken) (c .before .before .before .loop .inv .0) (c .before .before .before .loop .inv .1) (c .before .before .before .loop .inv .2) (c .holds-active .ensures))
-
-returns : tie.Need-returns Inv-loop μ-loop
-returns c = live-all (none-left (c .before .loop .i) (c .loop-test .left)) (c .before .loop .inv .2)
+loop-again c =
+    let p1 = c .before .before in
+    let p2 = p1 .before in (
+      omega (arith, p2 .loop .inv .0),
+      length-set (p2 .loop .live) (p2 .loop .i - 1) (c .holds-active .result) ∙ p2 .loop .inv .1,
+      live-step (p2 .loop .live) (p2 .loop .i) (c .holds-active .result) (p1 .loop-test .taken) (p2 .loop .inv .0) (p2 .loop .inv .1) (p2 .loop .inv .2) (c .holds-active .ensures),
+    )
 
 pub actives-spec : {M : Type 1} → statement M
 actives-spec =
@@ -44,10 +44,10 @@ actives-spec =
     (tie.spec
     Inv-loop
     μ-loop
-    loop-holds
-    sub-i
-    holds-active-requires
+    (λ c. (omega arith, refl, live-none))
+    (λ c. c .loop-test .taken)
+    (λ c κs. omega (arith, c .before .loop-test .taken, c .before .before .loop .inv .0))
     array-write-live
     loop-less
     loop-again
-    returns)
+    (λ c. live-all (none-left (c .before .loop .i) (c .loop-test .left)) (c .before .loop .inv .2)))

@@ -7,21 +7,18 @@ use Rattle.sets.specs.Words.{set-of}
 use Rattle.forms.proofs.active.held_one.Statement.{statement}
 use Rattle.forms.proofs.active.held_one.Tie as tie
 
-has-pause-requires : tie.Need-has-pause-requires
-has-pause-requires c κs = search needs
-
-one-pause-requires : tie.Need-one-pause-requires
-one-pause-requires c κs = search needs
-
-no-pause-requires : tie.Need-no-pause-requires
-no-pause-requires c κs = search needs
-
 returns : tie.Need-returns
-returns c = one-held (set-of (c .before .before .before .args .set)) (c .before .before .before .args .n) (sym (c .before .before .has-pause .ensures) ∙ c .before .if1 .taken) (c .one-pause .ensures)
+returns c =
+    let p1 = c .before .before in
+    let p2 = p1 .before in
+    one-held (set-of (p2 .args .set)) (p2 .args .n) (sym (p1 .has-pause .ensures) ∙ c .before .if1 .taken) (c .one-pause .ensures)
 
 returns-2 : tie.Need-returns-2
-returns-2 c = c .no-pause .ensures ∙ one-idle (set-of (c .before .before .before .args .set)) (c .before .before .before .args .n) (sym (c .before .before .has-pause .ensures) ∙ c .before .if1 .left)
+returns-2 c =
+    let p1 = c .before .before in
+    let p2 = p1 .before in
+    c .no-pause .ensures ∙ one-idle (set-of (p2 .args .set)) (p2 .args .n) (sym (p1 .has-pause .ensures) ∙ c .before .if1 .left)
 
 pub held-one-spec : {M : Type 1} → statement M
 held-one-spec =
-    tie.close (tie.spec has-pause-requires one-pause-requires no-pause-requires returns returns-2)
+    tie.close (tie.spec (λ c κs. search needs) (λ c κs. search needs) (λ c κs. search needs) returns returns-2)

@@ -19,41 +19,47 @@ Inv-loop kinds operands sizes set at size kept₀ n₀ kept n = (n ≤ size) × 
 abbrev μ-loop : tie.MeasureT-loop
 μ-loop kinds operands sizes set at size kept₀ n₀ kept n = size - n
 
-mul-wide : tie.Need-mul-wide Inv-loop μ-loop
-mul-wide c = omega (arith, in-table ((c .pre)))
-
-element-copy-out-wide : tie.Need-element-copy-out-wide Inv-loop μ-loop
-element-copy-out-wide c = in-table ((c .pre))
-
-wide-requires : tie.Need-wide-requires Inv-loop μ-loop
-wide-requires c κs = tt
-
-no-pause-requires : tie.Need-no-pause-requires Inv-loop μ-loop
-no-pause-requires c κs = tt
-
 loop-holds : tie.Need-loop-holds Inv-loop μ-loop
-loop-holds c = (omega arith, c .no-pause .ensures ∙ rows-none (table-of (c .before .before .before .args .kinds .now) (c .before .before .before .args .operands .now) (c .before .before .before .args .sizes .now)) (c .before .before .before .args .at) (set-of (c .before .before .before .args .set)))
+loop-holds c =
+    let p1 = c .before .before .before in
+    (omega arith, c .no-pause .ensures ∙ rows-none (table-of (p1 .args .kinds .now) (p1 .args .operands .now) (p1 .args .sizes .now)) (p1 .args .at) (set-of (p1 .args .set)))
 
 add-held-row : tie.Need-add-held-row Inv-loop μ-loop
-add-held-row c = omega (arith, c .loop-test .taken, row (c .before .before .before .before .before .pre .tree) (c .before .before .before .before .before .pre .there .has) .its-size, c .before .before .before .before .before .pre .there .room, c .before .before .before .wide .ensures .0)
+add-held-row c =
+    let p1 = c .before .before .before in
+    let p2 = p1 .before .before in
+    omega (arith, c .loop-test .taken, row (p2 .pre .tree) (p2 .pre .there .has) .its-size, p2 .pre .there .room, p1 .wide .ensures .0)
 
 held-row-requires : tie.Need-held-row-requires Inv-loop μ-loop
-held-row-requires c κs = omega (arith, c .loop-test .taken, row (c .before .before .before .before .before .pre .tree) (c .before .before .before .before .before .pre .there .has) .its-size, c .before .before .before .before .before .pre .there .room, c .before .before .before .wide .ensures .0)
-
-joined-requires : tie.Need-joined-requires Inv-loop μ-loop
-joined-requires c κs = tt
+held-row-requires c κs =
+    let p1 = c .before .before .before in
+    let p2 = p1 .before .before in
+    omega (arith, c .loop-test .taken, row (p2 .pre .tree) (p2 .pre .there .has) .its-size, p2 .pre .there .room, p1 .wide .ensures .0)
 
 add-n : tie.Need-add-n Inv-loop μ-loop
-add-n c = omega (arith, c .before .before .loop-test .taken, c .before .before .before .before .before .wide .ensures .1)
-
-loop-less : tie.Need-loop-less Inv-loop μ-loop
-loop-less c = omega (arith, c .before .before .loop-test .taken)
+add-n c =
+    let p1 = c .before .before in
+    let p2 = p1 .before .before .before in
+    omega (arith, p1 .loop-test .taken, p2 .wide .ensures .1)
 
 loop-again : tie.Need-loop-again Inv-loop μ-loop
-loop-again c = (omega (arith, c .before .before .loop-test .taken), c .joined .ensures ∙ ap₂ union (c .before .before .before .loop .inv .1) (c .before .held-row .ensures (c .before .before .before .before .before .before .before .args .sizes .now)) ∙ rows-more (table-of (c .before .before .before .before .before .before .before .args .kinds .now) (c .before .before .before .before .before .before .before .args .operands .now) (c .before .before .before .before .before .before .before .args .sizes .now)) (c .before .before .before .before .before .before .before .args .at) (c .before .before .before .loop .n) (set-of (c .before .before .before .before .before .before .before .args .set)))
+loop-again c =
+    let p1 = c .before .before in
+    let p2 = p1 .before in
+    let p3 = p2 .before .before .before .before in (
+      omega (arith, p1 .loop-test .taken),
+      c .joined .ensures ∙ ap₂ union (p2 .loop .inv .1) (c .before .held-row .ensures (p3 .args .sizes .now))
+          ∙ rows-more (table-of (p3 .args .kinds .now) (p3 .args .operands .now) (p3 .args .sizes .now)) (p3 .args .at) (p2 .loop .n) (set-of (p3 .args .set)),
+    )
 
 returns : tie.Need-returns Inv-loop μ-loop
-returns c = λ t a. c .before .loop .inv .1 ∙ rows-all (table-of (c .before .before .before .before .before .args .kinds .now) (c .before .before .before .before .before .args .operands .now) (c .before .before .before .before .before .args .sizes .now)) (c .before .before .before .before .before .args .at) (c .before .loop .n) (set-of (c .before .before .before .before .before .args .set)) t a (both-ways (c .before .loop .inv .0) (c .loop-test .left) ∙ c .before .before .before .wide .ensures .0)
+returns c =
+    let p1 = c .before .before .before in
+    let p2 = p1 .before .before in
+    λ t a.
+    c .before .loop .inv .1
+    ∙ rows-all (table-of (p2 .args .kinds .now) (p2 .args .operands .now) (p2 .args .sizes .now)) (p2 .args .at) (c .before .loop .n) (set-of (p2 .args .set)) t a
+    (both-ways (c .before .loop .inv .0) (c .loop-test .left) ∙ p1 .wide .ensures .0)
 
 pub held-pauses-spec : {M : Type 1} → statement M
 held-pauses-spec =
@@ -61,15 +67,15 @@ held-pauses-spec =
     (tie.spec
     Inv-loop
     μ-loop
-    mul-wide
-    element-copy-out-wide
-    wide-requires
-    no-pause-requires
+    (λ c. omega (arith, in-table (c .pre)))
+    (λ c. in-table (c .pre))
+    (λ c κs. tt)
+    (λ c κs. tt)
     loop-holds
     add-held-row
     held-row-requires
-    joined-requires
+    (λ c κs. tt)
     add-n
-    loop-less
+    (λ c. omega (arith, c .before .before .loop-test .taken))
     loop-again
     returns)

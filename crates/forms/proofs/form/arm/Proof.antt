@@ -7,11 +7,9 @@ use Rattle.forms.specs.declared.form.Going.the-variants.{Resumed, Idle}
 use Rattle.forms.proofs.form.arm.Statement.{statement}
 use Rattle.forms.proofs.form.arm.Tie as tie
 
-returns : tie.Need-returns
-returns c = ap {B = Task} (λ b. record { at = c .before .args .at; going = cond b Resumed Idle }) (sym (c .if1 .taken))
-
-returns-2 : tie.Need-returns-2
-returns-2 c = ap {B = Task} (λ b. record { at = c .before .args .at; going = cond b Resumed Idle }) (sym (c .if1 .left))
-
 pub arm-spec : {M : Type 1} → statement M
-arm-spec = tie.close (tie.spec returns returns-2)
+arm-spec =
+    tie.close
+    (tie.spec
+    (λ c. ap {B = Task} (λ b. record { at = c .before .args .at; going = cond b Resumed Idle }) (sym (c .if1 .taken)))
+    (λ c. ap {B = Task} (λ b. record { at = c .before .args .at; going = cond b Resumed Idle }) (sym (c .if1 .left))))

@@ -6,14 +6,5 @@ use borrow.Author.Needs.{needs}
 use Rattle.words.proofs.events.bit.Statement.{statement}
 use Rattle.words.proofs.events.bit.Tie as tie
 
-shl-result : tie.Need-shl-result
-shl-result c = search needs
-
-returns : tie.Need-returns
-returns c = λ h. shifted 64 h
-
-returns-2 : tie.Need-returns-2
-returns-2 c = λ h. absurd (omega arith)
-
 pub bit-spec : {M : Type 1} → statement M
-bit-spec = tie.close (tie.spec shl-result returns returns-2)
+bit-spec = tie.close (tie.spec (λ c. search needs) (λ c. λ h. shifted 64 h) (λ c. λ h. absurd (omega arith)))

@@ -5,11 +5,5 @@ use borrow.Author.Needs.{needs}
 use Rattle.words.proofs.events.has_signal.Statement.{statement}
 use Rattle.words.proofs.events.has_signal.Tie as tie
 
-bit-requires : tie.Need-bit-requires
-bit-requires c κs = search needs
-
-returns : tie.Need-returns
-returns c = λ h. test-bit (c .before .args .w) (c .bit .result) (c .before .args .s) (c .bit .ensures h)
-
 pub has-signal-spec : {M : Type 1} → statement M
-has-signal-spec = tie.close (tie.spec bit-requires returns)
+has-signal-spec = tie.close (tie.spec (λ c κs. search needs) (λ c. λ h. test-bit (c .before .args .w) (c .bit .result) (c .before .args .s) (c .bit .ensures h)))

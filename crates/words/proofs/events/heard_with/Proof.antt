@@ -8,27 +8,31 @@ use borrow.Author.Needs.{needs}
 use Rattle.words.proofs.events.heard_with.Statement.{statement}
 use Rattle.words.proofs.events.heard_with.Tie as tie
 
-bit-requires : tie.Need-bit-requires
-bit-requires c κs = search needs
-
-enum-told : tie.Need-enum-told
-enum-told c = search needs
-
-enum-told-2 : tie.Need-enum-told-2
-enum-told-2 c = search needs
-
-enum-told-3 : tie.Need-enum-told-3
-enum-told-3 c = search needs
-
 returns : tie.Need-returns
-returns c = λ h. give-present (c .before .before .before .before .before .before .args .e) (c .before .before .before .before .before .bit .result) (c .before .before .before .before .before .before .args .s) (c .before .before .before .before .before .bit .ensures h) ∙ ap (λ v. giving (event-of (c .before .before .before .before .before .before .args .e)) (c .before .before .before .before .before .before .args .s) (seen-as v)) (sym (c .before .enum-told .given .1))
+returns c =
+    let p1 = c .before .before .before .before .before in
+    let p2 = p1 .before in
+    λ h.
+    give-present (p2 .args .e) (p1 .bit .result) (p2 .args .s) (p1 .bit .ensures h)
+    ∙ ap (λ v. giving (event-of (p2 .args .e)) (p2 .args .s) (seen-as v)) (sym (c .before .enum-told .given .1))
 
 returns-2 : tie.Need-returns-2
-returns-2 c = λ h. give-absent (c .before .before .before .before .before .before .args .e) (c .before .before .before .before .before .bit .result) (c .before .before .before .before .before .before .args .s) (c .before .before .before .before .before .bit .ensures h) ∙ ap (λ v. giving (event-of (c .before .before .before .before .before .before .args .e)) (c .before .before .before .before .before .before .args .s) (seen-as v)) (sym (c .before .enum-told2 .given .1))
+returns-2 c =
+    let p1 = c .before .before .before .before .before in
+    let p2 = p1 .before in
+    λ h.
+    give-absent (p2 .args .e) (p1 .bit .result) (p2 .args .s) (p1 .bit .ensures h)
+    ∙ ap (λ v. giving (event-of (p2 .args .e)) (p2 .args .s) (seen-as v)) (sym (c .before .enum-told2 .given .1))
 
 returns-3 : tie.Need-returns-3
-returns-3 c = λ h. give-unknown (c .before .before .before .before .before .before .before .args .e) (c .before .before .before .before .before .before .bit .result) (c .before .before .before .before .before .before .before .args .s) (c .before .before .before .before .before .before .bit .ensures h) ∙ ap (λ v. giving (event-of (c .before .before .before .before .before .before .before .args .e)) (c .before .before .before .before .before .before .before .args .s) (seen-as v)) (sym (c .before .before .enum-told3 .given .1))
+returns-3 c =
+    let p1 = c .before .before in
+    let p2 = p1 .before .before .before .before in
+    let p3 = p2 .before in
+    λ h.
+    give-unknown (p3 .args .e) (p2 .bit .result) (p3 .args .s) (p2 .bit .ensures h)
+    ∙ ap (λ v. giving (event-of (p3 .args .e)) (p3 .args .s) (seen-as v)) (sym (p1 .enum-told3 .given .1))
 
 pub heard-with-spec : {M : Type 1} → statement M
 heard-with-spec =
-    tie.close (tie.spec bit-requires enum-told enum-told-2 enum-told-3 returns returns-2 returns-3)
+    tie.close (tie.spec (λ c κs. search needs) (λ c. search needs) (λ c. search needs) (λ c. search needs) returns returns-2 returns-3)

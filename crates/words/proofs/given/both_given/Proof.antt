@@ -5,11 +5,11 @@ use borrow.Author.Needs.{needs}
 use Rattle.words.proofs.given.both_given.Statement.{statement}
 use Rattle.words.proofs.given.both_given.Tie as tie
 
-larger-requires : tie.Need-larger-requires
-larger-requires c κs = search needs
-
 returns : tie.Need-returns
-returns c = both-is (c .before .before .before .args .a) (c .before .before .before .args .b) (c .before .before .larger .result) (c .before .before .larger .ensures)
+returns c =
+    let p1 = c .before .before in
+    let p2 = p1 .before in
+    both-is (p2 .args .a) (p2 .args .b) (p1 .larger .result) (p1 .larger .ensures)
 
 pub both-given-spec : {M : Type 1} → statement M
-both-given-spec = tie.close (tie.spec larger-requires returns)
+both-given-spec = tie.close (tie.spec (λ c κs. search needs) returns)

@@ -5,11 +5,5 @@ use borrow.Author.Needs.{needs}
 use Rattle.words.proofs.given.caught_given.Statement.{statement}
 use Rattle.words.proofs.given.caught_given.Tie as tie
 
-lowered-requires : tie.Need-lowered-requires
-lowered-requires c κs = search needs
-
-returns : tie.Need-returns
-returns c = caught-is (c .before .args .a) (c .lowered .result) (c .lowered .ensures)
-
 pub caught-given-spec : {M : Type 1} → statement M
-caught-given-spec = tie.close (tie.spec lowered-requires returns)
+caught-given-spec = tie.close (tie.spec (λ c κs. search needs) (λ c. caught-is (c .before .args .a) (c .lowered .result) (c .lowered .ensures)))

@@ -5,7 +5,9 @@ use Rattle.words.proofs.given.either_given.Statement.{statement}
 use Rattle.words.proofs.given.either_given.Tie as tie
 
 returns : tie.Need-returns
-returns c = either-is (c .before .before .before .before .args .a) (c .before .before .before .before .args .b)
+returns c =
+    let p1 = c .before .before .before .before in
+    either-is (p1 .args .a) (p1 .args .b)
 
 pub either-given-spec : {M : Type 1} → statement M
 either-given-spec = tie.close (tie.spec returns)

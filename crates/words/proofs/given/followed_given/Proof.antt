@@ -6,18 +6,20 @@ use borrow.Author.Needs.{needs}
 use Rattle.words.proofs.given.followed_given.Statement.{statement}
 use Rattle.words.proofs.given.followed_given.Tie as tie
 
-followed-codes-requires : tie.Need-followed-codes-requires
-followed-codes-requires c κs = search needs
-
-gives-zero-requires : tie.Need-gives-zero-requires
-gives-zero-requires c κs = search needs
-
 returns : tie.Need-returns
-returns c = followed-on (c .before .before .before .before .before .args .a) (c .before .before .before .before .before .args .b) (c .before .before .before .before .followed-codes .result) (c .before .before .before .before .followed-codes .ensures) (sym (c .before .before .before .gives-zero .ensures) ∙ c .before .before .if1 .taken)
+returns c =
+    let p1 = c .before .before in
+    let p2 = p1 .before in
+    let p3 = p2 .before in
+    let p4 = p3 .before in
+    followed-on (p4 .args .a) (p4 .args .b) (p3 .followed-codes .result) (p3 .followed-codes .ensures) (sym (p2 .gives-zero .ensures) ∙ p1 .if1 .taken)
 
 returns-2 : tie.Need-returns-2
-returns-2 c = followed-not (c .before .before .before .args .a) (c .before .before .before .args .b) (c .before .before .followed-codes .result) (c .before .before .followed-codes .ensures) (sym (c .before .gives-zero .ensures) ∙ c .if1 .left)
+returns-2 c =
+    let p1 = c .before .before in
+    let p2 = p1 .before in
+    followed-not (p2 .args .a) (p2 .args .b) (p1 .followed-codes .result) (p1 .followed-codes .ensures) (sym (c .before .gives-zero .ensures) ∙ c .if1 .left)
 
 pub followed-given-spec : {M : Type 1} → statement M
 followed-given-spec =
-    tie.close (tie.spec followed-codes-requires gives-zero-requires returns returns-2)
+    tie.close (tie.spec (λ c κs. search needs) (λ c κs. search needs) returns returns-2)

@@ -5,8 +5,5 @@ use mathlib.Core.Path.{sym}
 use Rattle.words.proofs.given.gives_zero.Statement.{statement}
 use Rattle.words.proofs.given.gives_zero.Tie as tie
 
-returns : tie.Need-returns
-returns c = sym (bits-first (c .args .codes))
-
 pub gives-zero-spec : {M : Type 1} → statement M
-gives-zero-spec = tie.close (tie.spec returns)
+gives-zero-spec = tie.close (tie.spec (λ c. sym (bits-first (c .args .codes))))

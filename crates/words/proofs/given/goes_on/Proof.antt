@@ -6,20 +6,12 @@ use borrow.Author.Needs.{needs}
 use Rattle.words.proofs.given.goes_on.Statement.{statement}
 use Rattle.words.proofs.given.goes_on.Tie as tie
 
-enum-told : tie.Need-enum-told
-enum-told c = search needs
-
-enum-told-2 : tie.Need-enum-told-2
-enum-told-2 c = search needs
-
-gives-zero-requires : tie.Need-gives-zero-requires
-gives-zero-requires c κs = search needs
-
-returns : tie.Need-returns
-returns c = λ e. absurd (subst T e tt)
-
-returns-2 : tie.Need-returns-2
-returns-2 c = λ e. (c .before .enum-told2 .given .1, sym (c .gives-zero .ensures) ∙ e)
-
 pub goes-on-spec : {M : Type 1} → statement M
-goes-on-spec = tie.close (tie.spec enum-told enum-told-2 gives-zero-requires returns returns-2)
+goes-on-spec =
+    tie.close
+    (tie.spec
+    (λ c. search needs)
+    (λ c. search needs)
+    (λ c κs. search needs)
+    (λ c. λ e. absurd (subst T e tt))
+    (λ c. λ e. (c .before .enum-told2 .given .1, sym (c .gives-zero .ensures) ∙ e)))

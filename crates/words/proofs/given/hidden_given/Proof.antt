@@ -5,11 +5,11 @@ use borrow.Author.Needs.{needs}
 use Rattle.words.proofs.given.hidden_given.Statement.{statement}
 use Rattle.words.proofs.given.hidden_given.Tie as tie
 
-bit-requires : tie.Need-bit-requires
-bit-requires c κs = search needs
-
 returns : tie.Need-returns
-returns c = λ h. hidden-is (c .before .before .before .args .a) (c .before .before .bit .result) (c .before .before .before .args .s) (c .before .before .bit .ensures h)
+returns c =
+    let p1 = c .before .before in
+    let p2 = p1 .before in
+    λ h. hidden-is (p2 .args .a) (p1 .bit .result) (p2 .args .s) (p1 .bit .ensures h)
 
 pub hidden-given-spec : {M : Type 1} → statement M
-hidden-given-spec = tie.close (tie.spec bit-requires returns)
+hidden-given-spec = tie.close (tie.spec (λ c κs. search needs) returns)

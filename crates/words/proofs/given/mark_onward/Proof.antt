@@ -8,24 +8,19 @@ use borrow.Author.Needs.{needs}
 use Rattle.words.proofs.given.mark_onward.Statement.{statement}
 use Rattle.words.proofs.given.mark_onward.Tie as tie
 
-enum-told : tie.Need-enum-told
-enum-told c = search needs
-
-gives-zero-requires : tie.Need-gives-zero-requires
-gives-zero-requires c κs = search needs
-
-enum-told-2 : tie.Need-enum-told-2
-enum-told-2 c = search needs
-
 returns : tie.Need-returns
 returns c = sym (ap₂ (λ m z. onward (can (mark-of m)) z) (c .before .before .enum-told .given .1) (sym (c .before .gives-zero .ensures) ∙ c .if1 .taken))
 
 returns-2 : tie.Need-returns-2
 returns-2 c = sym (ap₂ (λ m z. onward (can (mark-of m)) z) (c .before .before .enum-told .given .1) (sym (c .before .gives-zero .ensures) ∙ c .if1 .left))
 
-returns-3 : tie.Need-returns-3
-returns-3 c = ap (λ m. onward (can (mark-of m)) (bits (c .before .before .args .codes) 0)) (sym (c .enum-told2 .given .1))
-
 pub mark-onward-spec : {M : Type 1} → statement M
 mark-onward-spec =
-    tie.close (tie.spec enum-told gives-zero-requires enum-told-2 returns returns-2 returns-3)
+    tie.close
+    (tie.spec
+    (λ c. search needs)
+    (λ c κs. search needs)
+    (λ c. search needs)
+    returns
+    returns-2
+    (λ c. ap (λ m. onward (can (mark-of m)) (bits (c .before .before .args .codes) 0)) (sym (c .enum-told2 .given .1))))

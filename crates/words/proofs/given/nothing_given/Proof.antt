@@ -4,8 +4,5 @@ use Rattle.words.proofs.WordLaws.{nothing-is}
 use Rattle.words.proofs.given.nothing_given.Statement.{statement}
 use Rattle.words.proofs.given.nothing_given.Tie as tie
 
-returns : tie.Need-returns
-returns c = nothing-is
-
 pub nothing-given-spec : {M : Type 1} → statement M
-nothing-given-spec = tie.close (tie.spec returns)
+nothing-given-spec = tie.close (tie.spec (λ c. nothing-is))

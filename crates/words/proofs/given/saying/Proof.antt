@@ -5,11 +5,5 @@ use borrow.Author.Needs.{needs}
 use Rattle.words.proofs.given.saying.Statement.{statement}
 use Rattle.words.proofs.given.saying.Tie as tie
 
-bit-requires : tie.Need-bit-requires
-bit-requires c κs = search needs
-
-returns : tie.Need-returns
-returns c = λ h. loud-is (c .bit .result) (c .before .args .s) (c .bit .ensures h)
-
 pub saying-spec : {M : Type 1} → statement M
-saying-spec = tie.close (tie.spec bit-requires returns)
+saying-spec = tie.close (tie.spec (λ c κs. search needs) (λ c. λ h. loud-is (c .bit .result) (c .before .args .s) (c .bit .ensures h)))

@@ -5,11 +5,5 @@ use borrow.Author.Needs.{needs}
 use Rattle.words.proofs.given.silent.Statement.{statement}
 use Rattle.words.proofs.given.silent.Tie as tie
 
-code-bit-requires : tie.Need-code-bit-requires
-code-bit-requires c κs = search needs
-
-returns : tie.Need-returns
-returns c = λ h. quiet-is (c .code-bit .result) (c .before .args .c .0) (c .code-bit .ensures h)
-
 pub silent-spec : {M : Type 1} → statement M
-silent-spec = tie.close (tie.spec code-bit-requires returns)
+silent-spec = tie.close (tie.spec (λ c κs. search needs) (λ c. λ h. quiet-is (c .code-bit .result) (c .before .args .c .0) (c .code-bit .ensures h)))

@@ -6,11 +6,5 @@ use borrow.Author.Needs.{needs}
 use Rattle.words.proofs.pauses.kept_again.Statement.{statement}
 use Rattle.words.proofs.pauses.kept_again.Tie as tie
 
-kept-with-requires : tie.Need-kept-with-requires
-kept-with-requires c κs = search needs
-
-returns : tie.Need-returns
-returns c = kept-of (c .kept-with .ensures .0) (c .kept-with .ensures .1) refl refl
-
 pub kept-again-spec : {M : Type 1} → statement M
-kept-again-spec = tie.close (tie.spec kept-with-requires returns)
+kept-again-spec = tie.close (tie.spec (λ c κs. search needs) (λ c. kept-of (c .kept-with .ensures .0) (c .kept-with .ensures .1) refl refl))

@@ -5,17 +5,8 @@ use borrow.Author.Needs.{needs}
 use Rattle.words.proofs.pauses.kept_beside.Statement.{statement}
 use Rattle.words.proofs.pauses.kept_beside.Tie as tie
 
-larger-requires : tie.Need-larger-requires
-larger-requires c κs = search needs
-
-joined-requires : tie.Need-joined-requires
-joined-requires c κs = search needs
-
-kept-with-requires : tie.Need-kept-with-requires
-kept-with-requires c κs = search needs
-
 returns : tie.Need-returns
 returns c = kept-of (c .kept-with .ensures .0) (c .kept-with .ensures .1) (c .before .before .larger .ensures) (c .before .joined .ensures)
 
 pub kept-beside-spec : {M : Type 1} → statement M
-kept-beside-spec = tie.close (tie.spec larger-requires joined-requires kept-with-requires returns)
+kept-beside-spec = tie.close (tie.spec (λ c κs. search needs) (λ c κs. search needs) (λ c κs. search needs) returns)

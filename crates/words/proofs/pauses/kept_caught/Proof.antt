@@ -6,14 +6,5 @@ use borrow.Author.Needs.{needs}
 use Rattle.words.proofs.pauses.kept_caught.Statement.{statement}
 use Rattle.words.proofs.pauses.kept_caught.Tie as tie
 
-lowered-requires : tie.Need-lowered-requires
-lowered-requires c κs = search needs
-
-kept-with-requires : tie.Need-kept-with-requires
-kept-with-requires c κs = search needs
-
-returns : tie.Need-returns
-returns c = kept-of (c .kept-with .ensures .0) (c .kept-with .ensures .1) (c .before .lowered .ensures) refl
-
 pub kept-caught-spec : {M : Type 1} → statement M
-kept-caught-spec = tie.close (tie.spec lowered-requires kept-with-requires returns)
+kept-caught-spec = tie.close (tie.spec (λ c κs. search needs) (λ c κs. search needs) (λ c. kept-of (c .kept-with .ensures .0) (c .kept-with .ensures .1) (c .before .lowered .ensures) refl))

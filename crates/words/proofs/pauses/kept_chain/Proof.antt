@@ -7,35 +7,31 @@ use borrow.Author.Needs.{needs}
 use Rattle.words.proofs.pauses.kept_chain.Statement.{statement}
 use Rattle.words.proofs.pauses.kept_chain.Tie as tie
 
-followed-codes-requires : tie.Need-followed-codes-requires
-followed-codes-requires c κs = search needs
-
-gives-zero-requires : tie.Need-gives-zero-requires
-gives-zero-requires c κs = search needs
-
-joined-requires : tie.Need-joined-requires
-joined-requires c κs = search needs
-
-kept-with-requires : tie.Need-kept-with-requires
-kept-with-requires c κs = search needs
-
-kept-with-requires-2 : tie.Need-kept-with-requires-2
-kept-with-requires-2 c κs = search needs
-
 returns : tie.Need-returns
-returns c = kept-of (c .kept-with .ensures .0) (c .kept-with .ensures .1) (c .before .before .before .before .before .before .followed-codes .ensures) (c .before .joined .ensures ∙ with-later (bits (c .before .before .before .before .before .before .before .args .a .codes) 0) (set-of (c .before .before .before .before .before .before .before .args .a .pauses)) (set-of (c .before .before .before .before .before .before .before .args .b .pauses)) (sym (c .before .before .before .gives-zero .ensures) ∙ c .before .before .if1 .taken))
+returns c =
+    let p1 = c .before .before in
+    let p2 = p1 .before in
+    let p3 = p2 .before .before .before in
+    let p4 = p3 .before in
+    kept-of (c .kept-with .ensures .0) (c .kept-with .ensures .1) (p3 .followed-codes .ensures)
+    (c .before .joined .ensures ∙ with-later (bits (p4 .args .a .codes) 0) (set-of (p4 .args .a .pauses)) (set-of (p4 .args .b .pauses)) (sym (p2 .gives-zero .ensures) ∙ p1 .if1 .taken))
 
 returns-2 : tie.Need-returns-2
-returns-2 c = kept-of (c .kept-with2 .ensures .0) (c .kept-with2 .ensures .1) (c .before .before .before .before .before .followed-codes .ensures) (without-later (bits (c .before .before .before .before .before .before .args .a .codes) 0) (set-of (c .before .before .before .before .before .before .args .a .pauses)) (set-of (c .before .before .before .before .before .before .args .b .pauses)) (sym (c .before .before .gives-zero .ensures) ∙ c .before .if1 .left))
+returns-2 c =
+    let p1 = c .before .before in
+    let p2 = p1 .before .before .before in
+    let p3 = p2 .before in
+    kept-of (c .kept-with2 .ensures .0) (c .kept-with2 .ensures .1) (p2 .followed-codes .ensures)
+    (without-later (bits (p3 .args .a .codes) 0) (set-of (p3 .args .a .pauses)) (set-of (p3 .args .b .pauses)) (sym (p1 .gives-zero .ensures) ∙ c .before .if1 .left))
 
 pub kept-chain-spec : {M : Type 1} → statement M
 kept-chain-spec =
     tie.close
     (tie.spec
-    followed-codes-requires
-    gives-zero-requires
-    joined-requires
-    kept-with-requires
-    kept-with-requires-2
+    (λ c κs. search needs)
+    (λ c κs. search needs)
+    (λ c κs. search needs)
+    (λ c κs. search needs)
+    (λ c κs. search needs)
     returns
     returns-2)

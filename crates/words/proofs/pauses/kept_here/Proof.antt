@@ -5,8 +5,5 @@ use mathlib.Core.Path.{refl}
 use Rattle.words.proofs.pauses.kept_here.Statement.{statement}
 use Rattle.words.proofs.pauses.kept_here.Tie as tie
 
-returns : tie.Need-returns
-returns c = (is-set (is-single 1), refl)
-
 pub kept-here-spec : {M : Type 1} → statement M
-kept-here-spec = tie.close (tie.spec returns)
+kept-here-spec = tie.close (tie.spec (λ c. (is-set (is-single 1), refl)))

@@ -5,11 +5,5 @@ use borrow.Author.Needs.{needs}
 use Rattle.words.proofs.pauses.kept_none.Statement.{statement}
 use Rattle.words.proofs.pauses.kept_none.Tie as tie
 
-code-bit-requires : tie.Need-code-bit-requires
-code-bit-requires c κs = search needs
-
-returns : tie.Need-returns
-returns c = (none-kept, c .code-bit .ensures)
-
 pub kept-none-spec : {M : Type 1} → statement M
-kept-none-spec = tie.close (tie.spec code-bit-requires returns)
+kept-none-spec = tie.close (tie.spec (λ c κs. search needs) (λ c. (none-kept, c .code-bit .ensures)))

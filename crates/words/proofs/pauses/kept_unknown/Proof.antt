@@ -5,8 +5,5 @@ use Rattle.words.proofs.WordLaws.{bits-none}
 use Rattle.words.proofs.pauses.kept_unknown.Statement.{statement}
 use Rattle.words.proofs.pauses.kept_unknown.Tie as tie
 
-returns : tie.Need-returns
-returns c = (bits-none, none-kept)
-
 pub kept-unknown-spec : {M : Type 1} → statement M
-kept-unknown-spec = tie.close (tie.spec returns)
+kept-unknown-spec = tie.close (tie.spec (λ c. (bits-none, none-kept)))

@@ -5,8 +5,5 @@ use Rattle.sets.proofs.Words.{ones-count}
 use Rattle.words.proofs.pauses.members_of.Statement.{statement}
 use Rattle.words.proofs.pauses.members_of.Tie as tie
 
-returns : tie.Need-returns
-returns c = (ones-le 64 (c .args .w) (c .fits .w .fits), ones-count 64 (c .fits .w .fits))
-
 pub members-of-spec : {M : Type 1} → statement M
-members-of-spec = tie.close (tie.spec returns)
+members-of-spec = tie.close (tie.spec (λ c. (ones-le 64 (c .args .w) (c .fits .w .fits), ones-count 64 (c .fits .w .fits))))

@@ -4,8 +4,5 @@ use Rattle.words.proofs.PauseLaws.{none-kept}
 use Rattle.words.proofs.pauses.no_pause.Statement.{statement}
 use Rattle.words.proofs.pauses.no_pause.Tie as tie
 
-returns : tie.Need-returns
-returns c = none-kept
-
 pub no-pause-spec : {M : Type 1} → statement M
-no-pause-spec = tie.close (tie.spec returns)
+no-pause-spec = tie.close (tie.spec (λ c. none-kept))
