@@ -9,6 +9,9 @@ use native.Mathlib.Omega.{arith}
 use lib.Dec.{eqb}
 use lib.ListN.{length}
 use borrow.Author.Tests.{eq-eqb, ne-eqb, lt-ltb, le-ltb}
+use Rattle.refusals.specs.Refusals.{number, first-with, why-of}
+use Rattle.refusals.specs.declared.Why.{Why}
+use Rattle.refusals.specs.declared.Why.the-variants.{Limit, Shape, Loop}
 use Rattle.sets.specs.Numbers.{lowest}
 use Rattle.sets.proofs.Members.{ext, of-false}
 use Rattle.sets.proofs.Words.{bits-zero}
@@ -17,15 +20,15 @@ use Rattle.rules.specs.Statements.{Stmt}
 use Rattle.block.specs.Table.{Table, Has, statements}
 use Rattle.block.specs.Format.{Header, Around, Sofar, Got, got, Reading, turned-down, header, header-fault, read, ended, loops-checked, offset, numbered, endless}
 use Rattle.block.specs.Format.{lowest-endless, reading, outermost}
-use Rattle.block.specs.Told.{header-of, sofar-of, around-of, Built, Full, Reads, Ready, summary-of, answer-to, Stands, ReadWhole}
+use Rattle.block.specs.Told.{header-of, sofar-of, around-of, Built, Full, Reads, Ready, summary-of, answer-to, InTable, ReadWhole}
 use Rattle.block.specs.Codes.{Tabled, number-or}
 use Rattle.block.specs.declared.Declared.{Declared}
 use Rattle.block.specs.declared.Cursor.{Cursor}
 use Rattle.block.specs.declared.Context.{Context}
 use Rattle.block.specs.declared.reader.Read.{Read}
 use Rattle.block.specs.declared.reader.Read.the-variants.{Got as GotTo, Refused}
-use Rattle.block.specs.declared.whole.Answer.{Answer}
-use Rattle.block.specs.declared.whole.Answer.the-variants.{Good as GoodBlock, Refused as RefusedBlock}
+use Rattle.block.specs.declared.whole.Checked.{Checked}
+use Rattle.block.specs.declared.whole.Checked.the-variants.{Good as GoodBlock, Refused as RefusedBlock}
 use Rattle.block.proofs.Parse.{parsed}
 use Rattle.block.proofs.Trees.{Tree, tree}
 use Rattle.block.proofs.Ways.{was-refused, was-got}
@@ -33,21 +36,21 @@ use Rattle.block.proofs.GoodReadings.{header-fits, outermost-fits, begu
 
 -- After the tree.
 module _ (b : List ℕ) (h : Header) (t : Stmt) (r : Sofar) where
-  pub end-bytes : (r .place ≡ length b → ⊥) → RefusedBlock 7 (r .place) ≡ answer-to (ended b h (got t r))
-  unfolding ended answer-to
+  pub end-bytes : (r .place ≡ length b → ⊥) → RefusedBlock Shape (r .place) ≡ answer-to (ended b h (got t r))
+  unfolding ended answer-to first-with number
   end-bytes n = sym (simp (ne-eqb (r .place) (length b) n))
 
-  pub end-locals : r .place ≡ length b → (r .locals ≡ h .locals → ⊥) → RefusedBlock 7 (r .place) ≡ answer-to (ended b h (got t r))
-  unfolding ended answer-to
+  pub end-locals : r .place ≡ length b → (r .locals ≡ h .locals → ⊥) → RefusedBlock Shape (r .place) ≡ answer-to (ended b h (got t r))
+  unfolding ended answer-to first-with number
   end-locals e n = sym (simp (eq-eqb (r .place) (length b) e, ne-eqb (r .locals) (h .locals) n))
 
   module _ (e : r .place ≡ length b) (l : r .locals ≡ h .locals) where
-    pub end-loop : (n at : ℕ) → lowest-endless t ≡ some n → at ≡ offset t n → RefusedBlock 8 at ≡ answer-to (ended b h (got t r))
-    unfolding ended answer-to loops-checked
+    pub end-loop : (n at : ℕ) → lowest-endless t ≡ some n → at ≡ offset t n → RefusedBlock Loop at ≡ answer-to (ended b h (got t r))
+    unfolding ended answer-to first-with number loops-checked
     end-loop n at o f = sym (simp (eq-eqb (r .place) (length b) e, eq-eqb (r .locals) (h .locals) l, o, f))
 
     pub end-good : lowest-endless t ≡ none → GoodBlock (summary-of (record { header = h; body = t; statements = r .statements; pauses = r .pauses })) ≡ answer-to (ended b h (got t r))
-    unfolding ended answer-to loops-checked
+    unfolding ended answer-to first-with number loops-checked
     end-good o = sym (simp (eq-eqb (r .place) (length b) e, eq-eqb (r .locals) (h .locals) l, o))
 
 pub found-some : (o : Option ℕ) (n count : ℕ) → n ≡ number-or count o → n < count → o ≡ some n
@@ -67,19 +70,19 @@ found-none t n count c e l = go (lowest (statements t) (λ n. endless (numbered 
 
 -- The whole reading.
 module _ (b : List ℕ) where
-  pub over-size : {tab : Table} → 3086 < length b → Full tab → ReadWhole (reading b) tab (RefusedBlock 4 0)
-  unfolding answer-to Stands
+  pub over-size : {tab : Table} → 3086 < length b → Full tab → ReadWhole (reading b) tab (RefusedBlock Limit 0)
+  unfolding answer-to InTable first-with number
   over-size {tab} l f =
       let e : reading b ≡ turned-down 4 0 = reading-is b ∙ simp (lt-ltb 3086 (length b) l) in
-      subst (λ (x : Reading). ReadWhole x tab (RefusedBlock 4 0)) (sym e) (record { answered = refl; stands = tt; full = f })
+      subst (λ (x : Reading). ReadWhole x tab (RefusedBlock Limit 0)) (sym e) (record { answered = refl; stands = tt; full = f })
 
   module _ (fits : length b ≤ 3086) where
-    pub bad-header : {tab : Table} (n : ℕ) → n ≡ header-fault b → (n ≡ 0 → ⊥) → Full tab → ReadWhole (reading b) tab (RefusedBlock n 0)
-    unfolding answer-to Stands
-    bad-header {tab} n e z f =
+    pub bad-header : {tab : Table} (n : ℕ) {w : Why} → n ≡ header-fault b → (n ≡ 0 → ⊥) → w ≡ why-of n → Full tab → ReadWhole (reading b) tab (RefusedBlock w 0)
+    unfolding answer-to InTable
+    bad-header {tab} n {w} e z named f =
         let q : reading b ≡ turned-down (header-fault b) 0 = reading-is b ∙ simp (le-ltb 3086 (length b) fits, ne-eqb (header-fault b) 0 (λ y. z (e ∙ y))) in
-        subst (λ (x : Reading). ReadWhole x tab (RefusedBlock n 0)) (sym (q ∙ ap (λ (m : ℕ). turned-down m 0) (sym e)))
-        (record { answered = refl; stands = tt; full = f })
+        subst (λ (x : Reading). ReadWhole x tab (RefusedBlock w 0)) (sym (q ∙ ap (λ (m : ℕ). turned-down m 0) (sym e)))
+        (record { answered = ap (λ (y : Why). RefusedBlock y 0) named; stands = tt; full = f })
 
     module _ (d : Declared) (declares : header-of d ≡ header b) (fault : header-fault b ≡ 0) where
       abbrev c₀ : Context
@@ -114,12 +117,12 @@ module _ (b : List ℕ) where
           (λ i. ended b (sym declares i) (read 64 b (sym declares i) (sym no-scope i) (sofar-of r₀)))
 
       module _ {before tab : Table} {a : Read} (read-it : Reads statements-of 0 before tab a) where
-        pub tree-refused : {n at : ℕ} → a ≡ Refused n at → ReadWhole (reading b) tab (RefusedBlock n at)
-        unfolding answer-to Stands ended
-        tree-refused {n} {at} e =
-            subst (λ (x : Reading). ReadWhole x tab (RefusedBlock n at))
+        pub tree-refused : {n at : ℕ} {w : Why} → a ≡ Refused n at → w ≡ why-of n → ReadWhole (reading b) tab (RefusedBlock w at)
+        unfolding answer-to InTable ended
+        tree-refused {n} {at} {w} e named =
+            subst (λ (x : Reading). ReadWhole x tab (RefusedBlock w at))
             (sym (reading-ends ∙ ap (ended b (header-of d)) (was-refused statements-of (sym (read-it .answered) ∙ e))))
-            (record { answered = refl; stands = tt; full = read-it .full })
+            (record { answered = ap (λ (y : Why). RefusedBlock y at) named; stands = tt; full = read-it .full })
 
         module _ {r : Cursor} (e : a ≡ GotTo r) where
           tree-got : (t : Stmt) × (statements-of ≡ got t (sofar-of r))
@@ -141,13 +144,13 @@ module _ (b : List ℕ) where
           tabled = record { has = has-tree; small = its-tree .small; counted = sym (its-tree .counted ∙ zero-add (statements (tree-got .0))) }
 
           stands-at : (z : Bool) (o : Option ℕ)
-              → Stands (cond z (loops-checked (record { header = header-of d; body = tree-got .0; statements = r .statements; pauses = r .pauses }) o) (turned-down 7 (r .at))) tab
-          unfolding Stands loops-checked
+              → InTable (cond z (loops-checked (record { header = header-of d; body = tree-got .0; statements = r .statements; pauses = r .pauses }) o) (turned-down 7 (r .at))) tab
+          unfolding InTable loops-checked
           stands-at true none = has-tree
           stands-at true (some n) = tt
           stands-at false o = tt
 
-          pub tree-ends : {x : Answer} → ((t : Stmt) → Tabled tab (r .statements) t → x ≡ answer-to (ended b (header-of d) (got t (sofar-of r)))) → ReadWhole (reading b) tab x
+          pub tree-ends : {x : Checked} → ((t : Stmt) → Tabled tab (r .statements) t → x ≡ answer-to (ended b (header-of d) (got t (sofar-of r)))) → ReadWhole (reading b) tab x
           unfolding ended
           tree-ends {x} f =
               subst (λ (y : Reading). ReadWhole y tab x) (sym (reading-ends ∙ ap (ended b (header-of d)) (tree-got .1)))

@@ -6,6 +6,7 @@ use mathlib.Core.Option.{Option, none, some}
 use Prim.Native.Nat.{ℕ, _+_, _≤_, _<_}
 use lib.Dec.{T, eqb}
 use lib.ListN.{getD, length}
+use Rattle.refusals.specs.Refusals.{why-of}
 use Rattle.sets.specs.Words.{bits}
 use Rattle.block.specs.Table.{Table, Has}
 use Rattle.block.specs.Format.{Header, Sofar, Around, Got, got, refused, Good, Reading, good, turned-down, Shape, operands-of}
@@ -15,8 +16,8 @@ use Rattle.block.specs.declared.Declared.{Declared}
 use Rattle.block.specs.declared.Cursor.{Cursor}
 use Rattle.block.specs.declared.Context.{Context}
 use Rattle.block.specs.declared.whole.Summary.{Summary}
-use Rattle.block.specs.declared.whole.Answer.{Answer}
-use Rattle.block.specs.declared.whole.Answer.the-variants.{Good as GoodBlock, Refused as RefusedBlock}
+use Rattle.block.specs.declared.whole.Checked.{Checked}
+use Rattle.block.specs.declared.whole.Checked.the-variants.{Good as GoodBlock, Refused as RefusedBlock}
 use Rattle.block.specs.declared.reader.Read.{Read}
 use Rattle.block.specs.declared.reader.Read.the-variants.{Got as GotTo, Refused}
 
@@ -96,17 +97,17 @@ summary-of g = record {
   pauses = g .pauses;
 }
 
-unfoldable pub answer-to : Reading → Answer
+unfoldable pub answer-to : Reading → Checked
 answer-to (good g) = GoodBlock (summary-of g)
-answer-to (turned-down n at) = RefusedBlock n at
+answer-to (turned-down n at) = RefusedBlock (why-of n) at
 
 -- The tree of a good reading stands in the table, from its first row on.
-unfoldable pub Stands : Reading → Table → Type 0
-Stands (good g) tab = Has tab 0 (g .body)
-Stands (turned-down n at) tab = Unit {0}
+unfoldable pub InTable : Reading → Table → Type 0
+InTable (good g) tab = Has tab 0 (g .body)
+InTable (turned-down n at) tab = Unit {0}
 
 -- A whole block is read: the answer, and on a good reading the table.
-pub record ReadWhole (x : Reading) (tab : Table) (answer : Answer) : Type 0 where
+pub record ReadWhole (x : Reading) (tab : Table) (answer : Checked) : Type 0 where
   pub answered : answer ≡ answer-to x
-  pub stands : Stands x tab
+  pub stands : InTable x tab
   pub full : Full tab

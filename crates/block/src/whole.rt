@@ -8,6 +8,8 @@ use crate::loops::lowest_endless;
 use crate::reader::Read;
 use crate::reader::read_at;
 use crate::steps::declared;
+use refusals::Why;
+use refusals::refusal;
 ghost use mathlib.Core.Path.{_≡_};
 ghost use Prim.Native.Nat.{_≤_, _<_};
 ghost use lib.ListN.{length};
@@ -27,10 +29,10 @@ pub struct Summary {
     pub pauses: u16,
 }
 
-// A good block, or the number and the place of the refusal.
-pub enum Answer {
+// A good block, or why it is turned down and where.
+pub enum Checked {
     Good(Summary),
-    Refused(u16, usize),
+    Refused(Why, usize),
 }
 
 // The offset of statement n: the header and the records of all statements before it.
@@ -55,24 +57,24 @@ fn finished(
     kinds: &[u16; 512],
     operands: &[u16; 512],
     sizes: &[u16; 512],
-) -> Answer
+) -> Checked
     requires { ⌜ r .statements ≤ 512 ⌝ }
     ensures { λ a. ⌜ ((t : Stmt) → Tabled (table-of (now (kinds .entry)) (now (operands .entry)) (now (sizes .entry))) (r .statements) t
         → a ≡ answer-to (ended (now (b .entry)) (header-of d) (got t (sofar-of r)))) ⌝ }
 {
     let at = r.at;
     if at != b.len() {
-        return Answer::Refused(7, at);
+        return Checked::Refused(Why::Shape, at);
     }
     if r.locals != d.locals {
-        return Answer::Refused(7, at);
+        return Checked::Refused(Why::Shape, at);
     }
     let count = r.statements;
     let n = lowest_endless(kinds, operands, sizes, count);
     if n < count {
-        return Answer::Refused(8, offset_of(kinds, n));
+        return Checked::Refused(Why::Loop, offset_of(kinds, n));
     }
-    Answer::Good(Summary {
+    Checked::Good(Summary {
         version: d.version,
         inputs: d.inputs,
         outputs: d.outputs,
@@ -88,16 +90,16 @@ pub fn read_block(
     kinds: &mut [u16; 512],
     operands: &mut [u16; 512],
     sizes: &mut [u16; 512],
-) -> Answer
+) -> Checked
     requires { ⌜ Full (table-of (now kinds) (now operands) (now sizes)) ⌝ }
     ensures { λ a. ⌜ ReadWhole (reading (now (b .entry))) (table-of (now (kinds .exit)) (now (operands .exit)) (now (sizes .exit))) a ⌝ }
 {
     if 3086 < b.len() {
-        return Answer::Refused(4, 0);
+        return Checked::Refused(Why::Limit, 0);
     }
     let fault = header_fault(b);
     if fault != 0 {
-        return Answer::Refused(fault, 0);
+        return Checked::Refused(refusal(fault), 0);
     }
     let d = declared(b);
     let c = Context {
@@ -114,7 +116,7 @@ pub fn read_block(
     };
     let tree = read_at(b, d, c, r, kinds, operands, sizes);
     match tree {
-        Read::Refused(number, place) => Answer::Refused(number, place),
+        Read::Refused(number, place) => Checked::Refused(refusal(number), place),
         Read::Got(end) => finished(b, d, end, kinds, operands, sizes),
     }
 }

@@ -1,13 +1,18 @@
 -- Each answer has as many values as its layout, and a number that two bytes hold: by cases on the reading and on the verdict. Assumes nothing.
-use mathlib.Core.Path.{_≡_, refl, sym, ap, _∙_}
-use mathlib.Core.Bool.{Bool, true, false, cond}
+use mathlib.Core.Path.{_≡_, refl, sym, ap, _∙_, subst}
+use mathlib.Core.Bool.{Bool, true, false, cond, _&&_}
 use mathlib.Core.List.{List, [], _∷_}
 use Prim.Native.Nat.{ℕ, zero, suc, _^_, _≤_, _<_}
 use native.Mathlib.Omega.{arith}
-use lib.Dec.{lit≤, eqb, ltb}
+use native.Mathlib.Decide.{ℕ-discrete}
+use lib.Dec.{T, lit≤, eqb, ltb, ltb→lt}
+use borrow.Author.Tests.{ne-eqb}
 use lib.ListN.{length, getD, take}
 use mir.Syntax.{w16}
 use mir.Val.{Fits}
+use Rattle.refusals.specs.Refusals.{number, refusals, has-number}
+use Rattle.refusals.specs.declared.Why.{Why}
+use Rattle.sets.proofs.Members.{and-left, and-right}
 use Rattle.rules.specs.Rounds.{answered, not-constructive}
 use Rattle.block.specs.Format.{Reading, good, turned-down, reading}
 use Rattle.block.proofs.GoodReadings.{numbers}
@@ -20,7 +25,7 @@ use Rattle.exports.specs.Calls.{told-values, logged-values}
 -- So many values, the first of which is a number given back.
 pub record Counted (size : ℕ) (xs : List ℕ) : Type 0 where
   pub counted : length xs ≡ size
-  pub small : getD xs 0 0 ≤ 14
+  pub small : getD xs 0 0 ≤ 63
 
 -- A cast to two bytes loses nothing.
 pub fits : {size : ℕ} {vs xs : List ℕ} → vs ≡ xs → Counted size xs → Fits w16 (getD vs 0 0)
@@ -28,7 +33,7 @@ fits {size} {vs} {xs} e c = record { fits = let n : getD vs 0 0 ≡ getD xs 0 0 
 
 -- The values of a reading: those of a good block, and those of a refusal.
 module _ {size : ℕ} (values : Reading → List ℕ) (b : List ℕ) where
-  pub by-reading : ((g : _) → Counted size (values (good g))) → ((n at : ℕ) → n ≤ 14 → Counted size (values (turned-down n at))) → Counted size (values (reading b))
+  pub by-reading : ((g : _) → Counted size (values (good g))) → ((n at : ℕ) → n ≤ 63 → Counted size (values (turned-down n at))) → Counted size (values (reading b))
   by-reading f h = go (reading b) refl
     where
       go : (x : Reading) → reading b ≡ x → Counted size (values x)
@@ -55,9 +60,23 @@ pub part-counted : (b : List ℕ) (n : ℕ) → Counted 4 (part-values (part-owe
 unfolding part-owed
 part-counted b n = by-reading (λ x. part-values (part-owed x n)) b (λ g. part-found (ltb n (g .statements)) _ refl) (λ k at l. record { counted = refl; small = l })
 
-number-small : (v : Verdict) (s : List ℕ) (roomless : Bool) → Leaves v s roomless → told v .number ≤ 14
-unfolding Leaves told
-number-small (refused n at) s roomless l = l .1
+-- A list of refusals all of whose numbers are below 64, as the list is: a number of it is.
+all-below : List Why → Bool
+all-below [] = true
+all-below (w ∷ ws) = ltb (number w) 64 && all-below ws
+
+below-in : (ws : List Why) (n : ℕ) → T (all-below ws) → T (has-number ws n) → n ≤ 63
+unfolding all-below has-number
+below-in [] n a h = absurd h
+below-in (w ∷ ws) n a h = go (ℕ-discrete n (number w)) (λ t. below-in ws n (and-right (ltb (number w) 64) (all-below ws) a) t)
+  where
+    go : Dec (n ≡ number w) → (T (has-number ws n) → n ≤ 63) → n ≤ 63
+    go (yes e) rest = let l : number w < 64 = ltb→lt (number w) 64 (and-left (ltb (number w) 64) (all-below ws) a) in omega arith
+    go (no e) rest = rest (subst (λ (b : Bool). T (cond b true (has-number ws n))) (ne-eqb n (number w) e) h)
+
+number-small : (v : Verdict) (s : List ℕ) (roomless : Bool) → Leaves v s roomless → told v .number ≤ 63
+unfolding Leaves told all-below number
+number-small (refused n at) s roomless l = below-in refusals n tt l
 number-small (clash pair) s roomless l = lit≤ tt
 number-small (reacted b (answered outs c st r)) s roomless l = lit≤ tt
 number-small (reacted b (not-constructive outs r)) s roomless l = lit≤ tt

@@ -8,7 +8,7 @@ ghost use mathlib.Core.Path.{_≡_};
 ghost use Rattle.block.specs.Format.{reading};
 ghost use Rattle.reaction.specs.Instants.{told, state-after, log-after, end-after, instant-verdict, logged-verdict};
 ghost use Rattle.foldheron.specs.Answers.{check-owed, begun-owed, state-owed, part-owed, part-values};
-ghost use Rattle.foldheron.specs.InstantAnswers.{instant-told};
+ghost use Rattle.reaction.specs.Answers.{instant-told};
 ghost use Rattle.exports.specs.Calls.{logged-values};
 
 // Number, place, version, inputs, outputs, locals, statements, pauses.

@@ -2,12 +2,16 @@
 -- different values.
 use mathlib.Core.Path.{_≡_, refl, sym, _∙_, ap, subst}
 use mathlib.Core.List.{List, [], _∷_}
-use Prim.Native.Nat.{ℕ, suc, _+_, _-_, _≤_, _<_}
+use Prim.Native.Nat.{ℕ, _+_, _-_, _≤_, _<_}
 use native.Mathlib.Nat.{zero-add}
 use native.Mathlib.Omega.{arith}
 use lib.ListN.{length, getD}
 use denote.Ref.{RefT}
 use borrow.Author.Tests.{eq-eqb, ne-eqb, lt-ltb, le-ltb}
+use Rattle.refusals.specs.Refusals.{number}
+use Rattle.refusals.specs.declared.Why.{Why}
+use Rattle.refusals.specs.declared.Why.the-variants.{State}
+use Rattle.refusals.proofs.Laws.{numbers-differ, number-above}
 use Rattle.rules.specs.Statements.{Stmt}
 use Rattle.rules.specs.States.{fresh}
 use Rattle.block.specs.Table.{Table, Has, statements}
@@ -18,56 +22,44 @@ use Rattle.block.specs.declared.whole.Summary.{Summary}
 use Rattle.records.specs.StateRecord.{state-record}
 use Rattle.records.specs.Held.{state-bytes}
 use Rattle.records.proofs.Writing.{fresh-written as fresh-record}
-use Rattle.block.specs.declared.whole.Answer.{Answer}
-use Rattle.block.specs.declared.whole.Answer.the-variants.{Good as GoodBlock, Refused as RefusedBlock}
+use Rattle.block.specs.declared.whole.Checked.{Checked}
+use Rattle.block.specs.declared.whole.Checked.the-variants.{Good as GoodOne, Refused}
 use Rattle.block.proofs.Answered.{was-good, was-turned-down, has-body}
-use Rattle.block.proofs.GoodReadings.{Sound, sound, numbers}
+use Rattle.block.proofs.GoodReadings.{Sound, sound}
 use Rattle.block.proofs.Places.{At, at-number, has-row}
 use Rattle.block.proofs.Offsets.{tabled-listed, offset-below, offset-most}
-use Rattle.foldheron.specs.Answers.{number, check-values, check-owed, begun-values, begun-owed, state-owed, absent-part, part-owed, part-lies}
+use Rattle.foldheron.specs.Answers.{check-values, check-owed, begun-values, begun-owed, state-owed, absent-part, part-owed, part-lies}
 use Rattle.foldheron.specs.Parts.{LiesAt}
-use Rattle.foldheron.specs.declared.Why.{Why}
-use Rattle.foldheron.specs.declared.Why.the-variants.{Broken, Kind, Edition, Limit, Signal, Exit, Shape, Loop, State, Clash, Input, Room, NotConstructive, Index}
-use Rattle.foldheron.specs.declared.Checked.{Checked}
-use Rattle.foldheron.specs.declared.Checked.the-variants.{Good as GoodOne, Refused}
 use Rattle.foldheron.specs.declared.Begun.{Begun}
 use Rattle.foldheron.specs.declared.Begun.the-variants.{Fresh, TurnedDown}
 use Rattle.foldheron.specs.declared.Part.{Part}
 
--- A number that is not the lowest that it could be.
-pub above-next : {n k : ℕ} → k ≤ n → (n ≡ k → ⊥) → suc k ≤ n
-above-next l h = omega arith
-
-module _ (b : List ℕ) {tab : Table} {a : Answer} (w : ReadWhole (reading b) tab a) where
-  module _ {n at : ℕ} (e : a ≡ RefusedBlock n at) where
-    -- A refusal of the reading, with its number by name.
-    named : (y : Why) → (1 ≤ n → n ≤ 14 → number y ≡ n) → number y ≡ n
-    named y f = let r = numbers b n at (was-turned-down w e) in f (r .0) (omega (arith, r .1))
-
-    pub check-refused : (y : Why) → (1 ≤ n → n ≤ 14 → number y ≡ n) → check-values (Refused y at) ≡ check-owed (reading b)
+module _ (b : List ℕ) {tab : Table} {a : Checked} (w : ReadWhole (reading b) tab a) where
+  module _ {why : Why} {at : ℕ} (e : a ≡ Refused why at) where
+    check-refused : check-values (Refused why at) ≡ check-owed (reading b)
     unfolding check-values check-owed
-    check-refused y f = ap (λ (m : ℕ). m ∷ at ∷ 0 ∷ 0 ∷ 0 ∷ 0 ∷ 0 ∷ 0 ∷ []) (named y f) ∙ ap check-owed (sym (was-turned-down w e))
+    check-refused = ap check-owed (sym (was-turned-down b w e))
 
-    pub fresh-refused : (y : Why) (state : List ℕ) → (1 ≤ n → n ≤ 14 → number y ≡ n) → begun-values (TurnedDown y at) ≡ begun-owed (reading b) state
+    pub fresh-refused : (state : List ℕ) → begun-values (TurnedDown why at) ≡ begun-owed (reading b) state
     unfolding begun-values begun-owed
-    fresh-refused y state f = ap (λ (m : ℕ). m ∷ at ∷ []) (named y f) ∙ ap (λ (x : Reading). begun-owed x state) (sym (was-turned-down w e))
+    fresh-refused state = ap (λ (x : Reading). begun-owed x state) (sym (was-turned-down b w e))
 
     pub state-stays : (state : List ℕ) → state ≡ state-owed (reading b) state
     unfolding state-owed
-    state-stays state = ap (λ (x : Reading). state-owed x state) (sym (was-turned-down w e))
+    state-stays state = ap (λ (x : Reading). state-owed x state) (sym (was-turned-down b w e))
 
-    pub part-refused : (i : ℕ) → absent-part n at ≡ part-owed (reading b) i
+    pub part-refused : (i : ℕ) {n : ℕ} → n ≡ number why → absent-part n at ≡ part-owed (reading b) i
     unfolding part-owed
-    part-refused i = ap (λ (x : Reading). part-owed x i) (sym (was-turned-down w e))
+    part-refused i d = ap (λ (n : ℕ). absent-part n at) d ∙ ap (λ (x : Reading). part-owed x i) (sym (was-turned-down b w e))
 
-  module _ {s : Summary} (e : a ≡ GoodBlock s) where
+  module _ {s : Summary} (e : a ≡ GoodOne s) where
     abbrev g : Good
     g = was-good w e .0
 
     is-good : reading b ≡ good g
     is-good = was-good w e .1
 
-    pub check-good : check-values (GoodOne s) ≡ check-owed (reading b)
+    check-good : check-values (GoodOne s) ≡ check-owed (reading b)
     unfolding check-values check-owed
     check-good = ap (λ (s : Summary). check-values (GoodOne s)) (sym (was-good w e .2)) ∙ ap check-owed (sym is-good)
 
@@ -153,6 +145,14 @@ module _ (b : List ℕ) {tab : Table} {a : Answer} (w : ReadWhole (reading b) ta
         pub part-within : start + (end - start) ≤ length b
         part-within = omega (arith, start-first, end-within)
 
+  -- Either way, what is read is what a check owes.
+  pub check-is : check-values a ≡ check-owed (reading b)
+  check-is = go a refl
+    where
+      go : (x : Checked) → a ≡ x → check-values a ≡ check-owed (reading b)
+      go (GoodOne s) e = ap check-values e ∙ check-good e
+      go (Refused why at) e = ap check-values e ∙ check-refused e
+
 -- No part lies in any block.
 pub no-part-within : (b : List ℕ) {p : Part} {n at : ℕ} → p ≡ absent-part n at → p .offset + p .size ≤ length b
 no-part-within b {p} e = let o : p .offset ≡ 0 = ap (λ (q : Part). q .offset) e in let s : p .size ≡ 0 = ap (λ (q : Part). q .size) e in omega arith
@@ -164,46 +164,6 @@ part-cut r b {p} {q} e l =
     subst (part-lies r b) e (subst (LiesAt r b (p .offset)) d l)
 
 -- Different answers have different values: an answer's number and values give the answer back.
-why-of : ℕ → Why
-why-of n = getD (Broken ∷ Broken ∷ Kind ∷ Edition ∷ Limit ∷ Signal ∷ Exit ∷ Shape ∷ Loop ∷ State ∷ Clash ∷ Input ∷ Room ∷ NotConstructive ∷ Index ∷ []) n Broken
-
-why-back : (w : Why) → why-of (number w) ≡ w
-unfolding why-of number
-why-back Broken = refl
-why-back Kind = refl
-why-back Edition = refl
-why-back Limit = refl
-why-back Signal = refl
-why-back Exit = refl
-why-back Shape = refl
-why-back Loop = refl
-why-back State = refl
-why-back Clash = refl
-why-back Input = refl
-why-back Room = refl
-why-back NotConstructive = refl
-why-back Index = refl
-
-pub numbers-differ : (v w : Why) → number v ≡ number w → v ≡ w
-numbers-differ v w e = sym (why-back v) ∙ ap why-of e ∙ why-back w
-
-number-above : (w : Why) → number w ≡ 0 → ⊥
-unfolding number
-number-above Broken e = absurd (omega arith)
-number-above Kind e = absurd (omega arith)
-number-above Edition e = absurd (omega arith)
-number-above Limit e = absurd (omega arith)
-number-above Signal e = absurd (omega arith)
-number-above Exit e = absurd (omega arith)
-number-above Shape e = absurd (omega arith)
-number-above Loop e = absurd (omega arith)
-number-above State e = absurd (omega arith)
-number-above Clash e = absurd (omega arith)
-number-above Input e = absurd (omega arith)
-number-above Room e = absurd (omega arith)
-number-above NotConstructive e = absurd (omega arith)
-number-above Index e = absurd (omega arith)
-
 nth : ℕ → List ℕ → ℕ
 nth n l = getD l n 0
 

@@ -5,34 +5,16 @@ use Prim.Native.Nat.{ℕ}
 use lib.Dec.{eqb, ltb}
 use lib.ListN.{length}
 use denote.Ref.{RefT}
+use Rattle.refusals.specs.Refusals.{number}
 use Rattle.rules.specs.States.{fresh}
 use Rattle.block.specs.Format.{Reading, good, turned-down, preorder, numbered, bytes, offset}
+use Rattle.block.specs.declared.whole.Checked.{Checked}
+use Rattle.block.specs.declared.whole.Checked.the-variants.{Good, Refused}
 use Rattle.records.specs.StateRecord.{state-record}
-use Rattle.foldheron.specs.declared.Why.{Why}
-use Rattle.foldheron.specs.declared.Why.the-variants.{Broken, Kind, Edition, Limit, Signal, Exit, Shape, Loop, State, Clash, Input, Room, NotConstructive, Index}
-use Rattle.foldheron.specs.declared.Checked.{Checked}
-use Rattle.foldheron.specs.declared.Checked.the-variants.{Good, Refused}
 use Rattle.foldheron.specs.declared.Begun.{Begun}
 use Rattle.foldheron.specs.declared.Begun.the-variants.{Fresh, TurnedDown}
 use Rattle.foldheron.specs.declared.Part.{Part}
 use Rattle.foldheron.specs.Parts.{LiesAt}
-
--- The numbers given back when a call is turned down.
-unfoldable pub number : Why → ℕ
-number Broken = 1
-number Kind = 2
-number Edition = 3
-number Limit = 4
-number Signal = 5
-number Exit = 6
-number Shape = 7
-number Loop = 8
-number State = 9
-number Clash = 10
-number Input = 11
-number Room = 12
-number NotConstructive = 13
-number Index = 14
 
 -- A check's answer: number and place, then version, inputs, outputs, locals, statements and pauses.
 unfoldable pub check-values : Checked → List ℕ

@@ -1,53 +1,27 @@
 // What users call: the check of a block, a fresh state for it, one instant, one with a log record, and an excerpt of a block.
-mod instants;
-
-pub use crate::instants::Instant;
-pub use crate::instants::Logged;
 pub use block::kinds::Code;
 use block::kinds::wide;
-use block::whole::Answer;
+pub use block::whole::Checked;
 pub use block::whole::Summary;
 use block::whole::offset_of;
 use block::whole::read_block;
 pub use reaction::Doubt;
+pub use reaction::Instant;
 pub use reaction::Reaction;
-use reaction::Reply;
 use reaction::comes_to;
 use records::log::no_room;
 use records::log::write_at_end;
 use records::state::write_state;
+pub use refusals::Why;
+pub use refusals::number_of;
 ghost use mathlib.Core.Path.{_≡_};
 ghost use Prim.Native.Nat.{_+_, _-_, _≤_, _<_};
 ghost use lib.ListN.{length, getD};
 ghost use Rattle.block.specs.Format.{reading};
 ghost use Rattle.reaction.specs.Instants.{told, state-after, log-after, end-after, instant-verdict, logged-verdict};
-ghost use Rattle.foldheron.specs.InstantAnswers.{instant-told};
-ghost use Rattle.foldheron.specs.Answers.{number, check-values, check-owed, begun-values, begun-owed, state-owed, absent-part, part-owed, part-lies};
+ghost use Rattle.reaction.specs.Answers.{instant-told};
+ghost use Rattle.foldheron.specs.Answers.{check-values, check-owed, begun-values, begun-owed, state-owed, absent-part, part-owed, part-lies};
 ghost use Rattle.foldheron.specs.Parts.{LiesAt};
-
-// Why a call is turned down.
-pub enum Why {
-    Broken,
-    Kind,
-    Edition,
-    Limit,
-    Signal,
-    Exit,
-    Shape,
-    Loop,
-    State,
-    Clash,
-    Input,
-    Room,
-    NotConstructive,
-    Index,
-}
-
-// A good block, or why it is turned down and where.
-pub enum Checked {
-    Good(Summary),
-    Refused(Why, usize),
-}
 
 // A fresh state was written, or why it was not and where.
 pub enum Begun {
@@ -63,48 +37,10 @@ pub struct Part {
     pub size: usize,
 }
 
-// The refusal of a number.
-fn refusal(n: u16) -> Why
-    ensures { λ r. ⌜ (1 ≤ n → n ≤ 14 → number r ≡ n) ⌝ }
-{
-    match n {
-        1 => Why::Broken,
-        2 => Why::Kind,
-        3 => Why::Edition,
-        4 => Why::Limit,
-        5 => Why::Signal,
-        6 => Why::Exit,
-        7 => Why::Shape,
-        8 => Why::Loop,
-        9 => Why::State,
-        10 => Why::Clash,
-        11 => Why::Input,
-        12 => Why::Room,
-        13 => Why::NotConstructive,
-        _ => Why::Index,
-    }
-}
-
-// The number of a refusal.
-pub fn number_of(why: Why) -> u16
-    ensures { λ r. ⌜ r ≡ number why ⌝ }
-{
-    match why {
-        Why::Broken => 1,
-        Why::Kind => 2,
-        Why::Edition => 3,
-        Why::Limit => 4,
-        Why::Signal => 5,
-        Why::Exit => 6,
-        Why::Shape => 7,
-        Why::Loop => 8,
-        Why::State => 9,
-        Why::Clash => 10,
-        Why::Input => 11,
-        Why::Room => 12,
-        Why::NotConstructive => 13,
-        Why::Index => 14,
-    }
+// The same as an instant, and the log's new end beside it, 0 where nothing was logged.
+pub struct Logged {
+    pub answer: Instant,
+    pub end: usize,
 }
 
 // Checks a block: numbers 1 to 8, or what it declares and how large it is.
@@ -114,11 +50,7 @@ pub fn check(block: &[u8]) -> Checked
     let mut kinds = [0u16; 512];
     let mut operands = [0u16; 512];
     let mut sizes = [0u16; 512];
-    let answer = read_block(block, &mut kinds, &mut operands, &mut sizes);
-    match answer {
-        Answer::Good(s) => Checked::Good(s),
-        Answer::Refused(n, at) => Checked::Refused(refusal(n), at),
-    }
+    read_block(block, &mut kinds, &mut operands, &mut sizes)
 }
 
 // Writes a fresh state of a block into 22 lent bytes: numbers 1 to 8, then 9 for another size. A refusal changes no byte.
@@ -131,14 +63,14 @@ pub fn fresh(block: &[u8], state: &mut [u8]) -> Begun
     let mut sizes = [0u16; 512];
     let answer = read_block(block, &mut kinds, &mut operands, &mut sizes);
     match answer {
-        Answer::Good(_) => {
+        Checked::Good(_) => {
             if state.len() != 22 {
                 return Begun::TurnedDown(Why::State, 0);
             }
             write_state(state, 0, [0, 0]);
             Begun::Fresh
         }
-        Answer::Refused(n, at) => Begun::TurnedDown(refusal(n), at),
+        Checked::Refused(why, at) => Begun::TurnedDown(why, at),
     }
 }
 
@@ -172,8 +104,8 @@ pub fn part_of(block: &[u8], n: usize) -> Part
     let mut sizes = [0u16; 512];
     let answer = read_block(block, &mut kinds, &mut operands, &mut sizes);
     match answer {
-        Answer::Refused(number, place) => no_part(number, place),
-        Answer::Good(s) => {
+        Checked::Refused(why, place) => no_part(number_of(why), place),
+        Checked::Good(s) => {
             if s.statements <= n {
                 return no_part(14, 0);
             }
@@ -218,18 +150,14 @@ pub fn instant(block: &[u8], state: &mut [u8], inputs: u64) -> Instant
     ensures { λ _. ⌜ now (state .exit) ≡ state-after (now (state .entry)) (instant-verdict (now (block .entry)) (now (state .entry)) inputs) ⌝ }
 {
     let came = comes_to(block, state, inputs, false);
-    let reply = came.reply;
+    let answer = came.answer;
     let phase = came.phase;
     let kept = came.kept;
-    match reply {
-        Reply::Answered(r) => {
-            write_state(state, phase, kept);
-            Instant::Answered(r)
-        }
-        Reply::NotConstructive(d) => Instant::NotConstructive(d),
-        Reply::Clash(m, n) => Instant::Clash(m, n),
-        Reply::Refused(number, place) => Instant::Refused(refusal(number), place),
-    }
+    let Instant::Answered(_) = answer else {
+        return answer;
+    };
+    write_state(state, phase, kept);
+    answer
 }
 
 // Runs one instant with a log: as above, and 12 before 13. An answered one also writes a record from the log's end on, and nothing before or
@@ -248,29 +176,13 @@ pub fn instant_logged(
 {
     let roomless = no_room(log.len(), end);
     let came = comes_to(block, state, inputs, roomless);
-    let reply = came.reply;
+    let answer = came.answer;
     let phase = came.phase;
     let kept = came.kept;
-    match reply {
-        Reply::Answered(r) => {
-            write_state(state, phase, kept);
-            let next = write_at_end(log, end, inputs, r.present, r.code, r.rounds);
-            Logged {
-                answer: Instant::Answered(r),
-                end: next,
-            }
-        }
-        Reply::NotConstructive(d) => Logged {
-            answer: Instant::NotConstructive(d),
-            end: 0,
-        },
-        Reply::Clash(m, n) => Logged {
-            answer: Instant::Clash(m, n),
-            end: 0,
-        },
-        Reply::Refused(number, place) => Logged {
-            answer: Instant::Refused(refusal(number), place),
-            end: 0,
-        },
-    }
+    let Instant::Answered(r) = answer else {
+        return Logged { answer, end: 0 };
+    };
+    write_state(state, phase, kept);
+    let next = write_at_end(log, end, inputs, r.present, r.code, r.rounds);
+    Logged { answer, end: next }
 }

@@ -13,10 +13,10 @@ use Rattle.block.specs.declared.whole.Summary.{Summary}
 use Rattle.block.proofs.GoodReadings.{numbers as refusal-numbers}
 use Rattle.records.specs.StateRecord.{state-record}
 use Rattle.reaction.specs.Instants.{block-of, Verdict, reacted, Told, told, told-reaction, state-after, log-after, end-after, instant-verdict, logged-verdict}
-use Rattle.foldheron.specs.declared.instants.Instant.{Instant}
-use Rattle.foldheron.specs.declared.instants.Logged.{Logged}
-use Rattle.foldheron.specs.InstantAnswers.{instant-told}
-use Rattle.foldheron.specs.declared.Checked.the-variants.{Good as GoodOne}
+use Rattle.reaction.specs.declared.Instant.{Instant}
+use Rattle.foldheron.specs.declared.Logged.{Logged}
+use Rattle.reaction.specs.Answers.{instant-told}
+use Rattle.block.specs.declared.whole.Checked.the-variants.{Good as GoodOne}
 use Rattle.foldheron.specs.declared.Begun.the-variants.{Fresh}
 use Rattle.foldheron.specs.Answers.{check-values, check-owed, begun-values, begun-owed, state-owed}
 use Rattle.promises.specs.Promised.{ReadAs, Holds, Inputs, rules-answer, PromisedAnswer, PromisedLogged, PromisedCalls}

@@ -9,19 +9,20 @@ use lib.ListN.{take, drop}
 use Rattle.block.specs.Format.{turned-down, reading}
 use Rattle.records.specs.LogRecord.{no-room}
 use Rattle.reaction.specs.Instants.{CLASH, Told, state-after, log-after, end-after, instant-verdict, logged-verdict}
-use Rattle.foldheron.specs.declared.Why.{Why}
-use Rattle.foldheron.specs.declared.Checked.{Checked}
+use Rattle.refusals.specs.declared.Why.{Why}
+use Rattle.block.specs.declared.whole.Checked.{Checked}
 use Rattle.foldheron.specs.declared.Begun.{Begun}
 use Rattle.foldheron.specs.declared.Part.{Part}
-use Rattle.foldheron.specs.declared.instants.Instant.{Instant}
-use Rattle.foldheron.specs.declared.instants.Logged.{Logged}
-use Rattle.foldheron.specs.Answers.{number, check-values, begun-values, state-owed, part-owed}
-use Rattle.foldheron.specs.InstantAnswers.{instant-told}
+use Rattle.reaction.specs.declared.Instant.{Instant}
+use Rattle.foldheron.specs.declared.Logged.{Logged}
+use Rattle.refusals.specs.Refusals.{number}
+use Rattle.foldheron.specs.Answers.{check-values, begun-values, state-owed, part-owed}
+use Rattle.reaction.specs.Answers.{instant-told}
 use Rattle.foldheron.proofs.Owed.{check-told-apart, begun-told-apart}
-use Rattle.foldheron.proofs.number_of.Kinds as number-of-kinds
-use Rattle.foldheron.proofs.number_of.Reads as number-of
-use Rattle.foldheron.proofs.number_of.Statement as number-of-statement
-use Rattle.foldheron.proofs.number_of.Met as number-of-met
+use Rattle.refusals.proofs.number_of.Kinds as number-of-kinds
+use Rattle.refusals.proofs.number_of.Reads as number-of
+use Rattle.refusals.proofs.number_of.Statement as number-of-statement
+use Rattle.refusals.proofs.number_of.Met as number-of-met
 use Rattle.foldheron.proofs.check.Kinds as check-kinds
 use Rattle.foldheron.proofs.check.Reads as check
 use Rattle.foldheron.proofs.check.Statement as check-statement

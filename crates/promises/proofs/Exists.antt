@@ -16,41 +16,23 @@ use Rattle.block.proofs.GoodReadings.{numbers, sound}
 use Rattle.block.proofs.Built.{bytes-append}
 use Rattle.block.proofs.Places.{all-counted}
 use Rattle.reaction.specs.Instants.{Verdict, refused, clash, reacted, told, told-refusal, verdict}
-use Rattle.foldheron.specs.declared.Why.{Why}
-use Rattle.foldheron.specs.declared.Why.the-variants as Why
-use Rattle.foldheron.specs.declared.Checked.{Checked}
-use Rattle.foldheron.specs.declared.Checked.the-variants as Checked
+use Rattle.refusals.specs.declared.Why.the-variants as Why
+use Rattle.block.specs.declared.whole.Checked.{Checked}
+use Rattle.block.specs.declared.whole.Checked.the-variants as Checked
 use Rattle.foldheron.specs.declared.Begun.{Begun}
 use Rattle.foldheron.specs.declared.Begun.the-variants as Begun
-use Rattle.foldheron.specs.declared.instants.Instant.{Instant}
-use Rattle.foldheron.specs.declared.instants.Instant.the-variants as Instant
-use Rattle.foldheron.specs.Answers.{number, check-values, check-owed, begun-values, begun-owed, absent-part, part-owed}
-use Rattle.foldheron.specs.InstantAnswers.{instant-told}
+use Rattle.reaction.specs.declared.Instant.{Instant}
+use Rattle.reaction.specs.declared.Instant.the-variants as Instant
+use Rattle.refusals.specs.Refusals.{number, why-of}
+use Rattle.refusals.proofs.Laws.{number-back, of-a-block}
+use Rattle.foldheron.specs.Answers.{check-values, check-owed, begun-values, begun-owed, absent-part, part-owed}
+use Rattle.reaction.specs.Answers.{instant-told}
 use Rattle.foldheron.proofs.Calls.{Leaves, leaves}
 use Rattle.promises.proofs.OneAnswer.{remade}
 
--- Each number has its name.
-named : (n : ℕ) → 1 ≤ n → n ≤ 14 → (why : Why) × (number why ≡ n)
-unfolding number
-named zero l h = absurd (omega arith)
-named (suc zero) l h = (Why.Broken, refl)
-named (suc (suc zero)) l h = (Why.Kind, refl)
-named (suc (suc (suc zero))) l h = (Why.Edition, refl)
-named (suc (suc (suc (suc zero)))) l h = (Why.Limit, refl)
-named (suc (suc (suc (suc (suc zero))))) l h = (Why.Signal, refl)
-named (suc (suc (suc (suc (suc (suc zero)))))) l h = (Why.Exit, refl)
-named (suc (suc (suc (suc (suc (suc (suc zero))))))) l h = (Why.Shape, refl)
-named (suc (suc (suc (suc (suc (suc (suc (suc zero)))))))) l h = (Why.Loop, refl)
-named (suc (suc (suc (suc (suc (suc (suc (suc (suc zero))))))))) l h = (Why.State, refl)
-named (suc (suc (suc (suc (suc (suc (suc (suc (suc (suc zero)))))))))) l h = (Why.Clash, refl)
-named (suc (suc (suc (suc (suc (suc (suc (suc (suc (suc (suc zero))))))))))) l h = (Why.Input, refl)
-named (suc (suc (suc (suc (suc (suc (suc (suc (suc (suc (suc (suc zero)))))))))))) l h = (Why.Room, refl)
-named (suc (suc (suc (suc (suc (suc (suc (suc (suc (suc (suc (suc (suc zero))))))))))))) l h = (Why.NotConstructive, refl)
-named (suc (suc (suc (suc (suc (suc (suc (suc (suc (suc (suc (suc (suc (suc zero)))))))))))))) l h = (Why.Index, refl)
-named (suc (suc (suc (suc (suc (suc (suc (suc (suc (suc (suc (suc (suc (suc (suc n))))))))))))))) l h = absurd (omega arith)
-
-named-in-block : (b : List ℕ) (n at : ℕ) → reading b ≡ turned-down n at → (why : Why) × (number why ≡ n)
-named-in-block b n at e = let r = numbers b n at e in let h : n ≤ 8 = r .1 in named n (r .0) (omega arith)
+-- A refusal of a block has its name.
+named-in-block : (b : List ℕ) (n at : ℕ) → reading b ≡ turned-down n at → number (why-of n) ≡ n
+named-in-block b n at e = let r = numbers b n at e in number-back n (of-a-block n (r .0) (r .1))
 
 pub a-check : (b : List ℕ) → (r : Checked) × (check-values r ≡ check-owed (reading b))
 unfolding check-values check-owed
@@ -59,8 +41,7 @@ a-check b = go (reading b) refl
     go : (x : Reading) → reading b ≡ x → (r : Checked) × (check-values r ≡ check-owed x)
     go (good g) e = (Checked.Good (summary-of g), refl)
     go (turned-down n at) e =
-        let y = named-in-block b n at e in
-        (Checked.Refused (y .0) at, ap (λ (m : ℕ). m ∷ at ∷ 0 ∷ 0 ∷ 0 ∷ 0 ∷ 0 ∷ 0 ∷ []) (y .1))
+        (Checked.Refused (why-of n) at, ap (λ (m : ℕ). m ∷ at ∷ 0 ∷ 0 ∷ 0 ∷ 0 ∷ 0 ∷ 0 ∷ []) (named-in-block b n at e))
 
 pub a-beginning : (b s : List ℕ) → (r : Begun) × (begun-values r ≡ begun-owed (reading b) s)
 unfolding begun-values begun-owed number
@@ -72,14 +53,14 @@ a-beginning b s = go (reading b) refl
 
     go : (x : Reading) → reading b ≡ x → (r : Begun) × (begun-values r ≡ begun-owed x s)
     go (good g) e = sized (eqb (length s) 22)
-    go (turned-down n at) e = let y = named-in-block b n at e in (Begun.TurnedDown (y .0) at, ap (λ (m : ℕ). m ∷ at ∷ []) (y .1))
+    go (turned-down n at) e = (Begun.TurnedDown (why-of n) at, ap (λ (m : ℕ). m ∷ at ∷ []) (named-in-block b n at e))
 
 pub an-instant : (b s : List ℕ) (w : ℕ) (roomless : Bool) → (r : Instant) × (instant-told r ≡ told (verdict b s w roomless))
 unfolding told instant-told remade Leaves
 an-instant b s w roomless = go (verdict b s w roomless) (leaves b s w roomless)
   where
     go : (v : Verdict) → Leaves v s roomless → (r : Instant) × (instant-told r ≡ told v)
-    go (refused n at) l = let y = named n (l .0) (l .1) in (Instant.Refused (y .0) at, ap (λ (m : ℕ). told-refusal m at 0 0) (y .1))
+    go (refused n at) l = (Instant.Refused (why-of n) at, ap (λ (m : ℕ). told-refusal m at 0 0) (number-back n l))
     go (clash pair) l = (Instant.Clash (pair .first) (pair .second), refl)
     go (reacted b (answered vs c st n)) l = (remade (told (reacted b (answered vs c st n))), refl)
     go (reacted b (not-constructive vs n)) l = (remade (told (reacted b (not-constructive vs n))), refl)

@@ -17,7 +17,8 @@ use Rattle.block.specs.Format.{Good, Reading, good, turned-down, reading, preor
 use Rattle.block.proofs.GoodReadings.{numbers}
 use Rattle.records.specs.StateRecord.{Found, not-a-state, state, active-in, read-state, state-record, Pair, first-clash, undeclared-input}
 use Rattle.records.specs.LogRecord.{no-room}
-use Rattle.reaction.specs.Instants.{STATE, CLASH, INPUT, ROOM, Verdict, refused, clash, reacted, block-of, try-inputs, try-clash, try-state, try-block, verdict, told, instant-verdict, logged-verdict, heard-of}
+use Rattle.reaction.specs.Fronts.{STATE, INPUT, stopped, ready, try-inputs, try-clash, try-state, try-block, front}
+use Rattle.reaction.specs.Instants.{CLASH, ROOM, Verdict, refused, clash, reacted, block-of, goes-on, verdict, told, instant-verdict, logged-verdict, heard-of}
 use Rattle.foldheron.specs.declared.Part.{Part}
 use Rattle.foldheron.specs.Answers.{check-owed, begun-owed, state-owed, absent-part, part-owed}
 use Rattle.promises.specs.Tests.{Test, First}
@@ -144,28 +145,28 @@ module _ (b s : List ℕ) (w : ℕ) (g : Good) (e : reading b ≡ good g) where
 
     module _ (roomless : Bool) (middle : List Test) (full : roomless ≡ true → (ts : List Test) → First (middle ++ ts) ROOM)
         (room : roomless ≡ false → (ts : List Test) (n : ℕ) → First ts n → First (middle ++ ts) n) where
-      inputs-first : First (input-test b w ∷ (middle ++ code-test b s w ∷ [])) (told (try-inputs g st w roomless) .number)
-      unfolding told try-inputs
+      inputs-first : First (input-test b w ∷ (middle ++ code-test b s w ∷ [])) (told (goes-on w roomless (try-inputs g st w)) .number)
+      unfolding told try-inputs goes-on
       inputs-first = go (undeclared-input (g .header .inputs) w) refl roomless refl
         where
           go : (x : Bool) → undeclared-input (g .header .inputs) w ≡ x → (y : Bool) → roomless ≡ y
               → First (input-test b w ∷ (middle ++ code-test b s w ∷ []))
-              (told (cond x (refused INPUT 0) (cond y (refused ROOM 0) (reacted (block-of g) (react (block-of g) st (heard-of g w))))) .number)
+              (told (goes-on w y (cond x (stopped INPUT 0) (ready g st))) .number)
           go true q y r = inl (input-some q, refl)
           go false q true r = inr (input-none q, full r (code-test b s w ∷ []))
           go false q false r = inr (input-none q, room r (code-test b s w ∷ []) _ (code-first (react (block-of g) st (heard-of g w)) refl))
 
       clash-first : (c : Option Pair) → first-clash (g .body) (active-of st) ≡ c
-          → First (clash-test b s ∷ input-test b w ∷ (middle ++ code-test b s w ∷ [])) (told (try-clash g st w roomless c) .number)
-      unfolding told try-clash
+          → First (clash-test b s ∷ input-test b w ∷ (middle ++ code-test b s w ∷ [])) (told (goes-on w roomless (try-clash g st w c)) .number)
+      unfolding told try-clash goes-on
       clash-first none q = inr (clash-none q, inputs-first)
       clash-first (some pair) q = inl (clash-some pair q, refl)
 
   module _ (roomless : Bool) (middle : List Test) (full : roomless ≡ true → (ts : List Test) → First (middle ++ ts) ROOM)
       (room : roomless ≡ false → (ts : List Test) (n : ℕ) → First ts n → First (middle ++ ts) n) where
     state-first : (f : Found) → read-state (g .pauses) s ≡ f
-        → First (state-test b s ∷ clash-test b s ∷ input-test b w ∷ (middle ++ code-test b s w ∷ [])) (told (try-state g w roomless f) .number)
-    unfolding told try-state
+        → First (state-test b s ∷ clash-test b s ∷ input-test b w ∷ (middle ++ code-test b s w ∷ [])) (told (goes-on w roomless (try-state g w f)) .number)
+    unfolding told try-state goes-on
     state-first not-a-state q = inl (record { block = g; is-good = e; wrong = read-wrong (g .pauses) s q }, refl)
     state-first (state st) q = inr (right, clash-first st q roomless middle full room (first-clash (g .body) (active-of st)) refl)
       where
@@ -178,23 +179,23 @@ module _ (b s : List ℕ) (w : ℕ) (g : Good) (e : reading b ≡ good g) where
 pub verdict-first : (b s : List ℕ) (w : ℕ) (roomless : Bool) (middle : List Test) → (roomless ≡ true → (ts : List Test) → First (middle ++ ts) ROOM)
     → (roomless ≡ false → (ts : List Test) (n : ℕ) → First ts n → First (middle ++ ts) n)
     → First (block-tests b ++ state-test b s ∷ clash-test b s ∷ input-test b w ∷ (middle ++ code-test b s w ∷ [])) (told (verdict b s w roomless) .number)
-unfolding told verdict try-block
+unfolding told verdict front try-block goes-on
 verdict-first b s w roomless middle full room = go (reading b) refl
   where
     late : List Test
     late = state-test b s ∷ clash-test b s ∷ input-test b w ∷ (middle ++ code-test b s w ∷ [])
 
-    go : (x : Reading) → reading b ≡ x → First (block-tests b ++ late) (told (try-block s w roomless x) .number)
-    go (good g) e = past-block b g e one-to-8 late (told (try-state g w roomless (read-state (g .pauses) s)) .number)
+    go : (x : Reading) → reading b ≡ x → First (block-tests b ++ late) (told (goes-on w roomless (try-block s w x)) .number)
+    go (good g) e = past-block b g e one-to-8 late (told (goes-on w roomless (try-state g w (read-state (g .pauses) s))) .number)
         (state-first b s w g e roomless middle full room (read-state (g .pauses) s) refl)
     go (turned-down n at) e = of-the-block b n at e late
 
 -- The place, and the pair of a CLASH.
 past-tests : (b s : List ℕ) (w : ℕ) (roomless : Bool) (g : Good) → reading b ≡ good g
-    → (told (try-state g w roomless (read-state (g .pauses) s)) .place ≡ 0)
-    × (told (try-state g w roomless (read-state (g .pauses) s)) .number ≡ CLASH
-    → PairOf b s (told (try-state g w roomless (read-state (g .pauses) s)) .first) (told (try-state g w roomless (read-state (g .pauses) s)) .second))
-unfolding told try-state try-clash try-inputs
+    → (told (goes-on w roomless (try-state g w (read-state (g .pauses) s))) .place ≡ 0)
+    × (told (goes-on w roomless (try-state g w (read-state (g .pauses) s))) .number ≡ CLASH
+    → PairOf b s (told (goes-on w roomless (try-state g w (read-state (g .pauses) s))) .first) (told (goes-on w roomless (try-state g w (read-state (g .pauses) s))) .second))
+unfolding told try-state try-clash try-inputs goes-on
 past-tests b s w roomless g e = on-state (read-state (g .pauses) s) refl
   where
     Fine : Verdict → Type 0
@@ -204,36 +205,36 @@ past-tests b s w roomless g e = on-state (read-state (g .pauses) s) refl
     on-answer (answered vs c st n) = (refl, λ z. absurd (omega arith))
     on-answer (not-constructive vs n) = (refl, λ z. absurd (omega arith))
 
-    on-inputs : (st : State) (x y : Bool) → Fine (cond x (refused INPUT 0) (cond y (refused ROOM 0) (reacted (block-of g) (react (block-of g) st (heard-of g w)))))
+    on-inputs : (st : State) (x y : Bool) → Fine (goes-on w y (cond x (stopped INPUT 0) (ready g st)))
     on-inputs st true y = (refl, λ z. absurd (omega arith))
     on-inputs st false true = (refl, λ z. absurd (omega arith))
     on-inputs st false false = on-answer (react (block-of g) st (heard-of g w))
 
-    on-clash : (st : State) → read-state (g .pauses) s ≡ state st → (c : Option Pair) → first-clash (g .body) (active-of st) ≡ c → Fine (try-clash g st w roomless c)
+    on-clash : (st : State) → read-state (g .pauses) s ≡ state st → (c : Option Pair) → first-clash (g .body) (active-of st) ≡ c → Fine (goes-on w roomless (try-clash g st w c))
     on-clash st h none q = on-inputs st (undeclared-input (g .header .inputs) w) roomless
     on-clash st h (some pair) q = (refl, λ z. its-pair b s w g e st h pair q)
 
-    on-state : (f : Found) → read-state (g .pauses) s ≡ f → Fine (try-state g w roomless f)
+    on-state : (f : Found) → read-state (g .pauses) s ≡ f → Fine (goes-on w roomless (try-state g w f))
     on-state not-a-state q = (refl, λ z. absurd (omega arith))
     on-state (state st) q = on-clash st q (first-clash (g .body) (active-of st)) refl
 
 module _ (b s : List ℕ) (w : ℕ) (roomless : Bool) where
   pub verdict-placed : PlacedBy b (told (verdict b s w roomless) .number) (told (verdict b s w roomless) .place)
-  unfolding told verdict try-block
+  unfolding told verdict front try-block goes-on
   verdict-placed = go (reading b) refl
     where
-      go : (x : Reading) → reading b ≡ x → PlacedBy b (told (try-block s w roomless x) .number) (told (try-block s w roomless x) .place)
+      go : (x : Reading) → reading b ≡ x → PlacedBy b (told (goes-on w roomless (try-block s w x)) .number) (told (goes-on w roomless (try-block s w x)) .place)
       go (good g) e =
-          subst (λ (at : ℕ). PlacedBy b (told (try-state g w roomless (read-state (g .pauses) s)) .number) at) (sym (past-tests b s w roomless g e .0))
-          (at-0 (told (try-state g w roomless (read-state (g .pauses) s)) .number) g e)
+          subst (λ (at : ℕ). PlacedBy b (told (goes-on w roomless (try-state g w (read-state (g .pauses) s))) .number) at) (sym (past-tests b s w roomless g e .0))
+          (at-0 (told (goes-on w roomless (try-state g w (read-state (g .pauses) s))) .number) g e)
       go (turned-down n at) e = in-block n at (turned-down-decides b n at e)
 
   pub verdict-paired : told (verdict b s w roomless) .number ≡ CLASH → PairOf b s (told (verdict b s w roomless) .first) (told (verdict b s w roomless) .second)
-  unfolding told verdict try-block
+  unfolding told verdict front try-block goes-on
   verdict-paired = go (reading b) refl
     where
-      go : (x : Reading) → reading b ≡ x → told (try-block s w roomless x) .number ≡ CLASH
-          → PairOf b s (told (try-block s w roomless x) .first) (told (try-block s w roomless x) .second)
+      go : (x : Reading) → reading b ≡ x → told (goes-on w roomless (try-block s w x)) .number ≡ CLASH
+          → PairOf b s (told (goes-on w roomless (try-block s w x)) .first) (told (goes-on w roomless (try-block s w x)) .second)
       go (good g) e q = past-tests b s w roomless g e .1 q
       go (turned-down n at) e q = let h : n ≤ 8 = numbers b n at e .1 in absurd (omega arith)
 

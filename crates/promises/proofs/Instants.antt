@@ -14,25 +14,29 @@ use Rattle.theorems.proofs.Instants.{reacts}
 use Rattle.theorems.proofs.Traces.{instant-not-stuck}
 use Rattle.block.specs.Format.{Good, good, reading}
 use Rattle.block.proofs.GoodReadings.{sound}
-use Rattle.reaction.specs.Instants.{block-of, Verdict, reacted, try-clash, try-state, try-block, verdict, told, state-after, heard-of}
-use Rattle.reaction.proofs.Ways.{all-pass}
-use Rattle.promises.specs.Promised.{Holds, Inputs, set-of, rules-answer, PromisedAnswer, Promised}
+use Rattle.reaction.specs.Fronts.{Front, ready, try-inputs, try-clash, try-state, try-block, front}
+use Rattle.reaction.specs.Instants.{block-of, Verdict, reacted, goes-on, verdict, told, state-after, heard-of}
+use Rattle.promises.specs.Promised.{Holds, Inputs, input-set, rules-answer, PromisedAnswer, Promised}
 use Rattle.promises.proofs.Records.{inputs-pass, checked, held-is-legal, legal-is-held}
 use Rattle.promises.proofs.Telling.{tells}
 
 module _ (b : List ℕ) (g : Good) (e : reading b ≡ good g) (s : List ℕ) (st : State) (h : Holds g s st) (w : Inputs g) where
-  all-tests-pass : verdict b s (w .number) false ≡ reacted (block-of g) (rules-answer g st w)
-  unfolding verdict try-block try-state try-clash
+  all-tests-pass : front b s (w .number) ≡ ready g st
+  unfolding front try-block try-state try-clash try-inputs
   all-tests-pass =
-      ap (try-block s (w .number) false) e ∙ ap (try-state g (w .number) false) (h .found) ∙ ap (try-clash g st (w .number) false) (h .no-clash)
-      ∙ all-pass g st (w .number) false (inputs-pass g w) refl
+      ap (try-block s (w .number)) e ∙ ap (try-state g (w .number)) (h .found) ∙ ap (try-clash g st (w .number)) (h .no-clash)
+      ∙ rw (inputs-pass g w)
+
+  is-reaction : verdict b s (w .number) false ≡ reacted (block-of g) (rules-answer g st w)
+  unfolding verdict goes-on
+  is-reaction = ap (goes-on (w .number) false) all-tests-pass
 
   few : g .header .inputs + g .header .outputs ≤ 64
   few = omega (arith, sound b g e .signals)
 
-  stuck-not : NotStuck (block-of g) st (set-of w) (rules-answer g st w)
+  stuck-not : NotStuck (block-of g) st (input-set w) (rules-answer g st w)
   stuck-not =
-      instant-not-stuck (block-of g) (checked b g e) st (set-of w) (rules-answer g st w) (held-is-legal b g e s st h)
+      instant-not-stuck (block-of g) (checked b g e) st (input-set w) (rules-answer g st w) (held-is-legal b g e s st h)
       (reacts (block-of g) st (heard-of g (w .number)) (checked b g e))
 
   after-holds : (a : Answer) → Legal (g .body) (after st a) → Holds g (state-after s (reacted (block-of g) a)) (after st a)
@@ -42,9 +46,9 @@ module _ (b : List ℕ) (g : Good) (e : reading b ≡ good g) (s : List ℕ) (st
 
   pub promised : Promised b g s st w
   promised = record {
-    is-reaction = all-tests-pass;
+    is-reaction = is-reaction;
     not-stuck = stuck-not;
-    answer = subst⁻¹ (λ (v : Verdict). PromisedAnswer g s st w (told v) (state-after s v)) all-tests-pass (record {
+    answer = subst⁻¹ (λ (v : Verdict). PromisedAnswer g s st w (told v) (state-after s v)) is-reaction (record {
       tells = tells (block-of g) few st (bits (w .number)) s (rules-answer g st w) (stuck-not .only-reaction);
       holds-after = after-holds (rules-answer g st w) (stuck-not .legal-after);
     });

@@ -5,14 +5,15 @@ use mathlib.Core.List.{List}
 use Prim.Native.Nat.{ℕ}
 use Rattle.block.specs.Format.{reading}
 use Rattle.reaction.specs.Instants.{told, state-after, log-after, end-after, instant-verdict, logged-verdict}
-use Rattle.foldheron.specs.declared.Why.{Why}
-use Rattle.foldheron.specs.declared.Checked.{Checked}
+use Rattle.refusals.specs.declared.Why.{Why}
+use Rattle.block.specs.declared.whole.Checked.{Checked}
 use Rattle.foldheron.specs.declared.Begun.{Begun}
 use Rattle.foldheron.specs.declared.Part.{Part}
-use Rattle.foldheron.specs.declared.instants.Instant.{Instant}
-use Rattle.foldheron.specs.declared.instants.Logged.{Logged}
-use Rattle.foldheron.specs.InstantAnswers.{instant-told}
-use Rattle.foldheron.specs.Answers.{number, check-values, check-owed, begun-values, begun-owed, state-owed, part-owed, part-lies}
+use Rattle.reaction.specs.declared.Instant.{Instant}
+use Rattle.foldheron.specs.declared.Logged.{Logged}
+use Rattle.reaction.specs.Answers.{instant-told}
+use Rattle.refusals.specs.Refusals.{number}
+use Rattle.foldheron.specs.Answers.{check-values, check-owed, begun-values, begun-owed, state-owed, part-owed, part-lies}
 use Rattle.promises.specs.Calls.{_holds_, CheckCalled, FreshCalled, Called, CalledWithLog, PartCalled, ExcerptCalled, NumberCalled}
 
 module _ (b : List ℕ) where

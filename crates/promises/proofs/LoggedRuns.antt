@@ -6,17 +6,18 @@ use mathlib.Core.Bool.{Bool, true, false, cond}
 use mathlib.Core.List.{List, [], _∷_, _++_, map, append-assoc}
 use Prim.Native.Nat.{ℕ, _+_, _*_, _≤_}
 use native.Mathlib.Omega.{arith}
-use lib.Dec.{eqb}
+use lib.Dec.{T, eqb}
 use lib.ListN.{length, take, drop, length-append, take-append-drop}
 use lib.Seq.{take-at, drop-append-add, drop-drop, length-take-le}
 use borrow.Author.Tests.{eqb-true, eqb-false}
+use Rattle.refusals.specs.Refusals.{number, has-number, has-refusal}
 use Rattle.rules.specs.Rounds.{answered, not-constructive}
 use Rattle.records.specs.LogRecord.{logged-at, no-room}
 use Rattle.records.proofs.Back.{log-length}
 use Rattle.records.proofs.Logs.{has-room, logged-length}
 use Rattle.reaction.specs.Instants.{Verdict, refused, clash, reacted, Told, told, state-after, log-after, end-after, instant-verdict, logged-verdict}
-use Rattle.foldheron.specs.declared.instants.Logged.{Logged}
-use Rattle.foldheron.specs.InstantAnswers.{instant-told}
+use Rattle.foldheron.specs.declared.Logged.{Logged}
+use Rattle.reaction.specs.Answers.{instant-told}
 use Rattle.foldheron.proofs.Calls.{Leaves, leaves}
 use Rattle.promises.specs.Calls as calls
 use Rattle.promises.specs.Calls.{Called, Calls, CalledWithLog, went-on, LoggedCalls, no-call, one-more}
@@ -45,8 +46,8 @@ record Wrote (v : Verdict) (log : List ℕ) (end w : ℕ) : Type 0 where
   pub end-is : end-after end v ≡ end + 24
 
 wrote : (v : Verdict) (s log : List ℕ) (end w : ℕ) → Leaves v s (no-room log end) → told v .number ≡ 0 → Wrote v log end w
-unfolding Leaves told log-after end-after logged-at
-wrote (refused n at) s log end w l e = let h : 1 ≤ n = l .0 in absurd (omega arith)
+unfolding Leaves has-number number told log-after end-after logged-at
+wrote (refused n at) s log end w l e = absurd (subst (λ (m : ℕ). T (has-refusal m)) e l)
 wrote (clash pair) s log end w l e = absurd (omega arith)
 wrote (reacted b (answered vs c st n)) s log end w l e =
     let h : end + 24 ≤ length log = has-room log end (l .1) in
@@ -58,29 +59,29 @@ nothing-written : (end : ℕ) (log : List ℕ) → log ≡ written-from end [] l
 nothing-written end log = let z : end + 0 ≡ end = omega arith in sym (ap (λ (n : ℕ). take end log ++ drop n log) z ∙ take-append-drop end log)
 
 module _ (log r q : List ℕ) (end : ℕ) (sized : length r ≡ 24) (room : end + 24 ≤ length log) where
-  front : List ℕ
-  front = take end log ++ r
+  with-record : List ℕ
+  with-record = take end log ++ r
 
-  front-length : length front ≡ end + 24
-  unfolding front
-  front-length = length-append (take end log) r ∙ ap₂ _+_ (length-take-le end log (omega arith)) sized
+  with-record-length : length with-record ≡ end + 24
+  unfolding with-record
+  with-record-length = length-append (take end log) r ∙ ap₂ _+_ (length-take-le end log (omega arith)) sized
 
-  once : take end log ++ (r ++ drop (end + 24) log) ≡ front ++ drop (end + 24) log
-  unfolding front
+  once : take end log ++ (r ++ drop (end + 24) log) ≡ with-record ++ drop (end + 24) log
+  unfolding with-record
   once = sym (append-assoc (take end log) r (drop (end + 24) log))
 
-  before : take (end + 24) (take end log ++ (r ++ drop (end + 24) log)) ≡ front
-  before = ap (take (end + 24)) once ∙ take-at front (drop (end + 24) log) (end + 24) front-length
+  before : take (end + 24) (take end log ++ (r ++ drop (end + 24) log)) ≡ with-record
+  before = ap (take (end + 24)) once ∙ take-at with-record (drop (end + 24) log) (end + 24) with-record-length
 
   behind : drop (end + 24 + length q) (take end log ++ (r ++ drop (end + 24) log)) ≡ drop (end + length (r ++ q)) log
   behind =
       let n : end + 24 + length q ≡ end + length (r ++ q) = omega (arith, length-append r q, sized) in
       ap (drop (end + 24 + length q)) once
-      ∙ ap (λ (k : ℕ). drop (k + length q) (front ++ drop (end + 24) log)) (sym front-length)
-      ∙ drop-append-add front (drop (end + 24) log) (length q) ∙ drop-drop (length q) (end + 24) log ∙ ap (λ (k : ℕ). drop k log) n
+      ∙ ap (λ (k : ℕ). drop (k + length q) (with-record ++ drop (end + 24) log)) (sym with-record-length)
+      ∙ drop-append-add with-record (drop (end + 24) log) (length q) ∙ drop-drop (length q) (end + 24) log ∙ ap (λ (k : ℕ). drop k log) n
 
   written-twice : written-from (end + 24) q (take end log ++ (r ++ drop (end + 24) log)) ≡ written-from end (r ++ q) log
-  unfolding front
+  unfolding with-record
   written-twice =
       ap₂ (λ (x y : List ℕ). x ++ (q ++ y)) before behind
       ∙ append-assoc (take end log) r (q ++ drop (end + length (r ++ q)) log)

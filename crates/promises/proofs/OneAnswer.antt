@@ -8,6 +8,7 @@ use mathlib.Core.Option.{Option, none, some}
 use Prim.Native.Nat.{ℕ, _≤_, _<_}
 use native.Mathlib.Omega.{arith}
 use lib.Dec.{T, eqb, ltb, ltb→lt}
+use borrow.Author.Tests.{ne-eqb}
 use Rattle.sets.specs.Numbers.{Numbers, some-to, lowest}
 use Rattle.sets.proofs.Members.{and-left, and-right}
 use Rattle.sets.proofs.Counts.{lowest-some}
@@ -20,13 +21,15 @@ use Rattle.theorems.proofs.Demand3.{rounds-end}
 use Rattle.block.specs.Format.{Good, Reading, good, turned-down, reading}
 use Rattle.block.proofs.GoodReadings.{numbers}
 use Rattle.records.specs.StateRecord.{Found, not-a-state, state, read-state, Pair, paired, with-second, clashes, first-clash, undeclared-input}
-use Rattle.reaction.specs.Instants.{Verdict, refused, clash, reacted, Told, told, block-of, try-inputs, try-clash, try-state, try-block, verdict, heard-of}
-use Rattle.foldheron.specs.declared.Why.{Why}
-use Rattle.foldheron.specs.declared.Why.the-variants as Why
-use Rattle.foldheron.specs.declared.instants.Instant.{Instant}
-use Rattle.foldheron.specs.declared.instants.Instant.the-variants as Instant
-use Rattle.foldheron.specs.Answers.{number}
-use Rattle.foldheron.specs.InstantAnswers.{instant-told}
+use Rattle.reaction.specs.Fronts.{stopped, ready, try-inputs, try-clash, try-state, try-block, front}
+use Rattle.reaction.specs.Instants.{Verdict, refused, clash, reacted, Told, told, block-of, goes-on, verdict, heard-of}
+use Rattle.refusals.specs.declared.Why.{Why}
+use Rattle.refusals.specs.declared.Why.the-variants as Why
+use Rattle.reaction.specs.declared.Instant.{Instant}
+use Rattle.reaction.specs.declared.Instant.the-variants as Instant
+use Rattle.refusals.specs.Refusals.{number, why-of}
+use Rattle.refusals.proofs.Laws.{why-back, numbers-differ, number-above}
+use Rattle.reaction.specs.Answers.{instant-told}
 
 -- What no field tells: a refusal's number is not that of a clash or a 13, a clash's second pause is above the first, and rounds are counted.
 unfoldable Apart : Verdict → Type 0
@@ -48,11 +51,11 @@ counted b st ins =
     let S = step (b .body) st in
     counted-answer b r (lowest 18 (gives must S E .codes)) (kept S E) (rounds-end b st ins .at-least)
 
-inputs-apart : (g : Good) (st : State) (given : ℕ) (roomless : Bool) → Apart (try-inputs g st given roomless)
-unfolding Apart try-inputs
+inputs-apart : (g : Good) (st : State) (given : ℕ) (roomless : Bool) → Apart (goes-on given roomless (try-inputs g st given))
+unfolding Apart try-inputs goes-on
 inputs-apart g st given roomless = go (undeclared-input (g .header .inputs) given) roomless
   where
-    go : (x y : Bool) → Apart (cond x (refused 11 0) (cond y (refused 12 0) (reacted (block-of g) (react (block-of g) st (heard-of g given)))))
+    go : (x y : Bool) → Apart (goes-on given y (cond x (stopped 11 0) (ready g st)))
     go true y = ((λ e. omega arith), (λ e. omega arith))
     go false true = ((λ e. omega arith), (λ e. omega arith))
     go false false = counted (block-of g) st (heard-of g given)
@@ -71,41 +74,25 @@ clash-apart : (p : Stmt) (A : Numbers) (o : Option ℕ) (pair : Pair) → with-s
 clash-apart p A none pair e = let z : _≡_ {A = ℕ} 0 1 = cc in absurd (omega arith)
 clash-apart p A (some m) pair e = second-above p A m (lowest 128 (clashes p A m)) pair refl e
 
-state-apart : (g : Good) (given : ℕ) (roomless : Bool) (f : Found) → Apart (try-state g given roomless f)
-unfolding Apart try-state try-clash first-clash
+state-apart : (g : Good) (given : ℕ) (roomless : Bool) (f : Found) → Apart (goes-on given roomless (try-state g given f))
+unfolding Apart try-state try-clash goes-on first-clash
 state-apart g given roomless not-a-state = ((λ e. omega arith), (λ e. omega arith))
 state-apart g given roomless (state st) = go (first-clash (g .body) (active-of st)) refl
   where
-    go : (o : Option Pair) → first-clash (g .body) (active-of st) ≡ o → Apart (try-clash g st given roomless o)
+    go : (o : Option Pair) → first-clash (g .body) (active-of st) ≡ o → Apart (goes-on given roomless (try-clash g st given o))
     go none e = inputs-apart g st given roomless
     go (some pair) e = clash-apart (g .body) (active-of st) (lowest 128 (λ m. some-to (clashes (g .body) (active-of st) m) 127)) pair e
 
 apart : (b s : List ℕ) (given : ℕ) (roomless : Bool) → Apart (verdict b s given roomless)
-unfolding Apart verdict try-block
+unfolding Apart verdict front try-block goes-on
 apart b s given roomless = go (reading b) refl
   where
-    go : (x : Reading) → reading b ≡ x → Apart (try-block s given roomless x)
+    go : (x : Reading) → reading b ≡ x → Apart (goes-on given roomless (try-block s given x))
     go (good g) e = state-apart g given roomless (read-state (g .pauses) s)
     go (turned-down n at) e = let h : n ≤ 8 = numbers b n at e .1 in ((λ d. omega arith), (λ d. omega arith))
 
 -- The answer that has these fields.
-why-of : ℕ → Why
-why-of n =
-    cond (eqb n 1) Why.Broken
-    (cond (eqb n 2) Why.Kind
-    (cond (eqb n 3) Why.Edition
-    (cond (eqb n 4) Why.Limit
-    (cond (eqb n 5) Why.Signal
-    (cond (eqb n 6) Why.Exit
-    (cond (eqb n 7) Why.Shape
-    (cond (eqb n 8) Why.Loop
-    (cond (eqb n 9) Why.State
-    (cond (eqb n 11) Why.Input
-    (cond (eqb n 12) Why.Room
-    Why.Index))))))))))
-
 unfoldable pub remade : Told → Instant
-unfolding why-of
 remade t =
     cond (eqb (t .number) 0)
     (Instant.Answered (record { present = t .present-outputs; code = record { 0 = t .code }; rounds = t .rounds; active = t .active }))
@@ -116,24 +103,16 @@ remade t =
 -- It is the answer itself, unless a clash or a 13 is told as a refusal.
 from-fields : (r : Instant) → ((at : ℕ) → r ≢ Instant.Refused Why.Clash at) → ((at : ℕ) → r ≢ Instant.Refused Why.NotConstructive at)
     → remade (instant-told r) ≡ r
-unfolding remade why-of instant-told number
+unfolding remade instant-told number
 from-fields (Instant.Answered r) c d = refl
 from-fields (Instant.NotConstructive r) c d = refl
 from-fields (Instant.Clash m n) c d = refl
-from-fields (Instant.Refused Why.Broken at) c d = refl
-from-fields (Instant.Refused Why.Kind at) c d = refl
-from-fields (Instant.Refused Why.Edition at) c d = refl
-from-fields (Instant.Refused Why.Limit at) c d = refl
-from-fields (Instant.Refused Why.Signal at) c d = refl
-from-fields (Instant.Refused Why.Exit at) c d = refl
-from-fields (Instant.Refused Why.Shape at) c d = refl
-from-fields (Instant.Refused Why.Loop at) c d = refl
-from-fields (Instant.Refused Why.State at) c d = refl
-from-fields (Instant.Refused Why.Clash at) c d = absurd (c at refl)
-from-fields (Instant.Refused Why.Input at) c d = refl
-from-fields (Instant.Refused Why.Room at) c d = refl
-from-fields (Instant.Refused Why.NotConstructive at) c d = absurd (d at refl)
-from-fields (Instant.Refused Why.Index at) c d = refl
+from-fields (Instant.Refused w at) c d =
+    let not-0 : eqb (number w) 0 ≡ false = ne-eqb (number w) 0 (number-above w) in
+    let not-13 : eqb (number w) 13 ≡ false = ne-eqb (number w) 13 (λ e. d at (ap (λ (y : Why). Instant.Refused y at) (numbers-differ w Why.NotConstructive e))) in
+    let not-10 : eqb (number w) 10 ≡ false = ne-eqb (number w) 10 (λ e. c at (ap (λ (y : Why). Instant.Refused y at) (numbers-differ w Why.Clash e))) in
+    let made : remade (instant-told (Instant.Refused w at)) ≡ Instant.Refused (why-of (number w)) at = simp (not-0, not-13, not-10) in
+    made ∙ ap (λ (y : Why). Instant.Refused y at) (why-back w)
 
 -- And neither is.
 no-clash : (v : Verdict) → Apart v → (at : ℕ) → instant-told (Instant.Refused Why.Clash at) ≡ told v → ⊥

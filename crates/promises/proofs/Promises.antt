@@ -13,11 +13,11 @@ use Rattle.block.specs.Format.{Good, good, reading}
 use Rattle.block.specs.declared.whole.Summary.{Summary}
 use Rattle.records.specs.StateRecord.{state-record}
 use Rattle.reaction.specs.Instants.{block-of, told-reaction, instant-verdict, logged-verdict}
-use Rattle.foldheron.specs.declared.Checked.the-variants.{Good as GoodOne}
+use Rattle.block.specs.declared.whole.Checked.the-variants.{Good as GoodOne}
 use Rattle.foldheron.specs.declared.Begun.the-variants.{Fresh}
-use Rattle.foldheron.specs.declared.instants.Instant.{Instant}
-use Rattle.foldheron.specs.declared.instants.Logged.{Logged}
-use Rattle.foldheron.specs.InstantAnswers.{instant-told}
+use Rattle.reaction.specs.declared.Instant.{Instant}
+use Rattle.foldheron.specs.declared.Logged.{Logged}
+use Rattle.reaction.specs.Answers.{instant-told}
 use Rattle.promises.specs.Promised.{ReadAs, Holds, Inputs, PromisedAnswer, Promised, PromisedLogged, PromisedCalls}
 use Rattle.promises.specs.Runs.{verdicts, bytes-left, logged-verdicts, logged-bytes-left, numbers, sets, PromisedRun}
 use Rattle.promises.specs.Calls.{CheckCalled, FreshCalled, Called, Calls, CalledWithLog, LoggedCalls}

@@ -8,14 +8,14 @@ use Prim.Native.Nat.{ℕ}
 use lib.Dec.{eqb}
 use contract.Lifetimes.{Lfts}
 use denote.Ref.{RefT}
-use Rattle.foldheron.specs.declared.Why.{Why}
-use Rattle.foldheron.specs.declared.Checked.{Checked}
+use Rattle.refusals.specs.declared.Why.{Why}
+use Rattle.block.specs.declared.whole.Checked.{Checked}
 use Rattle.foldheron.specs.declared.Begun.{Begun}
 use Rattle.foldheron.specs.declared.Part.{Part}
-use Rattle.foldheron.specs.declared.instants.Instant.{Instant}
-use Rattle.foldheron.specs.declared.instants.Logged.{Logged}
-use Rattle.foldheron.specs.InstantAnswers.{instant-told}
-use Rattle.foldheron.proofs.number_of.Reads as number_of
+use Rattle.reaction.specs.declared.Instant.{Instant}
+use Rattle.foldheron.specs.declared.Logged.{Logged}
+use Rattle.reaction.specs.Answers.{instant-told}
+use Rattle.refusals.proofs.number_of.Reads as number_of
 use Rattle.foldheron.proofs.check.Reads as check
 use Rattle.foldheron.proofs.fresh.Reads as fresh
 use Rattle.foldheron.proofs.part_of.Reads as part_of

@@ -20,9 +20,10 @@ use Rattle.block.specs.Format.{BROKEN, KIND, EDITION, LIMIT, SIGNAL, EXIT, SHAP
 use Rattle.records.specs.Numerals.{field}
 use Rattle.records.specs.StateRecord.{state, active-in, none-active, read-state}
 use Rattle.records.specs.LogRecord.{log-record}
-use Rattle.reaction.specs.Instants.{STATE, CLASH, INPUT, ROOM, NOT-CONSTRUCTIVE, block-of, Told, heard-of}
-use Rattle.foldheron.specs.declared.instants.Logged.{Logged}
-use Rattle.foldheron.specs.InstantAnswers.{instant-told}
+use Rattle.reaction.specs.Fronts.{STATE, INPUT}
+use Rattle.reaction.specs.Instants.{CLASH, ROOM, NOT-CONSTRUCTIVE, block-of, Told, heard-of}
+use Rattle.foldheron.specs.declared.Logged.{Logged}
+use Rattle.reaction.specs.Answers.{instant-told}
 use Rattle.promises.specs.Tests.{Test}
 use Rattle.promises.specs.FirstRecord.{Decides}
 

@@ -22,9 +22,9 @@ use Rattle.block.specs.declared.whole.Summary.{Summary}
 use Rattle.records.specs.Numerals.{Bytes}
 use Rattle.records.specs.StateRecord.{state, state-record, read-state, first-clash}
 use Rattle.reaction.specs.Instants.{NOT-CONSTRUCTIVE, block-of, reacted, Told, told, state-after, log-by, end-by, instant-verdict, heard-of}
-use Rattle.foldheron.specs.declared.instants.Instant.{Instant}
-use Rattle.foldheron.specs.declared.instants.Logged.{Logged}
-use Rattle.foldheron.specs.InstantAnswers.{instant-told}
+use Rattle.reaction.specs.declared.Instant.{Instant}
+use Rattle.foldheron.specs.declared.Logged.{Logged}
+use Rattle.reaction.specs.Answers.{instant-told}
 
 -- A block that `check` answered Good to, with what it said of it: the bytes have one reading, and it is good.
 pub record ReadAs (b : List ℕ) (said : Summary) : Type 0 where
@@ -43,8 +43,8 @@ pub record Inputs (g : Good) : Type 0 where
   pub number : ℕ
   pub declared : (n : ℕ) → T (bits number n) → n < g .header .inputs
 
-abbrev pub set-of : {g : Good} → Inputs g → InputSet (block-of g)
-set-of {g} w = all-inputs (block-of g) (bits (w .number)) (w .declared)
+abbrev pub input-set : {g : Good} → Inputs g → InputSet (block-of g)
+input-set {g} w = all-inputs (block-of g) (bits (w .number)) (w .declared)
 
 -- The rules' answer, from the state and for the input set.
 abbrev pub rules-answer : (g : Good) → State → Inputs g → Answer
@@ -64,14 +64,14 @@ pub record TellsTheOnly (b : Block) (st : State) (given : Numbers) (vs : List St
   pub says-it : (outs : List Bool) (d : ℕ) (st″ : State) → Coherent b st given outs d st″ → Says b t s′ outs d st″
 
 -- Not constructive: number 13, and the state's bytes are as they were.
-pub record Keeps (s : List ℕ) (t : Told) (s′ : List ℕ) : Type 0 where
+pub record Unchanged (s : List ℕ) (t : Told) (s′ : List ℕ) : Type 0 where
   pub is-refused : t .number ≡ NOT-CONSTRUCTIVE
   pub unchanged : s′ ≡ s
 
 -- What is told and written, by the rules' answer; s and s′ are the state's bytes before and after.
 abbrev pub Tells : Block → State → Numbers → List ℕ → Answer → Told → List ℕ → Type 0
 Tells b st given s (answered vs c st′ n) t s′ = TellsTheOnly b st given vs c st′ t s′
-Tells b st given s (not-constructive vs n) t s′ = Keeps s t s′
+Tells b st given s (not-constructive vs n) t s′ = Unchanged s t s′
 
 -- What is promised of an answer and of the state's bytes after it, where the bytes before held st:
 pub record PromisedAnswer (g : Good) (s : List ℕ) (st : State) (w : Inputs g) (t : Told) (s′ : List ℕ) : Type 0 where
@@ -85,7 +85,7 @@ pub record Promised (b : List ℕ) (g : Good) (s : List ℕ) (st : State) (w : I
   -- it is none of the refusals 1 to 12, but the rules' answer from that state,
   pub is-reaction : instant-verdict b s (w .number) ≡ reacted (block-of g) (rules-answer g st w)
   -- of which demand 3 holds: the states before and after are legal, and an answer is the only coherent reaction;
-  pub not-stuck : NotStuck (block-of g) st (set-of w) (rules-answer g st w)
+  pub not-stuck : NotStuck (block-of g) st (input-set w) (rules-answer g st w)
   -- and so it is told and written.
   pub answer : PromisedAnswer g s st w (told (instant-verdict b s (w .number))) (state-after s (instant-verdict b s (w .number)))
 

@@ -8,7 +8,7 @@ use Rattle.theorems.specs.Traces.{InputSet, after, run, arrives}
 use Rattle.theorems.specs.Demand.{NeverStuck}
 use Rattle.block.specs.Format.{Good}
 use Rattle.reaction.specs.Instants.{block-of, Verdict, refused, clash, reacted, told, told-reaction, state-after, log-after, instant-verdict, logged-verdict}
-use Rattle.promises.specs.Promised.{Holds, Inputs, set-of, rules-answer, Promised}
+use Rattle.promises.specs.Promised.{Holds, Inputs, input-set, rules-answer, Promised}
 
 -- A run as a caller makes it: one call after the other, each on the state's bytes that the call before left. Block, state, input sets.
 unfoldable pub verdicts : List ℕ → List ℕ → List ℕ → List Verdict
@@ -50,7 +50,7 @@ abbrev pub numbers : {g : Good} → List (Inputs g) → List ℕ
 numbers ws = map (λ w. w .number) ws
 
 abbrev pub sets : {g : Good} → List (Inputs g) → List (InputSet (block-of g))
-sets ws = map set-of ws
+sets ws = map input-set ws
 
 -- At each instant of the run what is promised of one instant holds, of the bytes that it is called with.
 abbrev pub AtEach : (b : List ℕ) (g : Good) → List ℕ → State → List (Inputs g) → Type 0

@@ -1,72 +1,48 @@
--- One lemma for each way through an instant: what was found on the way decides the verdict, and the reply stands for it. Assumes nothing.
+-- One lemma for each way on from the tests: the answer stands for what the instant comes to. Assumes nothing.
 use mathlib.Core.Path.{_≡_, refl, sym, _∙_, ap, ap₂, subst}
 use mathlib.Core.Bool.{Bool, true, false, true≢false}
 use mathlib.Core.List.{List}
-use mathlib.Core.Option.{Option}
 use Prim.Native.Nat.{ℕ, _+_, _^_, _≤_, _<_}
 use native.Mathlib.Omega.{arith}
-use lib.Dec.{T}
 use lib.ListN.{getD}
 use mir.Val.{Fits}
 use mir.Syntax.{w64}
+use Rattle.refusals.specs.Refusals.{number}
+use Rattle.refusals.specs.declared.Why.{Why}
+use Rattle.refusals.specs.declared.Why.the-variants as Why
 use Rattle.sets.specs.Numbers.{Numbers, count}
 use Rattle.sets.specs.Words.{bits, word, set-of}
 use Rattle.sets.proofs.Members.{eqb-not}
 use Rattle.sets.proofs.Words.{is-word}
 use Rattle.rules.specs.Statements.{Block}
 use Rattle.rules.specs.Events.{Status, present, absent, Hearing, all-heard}
-use Rattle.rules.specs.States.{State, fresh, running, finished, phase-of, active-of, next}
+use Rattle.rules.specs.States.{State, phase-of, active-of, next}
 use Rattle.rules.specs.Rounds.{outputs-with, undecided, Answer, answered, not-constructive, react}
-use Rattle.block.specs.Table.{Table, statements}
-use Rattle.block.specs.Format.{Good, Reading, good, turned-down as fails, reading}
-use Rattle.block.specs.Told.{summary-of, answer-to, Stands, ReadWhole}
-use Rattle.block.specs.declared.whole.Answer.{Answer as Reads}
-use Rattle.block.specs.declared.whole.Answer.the-variants.{Good as GoodBlock, Refused as RefusedBlock}
+use Rattle.block.specs.Table.{Table}
+use Rattle.block.specs.Format.{Good}
 use Rattle.block.specs.declared.whole.Summary.{Summary}
-use Rattle.block.proofs.GoodReadings.{Sound, sound}
-use Rattle.records.specs.Numerals.{Bytes}
-use Rattle.records.specs.StateRecord.{Found, not-a-state, state, read-state, Pair as Pairing, first-clash, undeclared-input}
-use Rattle.records.specs.Held.{held-of, state-bytes}
-use Rattle.records.specs.declared.state.Held.{Held}
-use Rattle.records.proofs.Answers.{held-fresh, held-running, held-finished, held-set, held-in-block}
-use Rattle.records.specs.Clashing.{pair-of, Searchable, Bounded}
-use Rattle.records.specs.declared.clash.Clash.{Clash as Clashing}
-use Rattle.records.specs.declared.clash.Clash.the-variants.{None, Pair}
+use Rattle.records.specs.Held.{state-bytes}
 use Rattle.records.proofs.Writing.{written-state}
 use Rattle.words.specs.Words.{hearing-of}
-use Rattle.forms.specs.Forms.{At}
 use Rattle.words.specs.declared.events.Heard.{Heard}
 use Rattle.evaluate.specs.Reacts as evaluate
 use Rattle.evaluate.specs.declared.rounds.Phase.{Phase}
-use Rattle.evaluate.specs.declared.rounds.Phase.the-variants.{Fresh, Running, Finished}
 use Rattle.evaluate.specs.declared.rounds.Reacted.{Reacted}
-use Rattle.reaction.specs.declared.Reply.the-variants.{Refused, Clash, Answered, NotConstructive}
+use Rattle.reaction.specs.declared.Instant.the-variants.{Refused, Clash, Answered, NotConstructive}
+use Rattle.reaction.specs.declared.Grounds.{Grounds}
+use Rattle.reaction.specs.declared.Met.{Met}
+use Rattle.reaction.specs.declared.Met.the-variants as met
 use Rattle.reaction.specs.declared.Outcome.{Outcome}
-use Rattle.reaction.specs.Instants.{Verdict, refused, reacted, INPUT, ROOM, block-of, heard-of, try-inputs, try-clash, clash-tried, try-state, try-block, verdict, told-reaction, told}
-use Rattle.reaction.specs.Outcomes.{told-of, Writes, case-of, case-for, Comes, Opened, Begins}
+use Rattle.reaction.specs.Fronts.{Front, stopped, clashing, ready, front}
+use Rattle.reaction.specs.Instants.{Verdict, refused, clash, reacted, block-of, heard-of, goes-on, verdict, told-reaction, told-refusal, told}
+use Rattle.reaction.specs.Answers.{instant-told}
+use Rattle.reaction.specs.Outcomes.{Writes, case-of, case-for, Comes, Opened, Begins, Means, Meets}
+use Rattle.reaction.proofs.Fronts.{same-block}
 
 -- turned down
-refused-comes : (n at : ℕ) (o : Outcome) → o .reply ≡ Refused n at → Comes (refused n at) o
-unfolding told-of told Writes case-of case-for
-refused-comes n at o e = record { same-case = ap case-of e; told-is = ap told-of e; writes = tt }
-
-pub turned-down : {v : Verdict} {o : Outcome} (n at : ℕ) → o .reply ≡ Refused n at → v ≡ refused n at → Comes v o
-turned-down {v} {o} n at e d = subst (λ (w : Verdict). Comes w o) (sym d) (refused-comes n at o e)
-
--- the last tests
-module _ (g : Good) (st : State) (given : ℕ) (roomless : Bool) where
-  pub input-fails : undeclared-input (g .header .inputs) given ≡ true → try-inputs g st given roomless ≡ refused INPUT 0
-  unfolding try-inputs
-  input-fails e = rw e
-
-  pub room-fails : undeclared-input (g .header .inputs) given ≡ false → roomless ≡ true → try-inputs g st given roomless ≡ refused ROOM 0
-  unfolding try-inputs
-  room-fails e r = rw (e, r)
-
-  pub all-pass : undeclared-input (g .header .inputs) given ≡ false → roomless ≡ false
-      → try-inputs g st given roomless ≡ reacted (block-of g) (react (block-of g) st (heard-of g given))
-  unfolding try-inputs
-  all-pass e r = rw (e, r)
+refused-comes : (n at : ℕ) {w : Why} {o : Outcome} → o .answer ≡ Refused w at → number w ≡ n → Comes (refused n at) o
+unfolding instant-told told Writes case-of case-for
+refused-comes n at e d = record { same-case = ap case-of e; told-is = ap instant-told e ∙ ap (λ (m : ℕ). told-refusal m at 0 0) d; writes = tt }
 
 -- a set of signals as a word
 signals-word : (A : Numbers) (w : ℕ) → bits w ≡ A → w < 2 ^ 64 → w ≡ word 64 A
@@ -91,12 +67,12 @@ pub record Fitting (r : Reacted) : Type 0 where
 -- answered
 module _ (b : Block) (r : Reacted) (fits : Fitting r) (o : Outcome) where
   pub answered-comes : (outs : List Status) (c : ℕ) (st : State) (n : ℕ) → evaluate.Answered b outs c st n r
-      → o .reply ≡ Answered (record { present = r .present; code = r .code; rounds = r .rounds; active = r .active })
+      → o .answer ≡ Answered (record { present = r .present; code = r .code; rounds = r .rounds; active = r .active })
       → ((A : Numbers) → o .phase ≡ phase-of (next (r .code .0) A)) → o .kept ≡ r .kept → Comes (reacted b (answered outs c st n)) o
-  unfolding told-of told Writes case-of case-for
+  unfolding instant-told told Writes case-of case-for
   answered-comes outs c st n a e ph k = record {
     same-case = ap case-of e;
-    told-is = ap told-of e ∙ fields;
+    told-is = ap instant-told e ∙ fields;
     writes = ap (state-bytes (o .phase)) k ∙ written-state st (o .phase) (r .kept) (fits .low-fits .fits) (fits .high-fits .fits) its-phase its-set;
   }
     where
@@ -109,7 +85,7 @@ module _ (b : Block) (r : Reacted) (fits : Fitting r) (o : Outcome) where
       its-active : r .active ≡ count 128 (active-of st)
       its-active = a .active-is ∙ ap (count 128) (a .kept-is)
 
-      fields : told-of (Answered (record { present = r .present; code = r .code; rounds = r .rounds; active = r .active })) ≡ told-reaction b (answered outs c st n)
+      fields : instant-told (Answered (record { present = r .present; code = r .code; rounds = r .rounds; active = r .active })) ≡ told-reaction b (answered outs c st n)
       fields = λ i. record {
         number = 0;
         place = 0;
@@ -124,12 +100,12 @@ module _ (b : Block) (r : Reacted) (fits : Fitting r) (o : Outcome) where
       }
 
   pub doubted-comes : (outs : List Status) (n : ℕ) → evaluate.Undecided b outs n r
-      → o .reply ≡ NotConstructive (record { present = r .present; absent = r .absent; undecided = r .undecided; rounds = r .rounds })
+      → o .answer ≡ NotConstructive (record { present = r .present; absent = r .absent; undecided = r .undecided; rounds = r .rounds })
       → Comes (reacted b (not-constructive outs n)) o
-  unfolding told-of told Writes case-of case-for
-  doubted-comes outs n a e = record { same-case = ap case-of e; told-is = ap told-of e ∙ fields; writes = tt }
+  unfolding instant-told told Writes case-of case-for
+  doubted-comes outs n a e = record { same-case = ap case-of e; told-is = ap instant-told e ∙ fields; writes = tt }
     where
-      fields : told-of (NotConstructive (record { present = r .present; absent = r .absent; undecided = r .undecided; rounds = r .rounds }))
+      fields : instant-told (NotConstructive (record { present = r .present; absent = r .absent; undecided = r .undecided; rounds = r .rounds }))
           ≡ told-reaction b (not-constructive outs n)
       fields = λ i. record {
         number = 13;
@@ -146,206 +122,126 @@ module _ (b : Block) (r : Reacted) (fits : Fitting r) (o : Outcome) where
 
   -- by whether the code is known
   pub known-way : (a : Answer) → evaluate.IsAnswer b a r → r .known ≡ true
-      → o .reply ≡ Answered (record { present = r .present; code = r .code; rounds = r .rounds; active = r .active })
+      → o .answer ≡ Answered (record { present = r .present; code = r .code; rounds = r .rounds; active = r .active })
       → ((A : Numbers) → o .phase ≡ phase-of (next (r .code .0) A)) → o .kept ≡ r .kept → Comes (reacted b a) o
   unfolding evaluate.IsAnswer
   known-way (answered outs c st n) a t e ph k = answered-comes outs c st n a e ph k
   known-way (not-constructive outs n) a t e ph k = absurd (true≢false (sym t ∙ a .known-is))
 
   pub unknown-way : (a : Answer) → evaluate.IsAnswer b a r → r .known ≡ false
-      → o .reply ≡ NotConstructive (record { present = r .present; absent = r .absent; undecided = r .undecided; rounds = r .rounds })
+      → o .answer ≡ NotConstructive (record { present = r .present; absent = r .absent; undecided = r .undecided; rounds = r .rounds })
       → Comes (reacted b a) o
   unfolding evaluate.IsAnswer
   unknown-way (answered outs c st n) a f e = absurd (true≢false (sym (a .known-is) ∙ f))
   unknown-way (not-constructive outs n) a f e = doubted-comes outs n a e
 
--- what a block that was read gives: it is placed in the table, and its numbers are within bounds
-module _ {tab : Table} {s : Summary} {g : Good} (o : Opened tab s g) where
-  facts : Sound (o .bytes) g
-  facts = sound (o .bytes) g (o .its-reading)
+-- all tests passed: ROOM, then the rules
+module _ {tab : Table} {s : Summary} {g : Good} (o : Opened tab s g) (st : State) (given : ℕ) {roomless : Bool} {out : Outcome} where
+  pub room-way : roomless ≡ true → out .answer ≡ Refused Why.Room 0 → Comes (goes-on given roomless (ready g st)) out
+  unfolding goes-on number
+  room-way t e = subst (λ (x : Bool). Comes (goes-on given x (ready g st)) out) (sym t) (refused-comes 12 0 e refl)
 
-  pub placed : At tab 0 (g .body)
-  placed = record {
-    has = o .stands;
-    small = facts .small;
-    room = let e : g .statements ≡ statements (g .body) = facts .counted in let h : g .statements ≤ 512 = facts .few-statements in omega arith;
-  }
+  pub react-way : (r : Reacted) (heard : Heard) {phase : Phase} {set : List ℕ} → Begins st phase set
+      → evaluate.Reacts (record { inputs = s .inputs; outputs = s .outputs; body = g .body }) phase (set-of set) (hearing-of heard) r
+      → ((b : Block) → b .inputs ≡ s .inputs → hearing-of heard ≡ all-heard b (bits given))
+      → ((b : Block) (a : Answer) → evaluate.IsAnswer b a r → Comes (reacted b a) out)
+      → roomless ≡ false → Comes (goes-on given roomless (ready g st)) out
+  unfolding evaluate.Reacts goes-on
+  react-way r heard {phase} {set} begins e all f m =
+      subst (λ (x : Bool). Comes (goes-on given x (ready g st)) out) (sym m)
+      (f (block-of g) (react (block-of g) st (heard-of g given)) its-answer)
+    where
+      summed-block : Block
+      summed-block = record { inputs = s .inputs; outputs = s .outputs; body = g .body }
 
-  pub few-signals : s .inputs + s .outputs ≤ 64
-  few-signals =
-      let e : s .inputs ≡ g .header .inputs = ap (λ (x : Summary). x .inputs) (o .summed) in
-      let f : s .outputs ≡ g .header .outputs = ap (λ (x : Summary). x .outputs) (o .summed) in
-      let h : g .header .inputs + g .header .outputs + g .header .locals ≤ 64 = facts .signals in
-      omega arith
+      its-state : evaluate.state-of phase (set-of set) ≡ st
+      its-state = sym (begins .state-is)
 
-  -- the block that the evaluator is given is the reading's
-  same-block : _≡_ {A = Block} (record { inputs = s .inputs; outputs = s .outputs; body = g .body }) (block-of g)
-  same-block = λ i. record { inputs = o .summed i .inputs; outputs = o .summed i .outputs; body = g .body }
+      its-answer : evaluate.IsAnswer (block-of g) (react (block-of g) st (heard-of g given)) r
+      its-answer =
+          subst (λ (h : Hearing). evaluate.IsAnswer (block-of g) (react (block-of g) st h) r) (all (block-of g) (sym (ap (λ (x : Summary). x .inputs) (o .summed))))
+          (subst (λ (b : Block). evaluate.IsAnswer b (react b st (hearing-of heard)) r) (same-block o)
+          (subst (λ (q : State). evaluate.IsAnswer summed-block (react summed-block q (hearing-of heard)) r) its-state e))
 
-  module _ (st : State) (given : ℕ) (roomless : Bool) where
-    its-test : undeclared-input (s .inputs) given ≡ undeclared-input (g .header .inputs) given
-    its-test = ap (λ (x : Summary). undeclared-input (x .inputs) given) (o .summed)
+-- what the code found before the rules says what the tests came to
+module _ (tab : Table) (r : Grounds) where
+  stopped-goes : (given : ℕ) (roomless : Bool) (x : Front) {out : Outcome} → Means x tab r → (why : Why) (at : ℕ) → r .met ≡ met.Refused why at → out .answer ≡ Refused why at
+      → Comes (goes-on given roomless x) out
+  unfolding Means goes-on
+  stopped-goes given roomless (stopped n i) m why at e a =
+      let z : _≡_ {A = Met} (met.Refused (m .why) i) (met.Refused why at) = sym (m .is-refused) ∙ e in
+      let p : m .why ≡ why = cc in
+      let q : i ≡ at = cc in
+      refused-comes n i (a ∙ sym (ap₂ Refused p q)) (m .its-number)
+  stopped-goes given roomless (clashing pair) m why at e a =
+      let z : _≡_ {A = Met} (met.Clash (pair .first) (pair .second)) (met.Refused why at) = sym m ∙ e in
+      let q : _≡_ {A = ℕ} 0 1 = cc in
+      absurd (omega arith)
+  stopped-goes given roomless (ready g st) m why at e a =
+      let z : _≡_ {A = Met} (met.Ready (m .summary) (m .phase)) (met.Refused why at) = sym (m .is-ready) ∙ e in
+      let q : _≡_ {A = ℕ} 0 1 = cc in
+      absurd (omega arith)
 
-    pub input-way : {x : Bool} {r : Outcome} → r .reply ≡ Refused 11 0 → x ≡ undeclared-input (s .inputs) given → x ≡ true → Comes (try-inputs g st given roomless) r
-    input-way e d t = turned-down 11 0 e (input-fails g st given roomless (sym its-test ∙ sym d ∙ t))
+  clash-goes : (given : ℕ) (roomless : Bool) (x : Front) {out : Outcome} → Means x tab r → (k n : ℕ) → r .met ≡ met.Clash k n → out .answer ≡ Clash k n
+      → Comes (goes-on given roomless x) out
+  unfolding Means goes-on instant-told told Writes case-of case-for
+  clash-goes given roomless (stopped i at) m k n e a =
+      let z : _≡_ {A = Met} (met.Refused (m .why) at) (met.Clash k n) = sym (m .is-refused) ∙ e in
+      let q : _≡_ {A = ℕ} 0 1 = cc in
+      absurd (omega arith)
+  clash-goes given roomless (clashing pair) m k n e a =
+      let z : _≡_ {A = Met} (met.Clash (pair .first) (pair .second)) (met.Clash k n) = sym m ∙ e in
+      let p : pair .first ≡ k = cc in
+      let q : pair .second ≡ n = cc in
+      let b = a ∙ sym (ap₂ Clash p q) in
+      record { same-case = ap case-of b; told-is = ap instant-told b; writes = tt }
+  clash-goes given roomless (ready g st) m k n e a =
+      let z : _≡_ {A = Met} (met.Ready (m .summary) (m .phase)) (met.Clash k n) = sym (m .is-ready) ∙ e in
+      let q : _≡_ {A = ℕ} 0 1 = cc in
+      absurd (omega arith)
 
-    pub room-way : {x : Bool} {r : Outcome} → r .reply ≡ Refused 12 0 → x ≡ undeclared-input (s .inputs) given → x ≡ false → roomless ≡ true
-        → Comes (try-inputs g st given roomless) r
-    room-way e d f t = turned-down 12 0 e (room-fails g st given roomless (sym its-test ∙ sym d ∙ f) t)
+  -- all tests passed: the block, the state, and that they stand in the table and in the words
+  pub record Going (x : Front) (s : Summary) (phase : Phase) : Type 0 where
+    pub its-good : Good
+    pub its-state : State
+    pub is-ready : x ≡ ready its-good its-state
+    pub opened : Opened tab s its-good
+    pub begins : Begins its-state phase (r .active)
 
-    pub react-way : (r : Reacted) (heard : Heard) {x : Bool} {phase : Phase} {set : List ℕ} {out : Outcome} → Begins st phase set
-        → evaluate.Reacts (record { inputs = s .inputs; outputs = s .outputs; body = g .body }) phase (set-of set) (hearing-of heard) r
-        → ((b : Block) → b .inputs ≡ s .inputs → hearing-of heard ≡ all-heard b (bits given))
-        → ((b : Block) (a : Answer) → evaluate.IsAnswer b a r → Comes (reacted b a) out)
-        → x ≡ undeclared-input (s .inputs) given → x ≡ false → roomless ≡ false → Comes (try-inputs g st given roomless) out
-    unfolding evaluate.Reacts
-    react-way r heard {x} {phase} {set} {out} begins e all f d u m =
-        subst (λ (v : Verdict). Comes v out) (sym (all-pass g st given roomless (sym its-test ∙ sym d ∙ u) m))
-        (f (block-of g) (react (block-of g) st (heard-of g given)) its-answer)
-      where
-        summed-block : Block
-        summed-block = record { inputs = s .inputs; outputs = s .outputs; body = g .body }
+  pub going : (x : Front) → Means x tab r → (s : Summary) (phase : Phase) → r .met ≡ met.Ready s phase → Going x s phase
+  unfolding Means
+  going (stopped n at) m s phase e =
+      let z : _≡_ {A = Met} (met.Refused (m .why) at) (met.Ready s phase) = sym (m .is-refused) ∙ e in
+      let q : _≡_ {A = ℕ} 0 1 = cc in
+      absurd (omega arith)
+  going (clashing pair) m s phase e =
+      let z : _≡_ {A = Met} (met.Clash (pair .first) (pair .second)) (met.Ready s phase) = sym m ∙ e in
+      let q : _≡_ {A = ℕ} 0 1 = cc in
+      absurd (omega arith)
+  going (ready g st) m s phase e =
+      let z : _≡_ {A = Met} (met.Ready (m .summary) (m .phase)) (met.Ready s phase) = sym (m .is-ready) ∙ e in
+      let p : m .summary ≡ s = cc in
+      let q : m .phase ≡ phase = cc in
+      record {
+        its-good = g;
+        its-state = st;
+        is-ready = refl;
+        opened = subst (λ (y : Summary). Opened tab y g) p (m .opened);
+        begins = subst (λ (y : Phase). Begins st y (r .active)) q (m .begins);
+      }
 
-        its-state : evaluate.state-of phase (set-of set) ≡ st
-        its-state = sym (begins .state-is)
+pub gone-in : {tab : Table} {r : Grounds} {x : Front} → Meets x tab r → {s : Summary} {phase : Phase} → r .met ≡ met.Ready s phase → Going tab r x s phase
+gone-in {tab} {r} {x} m {s} {phase} e = going tab r x (m .means) s phase e
 
-        its-answer : evaluate.IsAnswer (block-of g) (react (block-of g) st (heard-of g given)) r
-        its-answer =
-            subst (λ (h : Hearing). evaluate.IsAnswer (block-of g) (react (block-of g) st h) r) (all (block-of g) (sym (ap (λ (x : Summary). x .inputs) (o .summed))))
-            (subst (λ (b : Block). evaluate.IsAnswer b (react b st (hearing-of heard)) r) same-block
-            (subst (λ (q : State). evaluate.IsAnswer summed-block (react summed-block q (hearing-of heard)) r) its-state e))
+module _ {tab : Table} {r : Grounds} (b s : List ℕ) (given : ℕ) (roomless : Bool) {out : Outcome} (m : Meets (front b s given) tab r) where
+  pub stopped-way : (why : Why) (at : ℕ) → r .met ≡ met.Refused why at → out .answer ≡ Refused why at → Comes (verdict b s given roomless) out
+  unfolding verdict
+  stopped-way why at e a = stopped-goes tab r given roomless (front b s given) (m .means) why at e a
 
-  -- the search for a clash may begin
-  pub searchable : (set : List ℕ) → ((k : ℕ) → T (set-of set k) → k < g .pauses) → Searchable (tab .kinds) (tab .sizes) (s .statements) set (g .body)
-  searchable set h = record {
-    operands = tab .operands;
-    has = o .stands;
-    numbered = facts .pauses-numbered;
-    counted = sym (facts .counted) ∙ sym (ap (λ (x : Summary). x .statements) (o .summed));
-    few = let e : s .statements ≡ g .statements = ap (λ (x : Summary). x .statements) (o .summed) in let h : g .statements ≤ 512 = facts .few-statements in omega arith;
-    in-block = λ n t. subst (λ (k : ℕ). n < k) (facts .paused) (h n t);
-  }
+  pub clash-way : (k n : ℕ) → r .met ≡ met.Clash k n → out .answer ≡ Clash k n → Comes (verdict b s given roomless) out
+  unfolding verdict
+  clash-way k n e a = clash-goes tab r given roomless (front b s given) (m .means) k n e a
 
-  pub bounded : (set : List ℕ) → ((k : ℕ) → T (set-of set k) → k < g .pauses) → Bounded (s .pauses) set
-  bounded set h =
-      let e : g .pauses ≡ s .pauses = sym (ap (λ (x : Summary). x .pauses) (o .summed)) in
-      record { bound = λ n t. subst (λ (k : ℕ). n < k) e (h n t); width = subst (λ (k : ℕ). k ≤ 128) e (facts .few-pauses) }
-
-  module _ (st : State) (given : ℕ) (roomless : Bool) {phase : Phase} {set : List ℕ} (begins : Begins st phase set) where
-    its-clash : first-clash (g .body) (set-of set) ≡ first-clash (g .body) (active-of st)
-    its-clash = ap (first-clash (g .body)) (begins .set-is)
-
-    pub pair-way : {x : Clashing} {m n : ℕ} {out : Outcome} → x ≡ Pair m n → pair-of x ≡ first-clash (g .body) (set-of set) → out .reply ≡ Clash m n
-        → Comes (clash-tried g st given roomless) out
-    unfolding pair-of try-clash told-of told Writes case-of case-for
-    pair-way {x} {m} {n} {out} d e r =
-        subst (λ (x : Option Pairing). Comes (try-clash g st given roomless x) out) (ap pair-of (sym d) ∙ e ∙ its-clash)
-        (record { same-case = ap case-of r; told-is = ap told-of r; writes = tt })
-
-    pub clear-way : {x : Clashing} {out : Outcome} → x ≡ None → pair-of x ≡ first-clash (g .body) (set-of set)
-        → Comes (try-inputs g st given roomless) out → Comes (clash-tried g st given roomless) out
-    unfolding pair-of try-clash
-    clear-way {x} {out} d e h = subst (λ (x : Option Pairing). Comes (try-clash g st given roomless x) out) (ap pair-of (sym d) ∙ e ∙ its-clash) h
-
-  -- a state was looked for in the lent bytes
-  module _ (bs : List ℕ) (bytes : Bytes bs) (h : Held) (held : h ≡ held-of (read-state (s .pauses) bs)) where
-    found : h ≡ held-of (read-state (g .pauses) bs)
-    found = held ∙ ap (λ (x : Summary). held-of (read-state (x .pauses) bs)) (o .summed)
-
-    -- and found, in this phase
-    pub record Took (phase : Phase) : Type 0 where
-      pub st : State
-      pub its-state : read-state (g .pauses) bs ≡ state st
-      pub begins : Begins st phase (h .active)
-      pub in-block : (k : ℕ) → T (set-of (h .active) k) → k < g .pauses
-
-    took : (phase : Phase) (st : State) → read-state (g .pauses) bs ≡ state st
-        → (set-of (h .active) ≡ active-of st → st ≡ evaluate.state-of phase (set-of (h .active))) → Took phase
-    took phase st e p = record {
-      st = st;
-      its-state = e;
-      begins = record { state-is = p its-set; set-is = its-set };
-      in-block = λ k t. held-in-block (g .pauses) bs bytes st e k (subst (λ (x : Held). T (set-of (x .active) k)) its-held t);
-    }
-      where
-        its-held : h ≡ held-of (state st)
-        its-held = found ∙ ap held-of e
-
-        its-set : set-of (h .active) ≡ active-of st
-        its-set = ap (λ (x : Held). set-of (x .active)) its-held ∙ held-set (g .pauses) bs bytes st e
-
-    its-phase : (n : ℕ) → h .phase ≡ n → held-of (read-state (g .pauses) bs) .phase ≡ n
-    its-phase n e = ap (λ (x : Held). x .phase) (sym found) ∙ e
-
-    pub took-fresh : h .phase ≡ 0 → Took Fresh
-    took-fresh e = took Fresh fresh (held-fresh _ (its-phase 0 e)) (λ d. refl)
-
-    pub took-running : h .phase ≡ 1 → Took Running
-    unfolding active-of
-    took-running e =
-        let r = held-running _ (its-phase 1 e) in
-        took Running (running (r .0)) (r .1) (λ d. ap running (sym d))
-
-    pub took-finished : h .phase ≡ 2 → Took Finished
-    took-finished e = took Finished finished (held-finished _ (its-phase 2 e)) (λ d. refl)
-
-    pub state-way : (given : ℕ) (roomless : Bool) {phase : Phase} {out : Outcome} (t : Took phase) → Comes (clash-tried g (t .st) given roomless) out
-        → Comes (try-state g given roomless (read-state (g .pauses) bs)) out
-    unfolding try-state
-    state-way given roomless {phase} {out} t c = subst (λ (f : Found). Comes (try-state g given roomless f) out) (sym (t .its-state)) c
-
-    no-phase : (f : Found) → (held-of f .phase ≡ 0 → ⊥) → (held-of f .phase ≡ 1 → ⊥) → (held-of f .phase ≡ 2 → ⊥) → f ≡ not-a-state
-    unfolding held-of phase-of
-    no-phase not-a-state a b c = refl
-    no-phase (state fresh) a b c = absurd (a refl)
-    no-phase (state (running A)) a b c = absurd (b refl)
-    no-phase (state finished) a b c = absurd (c refl)
-
-    pub no-state-way : (given : ℕ) (roomless : Bool) {out : Outcome} → out .reply ≡ Refused 9 0
-        → (h .phase ≡ 0 → ⊥) → (h .phase ≡ 1 → ⊥) → (h .phase ≡ 2 → ⊥) → Comes (try-state g given roomless (read-state (g .pauses) bs)) out
-    unfolding try-state
-    no-state-way given roomless e a b c =
-        turned-down 9 0 e (ap (try-state g given roomless) (no-phase _ (λ d. a (other d)) (λ d. b (other d)) (λ d. c (other d))))
-      where
-        other : {n : ℕ} → held-of (read-state (g .pauses) bs) .phase ≡ n → h .phase ≡ n
-        other d = ap (λ (x : Held). x .phase) found ∙ d
-
--- a block was looked for
-pub block-fails : (b s : List ℕ) (given : ℕ) (roomless : Bool) (tab : Table) (x : Reads) {out : Outcome} → ReadWhole (reading b) tab x → (n at : ℕ) → x ≡ RefusedBlock n at
-    → out .reply ≡ Refused n at → Comes (verdict b s given roomless) out
-unfolding verdict try-block answer-to
-block-fails b s given roomless tab x {out} w n at e r = go (reading b) refl
-  where
-    go : (y : Reading) → reading b ≡ y → Comes (try-block s given roomless (reading b)) out
-    go (good g) d = let z : _≡_ {A = Reads} (GoodBlock _) (RefusedBlock n at) = sym (w .answered ∙ ap answer-to d) ∙ e in let q : _≡_ {A = ℕ} 0 1 = cc in absurd (omega arith)
-    go (fails m i) d =
-        let z : _≡_ {A = Reads} (RefusedBlock m i) (RefusedBlock n at) = sym (w .answered ∙ ap answer-to d) ∙ e in
-        let p : m ≡ n = cc in
-        let q : i ≡ at = cc in
-        turned-down n at r (ap (try-block s given roomless) d ∙ ap₂ refused p q)
-
--- or read
-pub record Read (b : List ℕ) (tab : Table) (s : Summary) : Type 0 where
-  pub its-good : Good
-  pub is-read : reading b ≡ good its-good
-  pub opened : Opened tab s its-good
-
-pub block-reads : (b : List ℕ) (tab : Table) (x : Reads) → ReadWhole (reading b) tab x → (s : Summary) → x ≡ GoodBlock s → Read b tab s
-unfolding answer-to Stands
-block-reads b tab x w s e = go (reading b) refl
-  where
-    go : (y : Reading) → reading b ≡ y → Read b tab s
-    go (good g) d =
-        let z : _≡_ {A = Reads} (GoodBlock (summary-of g)) (GoodBlock s) = sym (w .answered ∙ ap answer-to d) ∙ e in
-        let p : summary-of g ≡ s = cc in
-        record {
-          its-good = g;
-          is-read = d;
-          opened = record { bytes = b; its-reading = d; stands = subst (λ (y : Reading). Stands y tab) d (w .stands); summed = sym p };
-        }
-    go (fails m i) d = let z : _≡_ {A = Reads} (RefusedBlock m i) (GoodBlock s) = sym (w .answered ∙ ap answer-to d) ∙ e in let q : _≡_ {A = ℕ} 0 1 = cc in absurd (omega arith)
-
-pub block-way : (b bs : List ℕ) (given : ℕ) (roomless : Bool) {g : Good} {out : Outcome} → reading b ≡ good g
-    → Comes (try-state g given roomless (read-state (g .pauses) bs)) out → Comes (verdict b bs given roomless) out
-unfolding verdict try-block
-block-way b bs given roomless {g} {out} e c = subst (λ (y : Reading). Comes (try-block bs given roomless y) out) (sym e) c
+  pub ready-way : {g : Good} {st : State} → front b s given ≡ ready g st → Comes (goes-on given roomless (ready g st)) out → Comes (verdict b s given roomless) out
+  unfolding verdict
+  ready-way e c = subst (λ (x : Front). Comes (goes-on given roomless x) out) (sym e) c

@@ -1,7 +1,6 @@
 -- One instant on the caller's bytes, with and without a log: the whole answer and every lent byte. Assumes nothing.
 use mathlib.Core.Bool.{Bool, false, cond}
 use mathlib.Core.List.{List}
-use mathlib.Core.Option.{Option, none, some}
 use Prim.Native.Nat.{ℕ, _+_}
 use Rattle.sets.specs.Numbers.{count}
 use Rattle.sets.specs.Words.{bits, word}
@@ -9,19 +8,14 @@ use Rattle.rules.specs.Statements.{Block}
 use Rattle.rules.specs.Events.{present, absent, Hearing, all-heard}
 use Rattle.rules.specs.States.{State, active-of}
 use Rattle.rules.specs.Rounds.{outputs-with, undecided, Answer, answered, not-constructive, react}
-use Rattle.block.specs.Format.{Good, Reading, good, turned-down, reading}
-use Rattle.records.specs.StateRecord.{Found, not-a-state, state, read-state, state-record, Pair, first-clash, undeclared-input}
+use Rattle.block.specs.Format.{Good}
+use Rattle.records.specs.StateRecord.{state-record, Pair}
 use Rattle.records.specs.LogRecord.{no-room, logged-at}
+use Rattle.reaction.specs.Fronts.{Front, stopped, clashing, ready, front}
 
--- The numbers given back besides those of a block.
-abbrev pub STATE : ℕ
-STATE = 9
-
+-- The numbers given back besides those of the tests before the rules.
 abbrev pub CLASH : ℕ
 CLASH = 10
-
-abbrev pub INPUT : ℕ
-INPUT = 11
 
 abbrev pub ROOM : ℕ
 ROOM = 12
@@ -43,31 +37,15 @@ pub data Verdict : Type 0 where
   clash : Pair → Verdict
   reacted : Block → Answer → Verdict
 
--- The tests in their order: the block's 1 to 8, then 9, 10, 11, and 12 where a log without room is lent; then the reaction.
-unfoldable pub try-inputs : Good → State → ℕ → Bool → Verdict
-try-inputs g st given roomless =
-    cond (undeclared-input (g .header .inputs) given) (refused INPUT 0)
-    (cond roomless (refused ROOM 0)
-    (reacted (block-of g) (react (block-of g) st (heard-of g given))))
+-- After the tests: 12 where a log without room is lent; then the reaction.
+unfoldable pub goes-on : ℕ → Bool → Front → Verdict
+goes-on given roomless (stopped n at) = refused n at
+goes-on given roomless (clashing pair) = clash pair
+goes-on given roomless (ready g st) = cond roomless (refused ROOM 0) (reacted (block-of g) (react (block-of g) st (heard-of g given)))
 
-unfoldable pub try-clash : Good → State → ℕ → Bool → Option Pair → Verdict
-try-clash g st given roomless (some pair) = clash pair
-try-clash g st given roomless none = try-inputs g st given roomless
-
--- CLASH, for a state that was found.
-abbrev pub clash-tried : Good → State → ℕ → Bool → Verdict
-clash-tried g st given roomless = try-clash g st given roomless (first-clash (g .body) (active-of st))
-
-unfoldable pub try-state : Good → ℕ → Bool → Found → Verdict
-try-state g given roomless not-a-state = refused STATE 0
-try-state g given roomless (state st) = clash-tried g st given roomless
-
-unfoldable pub try-block : List ℕ → ℕ → Bool → Reading → Verdict
-try-block s given roomless (turned-down n at) = refused n at
-try-block s given roomless (good g) = try-state g given roomless (read-state (g .pauses) s)
-
+-- All in their order: the block's 1 to 8, then 9, 10, 11, and 12; then the reaction.
 unfoldable pub verdict : List ℕ → List ℕ → ℕ → Bool → Verdict
-verdict b s given roomless = try-block s given roomless (reading b)
+verdict b s given roomless = goes-on given roomless (front b s given)
 
 -- Every field of an answer; all fields not named are 0.
 pub record Told : Type 0 where

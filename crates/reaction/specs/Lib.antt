@@ -1,2 +1,4 @@
+pub mod Fronts
 pub mod Instants
+pub mod Answers
 pub mod Outcomes

@@ -1,51 +1,28 @@
--- How the code's reply and the words beside it stand for what an instant comes to. Assumes nothing.
+-- How the code's answer and the words beside it stand for what an instant comes to, and what it finds before the rules for what the tests come to. Assumes nothing.
 use mathlib.Core.Path.{_≡_}
 use mathlib.Core.List.{List}
 use Prim.Native.Nat.{ℕ}
+use Rattle.refusals.specs.Refusals.{number}
+use Rattle.refusals.specs.declared.Why.{Why}
 use Rattle.sets.specs.Words.{set-of}
 use Rattle.rules.specs.States.{State, active-of}
 use Rattle.rules.specs.Rounds.{answered, not-constructive}
 use Rattle.block.specs.Table.{Table, Has}
 use Rattle.block.specs.Format.{Good, good, reading}
-use Rattle.block.specs.Told.{summary-of}
+use Rattle.block.specs.Told.{summary-of, Full}
 use Rattle.block.specs.declared.whole.Summary.{Summary}
 use Rattle.records.specs.StateRecord.{state-record}
 use Rattle.records.specs.Held.{state-bytes}
 use Rattle.evaluate.specs.Reacts.{state-of}
 use Rattle.evaluate.specs.declared.rounds.Phase.{Phase}
-use Rattle.reaction.specs.declared.Reply.{Reply}
-use Rattle.reaction.specs.declared.Reply.the-variants.{Refused, Clash, Answered, NotConstructive}
+use Rattle.reaction.specs.declared.Instant.{Instant}
+use Rattle.reaction.specs.declared.Instant.the-variants.{Refused, Clash, Answered, NotConstructive}
+use Rattle.reaction.specs.declared.Grounds.{Grounds}
+use Rattle.reaction.specs.declared.Met.the-variants.{Refused as Stopped, Clash as Clashing, Ready}
 use Rattle.reaction.specs.declared.Outcome.{Outcome}
-use Rattle.reaction.specs.Instants.{Verdict, refused, clash, reacted, CLASH, NOT-CONSTRUCTIVE, Told, told-refusal, told}
-
--- Every field of a reply.
-unfoldable pub told-of : Reply → Told
-told-of (Refused n at) = told-refusal n at 0 0
-told-of (Clash m n) = told-refusal CLASH 0 m n
-told-of (Answered r) = record {
-  number = 0;
-  place = 0;
-  first = 0;
-  second = 0;
-  present-outputs = r .present;
-  absent-outputs = 0;
-  undecided-outputs = 0;
-  rounds = r .rounds;
-  code = r .code .0;
-  active = r .active;
-}
-told-of (NotConstructive d) = record {
-  number = NOT-CONSTRUCTIVE;
-  place = 0;
-  first = 0;
-  second = 0;
-  present-outputs = d .present;
-  absent-outputs = d .absent;
-  undecided-outputs = d .undecided;
-  rounds = d .rounds;
-  code = 0;
-  active = 0;
-}
+use Rattle.reaction.specs.Answers.{instant-told}
+use Rattle.reaction.specs.Fronts.{Front, stopped, clashing, ready}
+use Rattle.reaction.specs.Instants.{Verdict, refused, clash, reacted, told}
 
 -- Where the instant is answered, the phase and the two words make the next state's record.
 unfoldable pub Writes : Verdict → Outcome → Type 0
@@ -55,8 +32,8 @@ Writes (reacted b (answered outs c st r)) o = state-bytes (o .phase) (o .kept) �
 Writes (reacted b (not-constructive outs r)) o = Unit {0}
 
 -- Which of the four cases it is.
-unfoldable pub case-of : Reply → ℕ
-case-of (Refused n at) = 0
+unfoldable pub case-of : Instant → ℕ
+case-of (Refused w at) = 0
 case-of (Clash m n) = 1
 case-of (Answered r) = 2
 case-of (NotConstructive d) = 3
@@ -68,8 +45,8 @@ case-for (reacted b (answered outs c st r)) = 2
 case-for (reacted b (not-constructive outs r)) = 3
 
 pub record Comes (v : Verdict) (o : Outcome) : Type 0 where
-  pub same-case : case-of (o .reply) ≡ case-for v
-  pub told-is : told-of (o .reply) ≡ told v
+  pub same-case : case-of (o .answer) ≡ case-for v
+  pub told-is : instant-told (o .answer) ≡ told v
   pub writes : Writes v o
 
 -- A block was read: its tree stands in the table, and the summary is the reading's.
@@ -83,3 +60,31 @@ pub record Opened (tab : Table) (s : Summary) (g : Good) : Type 0 where
 pub record Begins (st : State) (phase : Phase) (set : List ℕ) : Type 0 where
   pub state-is : st ≡ state-of phase (set-of set)
   pub set-is : set-of set ≡ active-of st
+
+-- All tests are passed: the code says so, the block stands in the table, and the phase and the active pauses are the state's.
+pub record Passed (g : Good) (st : State) (tab : Table) (r : Grounds) : Type 0 where
+  pub summary : Summary
+  pub phase : Phase
+  pub is-ready : r .met ≡ Ready summary phase
+  pub opened : Opened tab summary g
+  pub begins : Begins st phase (r .active)
+
+-- One of them turns the instant down, with its number and its place.
+pub record Turned (n at : ℕ) (r : Grounds) : Type 0 where
+  pub why : Why
+  pub is-refused : r .met ≡ Stopped why at
+  pub its-number : number why ≡ n
+
+-- What the code finds is what the tests come to.
+unfoldable pub Means : Front → Table → Grounds → Type 0
+Means (stopped n at) tab r = Turned n at r
+Means (clashing pair) tab r = r .met ≡ Clashing (pair .first) (pair .second)
+Means (ready g st) tab r = Passed g st tab r
+
+pub record Meets (f : Front) (tab : Table) (r : Grounds) : Type 0 where
+  pub means : Means f tab r
+
+-- And the table keeps its length.
+pub record Tested (f : Front) (tab : Table) (r : Grounds) : Type 0 where
+  pub meets : Meets f tab r
+  pub full : Full tab

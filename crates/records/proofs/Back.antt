@@ -1,88 +1,89 @@
 -- Both ways: what is written is read back, and a state that is found without a clash is a legal one. Assumes nothing.
 use mathlib.Core.Path.{_≡_, refl, sym, ap, ap₂, _∙_, subst⁻¹}
+use mathlib.Core.List.{List}
 use mathlib.Core.Bool.{Bool, true, false, cond, _&&_, and-comm}
 use Prim.Native.Nat.{ℕ, _^_, _≤_, _<_}
 use native.Mathlib.Omega.{arith}
 use lib.Dec.{T, eqb, eqb→eq}
-use lib.ListN.{length}
+use lib.ListN.{length, getD}
 use Rattle.sets.specs.Numbers.{Numbers, empty, listed}
 use Rattle.sets.specs.Words.{word, two-words}
 use Rattle.sets.proofs.Members.{is-false, of-false, and-left, and-right}
 use Rattle.sets.proofs.Words.{word-lt, word-empty}
 use Rattle.rules.specs.Statements.{Stmt, nothing, pause, emit, present?_then_else_, suspend_on_, _⨾_, loop, _parallel_, trap, exit, local, pauses}
 use Rattle.rules.specs.States.{State, fresh, running, finished, holds-both, lowest-above, is-parallel, compatible, phase-of, active-of}
-use Rattle.records.specs.Numerals.{in-bytes, number, field}
-use Rattle.records.specs.StateRecord.{state, upper, state-record, beyond, in-phase, read-state}
-use Rattle.records.specs.LogRecord.{Logged, log-record}
-use Rattle.records.proofs.Bytes.{number-in-bytes}
+use Rattle.records.specs.Fields.{value}
+use Rattle.records.specs.StateRecord.{state, upper, state-widths, state-size, state-values, state-record, length-in, kind-in, phase-in, low-in, high-in, beyond, in-phase, read-state}
+use Rattle.records.specs.LogRecord.{Logged, log-widths, log-size, log-values, log-record}
+use Rattle.records.proofs.Widths.{length-laid, value-laid}
 use Rattle.records.proofs.TwoWords.{set-of-words, set-of-none, beyond-out}
 use Rattle.records.proofs.Reading.{choose, in-phase-of, read-whole}
 
 -- The log record, field by field.
 module _ (l : Logged) where
-  pub log-length : length (log-record l) ≡ 24
-  unfolding log-record in-bytes
-  log-length = refl
+  pub log-length : length (log-record l) ≡ log-size
+  unfolding log-record
+  log-length = length-laid log-widths (log-values l)
 
-  pub log-sized : field (log-record l) 0 2 ≡ 24
-  unfolding log-record in-bytes field number
-  log-sized = refl
+  log-back : (i : ℕ) → i < 6 → getD (log-values l) i 0 < 256 ^ getD log-widths i 0 → value log-widths i (log-record l) ≡ getD (log-values l) i 0
+  unfolding log-record
+  log-back = value-laid log-widths (log-values l)
 
-  pub log-kind : field (log-record l) 2 2 ≡ 3
-  unfolding log-record in-bytes field number
-  log-kind = refl
+  pub log-sized : value log-widths 0 (log-record l) ≡ log-size
+  log-sized = log-back 0 (omega arith) (omega arith)
 
-  pub log-inputs : l .inputs < 2 ^ 64 → field (log-record l) 4 8 ≡ l .inputs
-  unfolding log-record in-bytes field
-  log-inputs h = number-in-bytes 8 h
+  pub log-kind : value log-widths 1 (log-record l) ≡ 3
+  log-kind = log-back 1 (omega arith) (omega arith)
 
-  pub log-present : l .present < 2 ^ 64 → field (log-record l) 12 8 ≡ l .present
-  unfolding log-record in-bytes field
-  log-present h = number-in-bytes 8 h
+  pub log-inputs : l .inputs < 2 ^ 64 → value log-widths 2 (log-record l) ≡ l .inputs
+  log-inputs = log-back 2 (omega arith)
 
-  pub log-code : l .code < 2 ^ 16 → field (log-record l) 20 2 ≡ l .code
-  unfolding log-record in-bytes field
-  log-code h = number-in-bytes 2 h
+  pub log-present : l .present < 2 ^ 64 → value log-widths 3 (log-record l) ≡ l .present
+  log-present = log-back 3 (omega arith)
 
-  pub log-rounds : l .rounds < 2 ^ 16 → field (log-record l) 22 2 ≡ l .rounds
-  unfolding log-record in-bytes field
-  log-rounds h = number-in-bytes 2 h
+  pub log-code : l .code < 2 ^ 16 → value log-widths 4 (log-record l) ≡ l .code
+  log-code = log-back 4 (omega arith)
+
+  pub log-rounds : l .rounds < 2 ^ 16 → value log-widths 5 (log-record l) ≡ l .rounds
+  log-rounds = log-back 5 (omega arith)
 
 -- The state record, field by field.
 module _ (st : State) where
-  pub state-length : length (state-record st) ≡ 22
-  unfolding state-record in-bytes
-  state-length = refl
+  abbrev its-values : List ℕ
+  its-values = state-values (phase-of st) (word 64 (active-of st)) (word 64 (upper (active-of st)))
 
-  state-sized : field (state-record st) 0 2 ≡ 22
-  unfolding state-record in-bytes field number
-  state-sized = refl
+  pub state-length : length (state-record st) ≡ state-size
+  unfolding state-record
+  state-length = length-laid state-widths its-values
 
-  state-kind : field (state-record st) 2 2 ≡ 2
-  unfolding state-record in-bytes field number
-  state-kind = refl
+  state-back : (i : ℕ) → i < 5 → getD its-values i 0 < 256 ^ getD state-widths i 0 → value state-widths i (state-record st) ≡ getD its-values i 0
+  unfolding state-record
+  state-back = value-laid state-widths its-values
 
-  state-low : field (state-record st) 6 8 ≡ word 64 (active-of st)
-  unfolding state-record in-bytes field
-  state-low = number-in-bytes 8 (word-lt 64 (active-of st))
+  state-sized : length-in (state-record st) ≡ state-size
+  state-sized = state-back 0 (omega arith) (omega arith)
 
-  state-high : field (state-record st) 14 8 ≡ word 64 (upper (active-of st))
-  unfolding state-record in-bytes field
-  state-high = number-in-bytes 8 (word-lt 64 (upper (active-of st)))
+  state-kind : kind-in (state-record st) ≡ 2
+  state-kind = state-back 1 (omega arith) (omega arith)
 
-  state-phase : phase-of st < 256 ^ 2 → field (state-record st) 4 2 ≡ phase-of st
-  unfolding state-record in-bytes field
-  state-phase h = number-in-bytes 2 h
+  state-phase : phase-of st < 256 ^ 2 → phase-in (state-record st) ≡ phase-of st
+  state-phase = state-back 2 (omega arith)
 
-  pub read-record : (n : ℕ) → read-state n (state-record st) ≡ in-phase (field (state-record st) 4 2) n (state-record st)
+  state-low : low-in (state-record st) ≡ word 64 (active-of st)
+  state-low = state-back 3 (omega arith) (word-lt 64 (active-of st))
+
+  state-high : high-in (state-record st) ≡ word 64 (upper (active-of st))
+  state-high = state-back 4 (omega arith) (word-lt 64 (upper (active-of st)))
+
+  pub read-record : (n : ℕ) → read-state n (state-record st) ≡ in-phase (phase-in (state-record st)) n (state-record st)
   read-record n = sym (read-whole n (state-record st) state-length state-sized state-kind)
 
 -- What is written is read back.
 bare : (st : State) (p : ℕ) → phase-of st ≡ p → p < 256 ^ 2 → active-of st ≡ empty → (n : ℕ)
     → read-state n (state-record st) ≡ choose p true (beyond n (two-words 64 0 0)) (two-words 64 0 0)
 bare st p e h a n =
-    let low : field (state-record st) 6 8 ≡ 0 = state-low st ∙ ap (word 64) a ∙ word-empty 64 in
-    let high : field (state-record st) 14 8 ≡ 0 = state-high st ∙ ap (λ (A : Numbers). word 64 (upper A)) a ∙ word-empty 64 in
+    let low : low-in (state-record st) ≡ 0 = state-low st ∙ ap (word 64) a ∙ word-empty 64 in
+    let high : high-in (state-record st) ≡ 0 = state-high st ∙ ap (λ (A : Numbers). word 64 (upper A)) a ∙ word-empty 64 in
     read-record st n ∙ ap (λ (k : ℕ). in-phase k n (state-record st)) (state-phase st (subst⁻¹ (λ (k : ℕ). k < 256 ^ 2) e h) ∙ e)
     ∙ in-phase-of p n (state-record st) low high
 

@@ -19,15 +19,16 @@ use Rattle.sets.proofs.Maxima.{some-to-in, some-to-out}
 use Rattle.sets.proofs.Counts.{lowest-is, Lowest}
 use Rattle.rules.specs.Statements.{Stmt, pauses}
 use Rattle.rules.specs.States.{State, fresh, running, finished, compatible, Legal, active-of}
-use Rattle.records.specs.Numerals.{Bytes, number, field}
-use Rattle.records.specs.StateRecord.{Found, not-a-state, state, state-record, beyond, active-in, in-phase, read-state, clashes, first-clash, with-second, paired}
+use Rattle.records.specs.Numerals.{Bytes, number-in, field}
+use Rattle.records.specs.Fields.{place}
+use Rattle.records.specs.StateRecord.{state-widths, state-size, length-in, kind-in, phase-in, low-in, high-in, Found, not-a-state, state, state-record, beyond, active-in, in-phase, read-state, clashes, first-clash, with-second, paired}
 use Rattle.records.proofs.TwoWords.{beyond-in, some-bit, in-low, in-high, below-128, below-width}
 use Rattle.records.proofs.Pairs.{Clear-first, none-found, clash-first, clash-second, clash-lower, clash-apart}
 use Rattle.records.proofs.Back.{fresh-back, finished-back, running-back, compatible-sym}
 
 -- A field of so many bytes is below that power of 256.
-number-lt : (n : ℕ) (xs : List ℕ) → ((i : ℕ) → getD xs i 0 < 256) → number (take n xs) < 256 ^ n
-unfolding number
+number-lt : (n : ℕ) (xs : List ℕ) → ((i : ℕ) → getD xs i 0 < 256) → number-in (take n xs) < 256 ^ n
+unfolding number-in
 number-lt zero xs f = omega arith
 number-lt (suc n) [] f = omega (arith, pow-suc 256 n, number-lt n [] f)
 number-lt (suc n) (x ∷ xs) f =
@@ -45,7 +46,7 @@ either false x y z e = inr e
 
 pub record Ran (n : ℕ) (bs : List ℕ) (A : Numbers) : Type 0 where
   pub its-set : active-in bs ≡ A
-  pub not-clear : (field bs 6 8 ≡ 0) × (field bs 14 8 ≡ 0) → ⊥
+  pub not-clear : (low-in bs ≡ 0) × (high-in bs ≡ 0) → ⊥
   pub not-far : T (beyond n (active-in bs)) → ⊥
 
 in-phase-ran : (p n : ℕ) (bs : List ℕ) (A : Numbers) → in-phase p n bs ≡ state (running A) → Ran n bs A
@@ -53,7 +54,7 @@ unfolding in-phase
 in-phase-ran p n bs A e = first (either (eqb p 0 && clear) (state fresh) (choice-1) (state (running A)) e)
   where
     clear : Bool
-    clear = eqb (field bs 6 8) 0 && eqb (field bs 14 8) 0
+    clear = eqb (low-in bs) 0 && eqb (high-in bs) 0
 
     far : Bool
     far = beyond n (active-in bs)
@@ -73,7 +74,7 @@ in-phase-ran p n bs A e = first (either (eqb p 0 && clear) (state fresh) (choice
       its-set = cc;
       not-clear =
           λ z. T-not clear (and-right (eqb p 1) (not clear) (and-left (eqb p 1 && not clear) (not far) (w .0)))
-          (and-in (eqb (field bs 6 8) 0) (eqb (field bs 14 8) 0) (eqb-in (z .0)) (eqb-in (z .1)));
+          (and-in (eqb (low-in bs) 0) (eqb (high-in bs) 0) (eqb-in (z .0)) (eqb-in (z .1)));
       not-far = T-not far (and-right (eqb p 1 && not clear) (not far) (w .0));
     }
     second (inr q) = third (either (eqb p 2 && clear) (state finished) not-a-state (state (running A)) q)
@@ -85,11 +86,11 @@ in-phase-ran p n bs A e = first (either (eqb p 0 && clear) (state fresh) (choice
 pub found-ran : (n : ℕ) (bs : List ℕ) (A : Numbers) → read-state n bs ≡ state (running A) → Ran n bs A
 unfolding read-state
 found-ran n bs A e =
-    go (either (eqb (length bs) 22 && eqb (field bs 0 2) 22 && eqb (field bs 2 2) 2) (in-phase (field bs 4 2) n bs) not-a-state (state (running A)) e)
+    go (either (eqb (length bs) state-size && eqb (length-in bs) state-size && eqb (kind-in bs) 2) (in-phase (phase-in bs) n bs) not-a-state (state (running A)) e)
   where
-    go : (T (eqb (length bs) 22 && eqb (field bs 0 2) 22 && eqb (field bs 2 2) 2) × (in-phase (field bs 4 2) n bs ≡ state (running A)))
+    go : (T (eqb (length bs) state-size && eqb (length-in bs) state-size && eqb (kind-in bs) 2) × (in-phase (phase-in bs) n bs ≡ state (running A)))
         ⊎ (not-a-state ≡ state (running A)) → Ran n bs A
-    go (inl w) = in-phase-ran (field bs 4 2) n bs A (w .1)
+    go (inl w) = in-phase-ran (phase-in bs) n bs A (w .1)
     go (inr q) = let z : _≡_ {A = ℕ} 0 1 = cc in absurd (omega arith)
 
 -- Its pauses are the block's, and there is at least one.
@@ -99,7 +100,7 @@ module _ (n : ℕ) (bs : List ℕ) (b : Bytes bs) (A : Numbers) (e : read-state 
 
   pub found-below : (k : ℕ) → T (A k) → k < 128
   found-below k t =
-      below-128 (field bs 6 8) (field bs 14 8) (field-lt bs b 6 8) (field-lt bs b 14 8)
+      below-128 (low-in bs) (high-in bs) (field-lt bs b (place state-widths 3) 8) (field-lt bs b (place state-widths 4) 8)
       (subst⁻¹ (λ (B : Numbers). T (B k)) (ran .its-set) t)
 
   pub found-in-block : (k : ℕ) → T (A k) → k < n
@@ -111,26 +112,26 @@ module _ (n : ℕ) (bs : List ℕ) (b : Bytes bs) (A : Numbers) (e : read-state 
           absurd (ran .not-far (beyond-in n (active-in bs) {m = k} (found-below k t) (ltb-false k n q) (subst⁻¹ (λ (B : Numbers). T (B k)) (ran .its-set) t)))
 
   pub found-member : (k : ℕ) × T (A k)
-  found-member = go (cases (eqb (field bs 6 8) 0))
+  found-member = go (cases (eqb (low-in bs) 0))
     where
-      high : T (eqb (field bs 6 8) 0) → (k : ℕ) × T (A k)
+      high : T (eqb (low-in bs) 0) → (k : ℕ) × T (A k)
       high z =
-          let r = some-bit (field bs 14 8) (field-lt bs b 14 8) (λ y. ran .not-clear (eqb→eq (field bs 6 8) 0 z, y)) in
+          let r = some-bit (high-in bs) (field-lt bs b (place state-widths 4) 8) (λ y. ran .not-clear (eqb→eq (low-in bs) 0 z, y)) in
           let s : 64 + r .0 - 64 ≡ r .0 = omega arith in (
             64 + r .0,
             subst (λ (B : Numbers). T (B (64 + r .0))) (ran .its-set)
-                (subst⁻¹ T (in-high (field bs 6 8) (field bs 14 8) {n = 64 + r .0} (omega arith) ∙ ap (bits (field bs 14 8)) s) (r .1)),
+                (subst⁻¹ T (in-high (low-in bs) (high-in bs) {n = 64 + r .0} (omega arith) ∙ ap (bits (high-in bs)) s) (r .1)),
           )
 
-      low : eqb (field bs 6 8) 0 ≡ false → (k : ℕ) × T (A k)
+      low : eqb (low-in bs) 0 ≡ false → (k : ℕ) × T (A k)
       low z =
-          let r = some-bit (field bs 6 8) (field-lt bs b 6 8) (λ y. of-false z (eqb-in y)) in (
+          let r = some-bit (low-in bs) (field-lt bs b (place state-widths 3) 8) (λ y. of-false z (eqb-in y)) in (
             r .0,
             subst (λ (B : Numbers). T (B (r .0))) (ran .its-set)
-                (subst⁻¹ T (in-low (field bs 6 8) (field bs 14 8) (below-width (field bs 6 8) (field-lt bs b 6 8) (r .1))) (r .1)),
+                (subst⁻¹ T (in-low (low-in bs) (high-in bs) (below-width (low-in bs) (field-lt bs b (place state-widths 3) 8) (r .1))) (r .1)),
           )
 
-      go : T (eqb (field bs 6 8) 0) ⊎ (eqb (field bs 6 8) 0 ≡ false) → (k : ℕ) × T (A k)
+      go : T (eqb (low-in bs) 0) ⊎ (eqb (low-in bs) 0 ≡ false) → (k : ℕ) × T (A k)
       go (inl z) = high z
       go (inr z) = low z
 

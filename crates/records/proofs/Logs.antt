@@ -9,42 +9,44 @@ use lib.ListN.{length, take, drop, length-append, length-drop}
 use lib.Seq.{take-at, drop-at, drop-drop, length-take-le}
 use borrow.Author.Tests.{le-ltb}
 use Rattle.sets.proofs.Members.{of-false, or-left, or-right}
-use Rattle.records.specs.LogRecord.{Logged, log-record, no-room, logged-at}
+use Rattle.records.specs.LogRecord.{Logged, log-size, log-record, no-room, logged-at}
 use Rattle.records.proofs.Back.{log-length}
 
 -- Where there is room the record fits behind the end, and only there.
-pub has-room : (log : List ℕ) (end : ℕ) → no-room log end ≡ false → end + 24 ≤ length log
+pub has-room : (log : List ℕ) (end : ℕ) → no-room log end ≡ false → end + log-size ≤ length log
 unfolding no-room
 has-room log end e =
-    let a : end ≤ length log = nltb→le (length log) end (not-T (ltb (length log) end) (λ t. of-false e (or-left (ltb (length log) end) (ltb (length log - end) 24) t))) in
-    let b : 24 ≤ length log - end = nltb→le (length log - end) 24 (not-T (ltb (length log - end) 24) (λ t. of-false e (or-right (ltb (length log) end) (ltb (length log - end) 24) t))) in
+    let before : Bool = ltb (length log) end in
+    let short : Bool = ltb (length log - end) log-size in
+    let a : end ≤ length log = nltb→le (length log) end (not-T before (λ t. of-false e (or-left before short t))) in
+    let b : log-size ≤ length log - end = nltb→le (length log - end) log-size (not-T short (λ t. of-false e (or-right before short t))) in
     omega arith
 
-pub room-has : (log : List ℕ) (end : ℕ) → end + 24 ≤ length log → no-room log end ≡ false
+pub room-has : (log : List ℕ) (end : ℕ) → end + log-size ≤ length log → no-room log end ≡ false
 unfolding no-room
-room-has log end h = ap₂ (λ (x y : Bool). x || y) (le-ltb (length log) end (omega arith)) (le-ltb (length log - end) 24 (omega arith))
+room-has log end h = ap₂ (λ (x y : Bool). x || y) (le-ltb (length log) end (omega arith)) (le-ltb (length log - end) log-size (omega arith))
 
-module _ (log : List ℕ) (end : ℕ) (l : Logged) (h : end + 24 ≤ length log) where
+module _ (log : List ℕ) (end : ℕ) (l : Logged) (h : end + log-size ≤ length log) where
   front : length (take end log) ≡ end
   front = length-take-le end log (omega arith)
 
-  rest : drop end (logged-at log end l) ≡ log-record l ++ drop (end + 24) log
+  rest : drop end (logged-at log end l) ≡ log-record l ++ drop (end + log-size) log
   unfolding logged-at
-  rest = drop-at (take end log) (log-record l ++ drop (end + 24) log) end front
+  rest = drop-at (take end log) (log-record l ++ drop (end + log-size) log) end front
 
   pub logged-before : take end (logged-at log end l) ≡ take end log
   unfolding logged-at
-  logged-before = take-at (take end log) (log-record l ++ drop (end + 24) log) end front
+  logged-before = take-at (take end log) (log-record l ++ drop (end + log-size) log) end front
 
-  pub logged-record : take 24 (drop end (logged-at log end l)) ≡ log-record l
-  logged-record = ap (take 24) rest ∙ take-at (log-record l) (drop (end + 24) log) 24 (log-length l)
+  pub logged-record : take log-size (drop end (logged-at log end l)) ≡ log-record l
+  logged-record = ap (take log-size) rest ∙ take-at (log-record l) (drop (end + log-size) log) log-size (log-length l)
 
-  pub logged-after : drop (end + 24) (logged-at log end l) ≡ drop (end + 24) log
+  pub logged-after : drop (end + log-size) (logged-at log end l) ≡ drop (end + log-size) log
   logged-after =
-      sym (drop-drop 24 end (logged-at log end l)) ∙ ap (drop 24) rest ∙ drop-at (log-record l) (drop (end + 24) log) 24 (log-length l)
+      sym (drop-drop log-size end (logged-at log end l)) ∙ ap (drop log-size) rest ∙ drop-at (log-record l) (drop (end + log-size) log) log-size (log-length l)
 
   pub logged-length : length (logged-at log end l) ≡ length log
   unfolding logged-at
   logged-length =
-      length-append (take end log) (log-record l ++ drop (end + 24) log)
-      ∙ ap₂ _+_ front (length-append (log-record l) (drop (end + 24) log) ∙ ap₂ _+_ (log-length l) (length-drop (end + 24) log)) ∙ omega arith
+      length-append (take end log) (log-record l ++ drop (end + log-size) log)
+      ∙ ap₂ _+_ front (length-append (log-record l) (drop (end + log-size) log) ∙ ap₂ _+_ (log-length l) (length-drop (end + log-size) log)) ∙ omega arith

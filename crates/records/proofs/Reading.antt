@@ -10,8 +10,7 @@ use Rattle.sets.specs.Numbers.{Numbers}
 use Rattle.sets.specs.Words.{two-words}
 use Rattle.sets.proofs.Words.{word-empty}
 use Rattle.rules.specs.States.{fresh, running, finished}
-use Rattle.records.specs.Numerals.{field}
-use Rattle.records.specs.StateRecord.{Found, not-a-state, state, beyond, in-phase, read-state}
+use Rattle.records.specs.StateRecord.{state-size, length-in, kind-in, phase-in, low-in, high-in, Found, not-a-state, state, beyond, in-phase, read-state}
 use Rattle.records.specs.Held.{words-in, held-of}
 use Rattle.records.proofs.TwoWords.{words-low, words-high}
 
@@ -21,7 +20,7 @@ choose phase clear far A =
     cond (eqb phase 0 && clear) (state fresh)
     (cond (eqb phase 1 && not clear && not far) (state (running A)) (cond (eqb phase 2 && clear) (state finished) not-a-state))
 
-pub in-phase-of : (phase pauses : ℕ) (bs : List ℕ) {low high : ℕ} → field bs 6 8 ≡ low → field bs 14 8 ≡ high
+pub in-phase-of : (phase pauses : ℕ) (bs : List ℕ) {low high : ℕ} → low-in bs ≡ low → high-in bs ≡ high
     → in-phase phase pauses bs ≡ choose phase (eqb low 0 && eqb high 0) (beyond pauses (two-words 64 low high)) (two-words 64 low high)
 unfolding in-phase
 in-phase-of phase pauses bs e f =
@@ -66,10 +65,10 @@ module _ (phase pauses : ℕ) (ws bs : List ℕ) (q : ws ≡ words-in bs) where
   abbrev high : ℕ
   high = getD ws 1 0
 
-  e : field bs 6 8 ≡ low
+  e : low-in bs ≡ low
   e = sym (ap (λ (l : List ℕ). getD l 0 0) q)
 
-  f : field bs 14 8 ≡ high
+  f : high-in bs ≡ high
   f = sym (ap (λ (l : List ℕ). getD l 1 0) q)
 
   both : ws ≡ low ∷ high ∷ []
@@ -130,23 +129,23 @@ not-kind true false c f e = refl
 not-kind false b c f e = refl
 
 module _ (pauses : ℕ) (bs : List ℕ) where
-  pub read-sized : (length bs ≡ 22 → ⊥) → not-a-state ≡ read-state pauses bs
+  pub read-sized : (length bs ≡ state-size → ⊥) → not-a-state ≡ read-state pauses bs
   unfolding read-state
   read-sized h =
-      sym (not-sized (eqb (length bs) 22) (eqb (field bs 0 2) 22) (eqb (field bs 2 2) 2) (in-phase (field bs 4 2) pauses bs) (ne-eqb (length bs) 22 h))
+      sym (not-sized (eqb (length bs) state-size) (eqb (length-in bs) state-size) (eqb (kind-in bs) 2) (in-phase (phase-in bs) pauses bs) (ne-eqb (length bs) state-size h))
 
-  pub read-headed : {x : ℕ} → x ≡ field bs 0 2 → (x ≡ 22 → ⊥) → not-a-state ≡ read-state pauses bs
+  pub read-headed : {x : ℕ} → x ≡ length-in bs → (x ≡ state-size → ⊥) → not-a-state ≡ read-state pauses bs
   unfolding read-state
   read-headed e h =
-      sym (not-headed (eqb (length bs) 22) (eqb (field bs 0 2) 22) (eqb (field bs 2 2) 2) (in-phase (field bs 4 2) pauses bs) (ne-eqb (field bs 0 2) 22 (λ z. h (e ∙ z))))
+      sym (not-headed (eqb (length bs) state-size) (eqb (length-in bs) state-size) (eqb (kind-in bs) 2) (in-phase (phase-in bs) pauses bs) (ne-eqb (length-in bs) state-size (λ z. h (e ∙ z))))
 
-  pub read-kind : {x : ℕ} → x ≡ field bs 2 2 → (x ≡ 2 → ⊥) → not-a-state ≡ read-state pauses bs
+  pub read-kind : {x : ℕ} → x ≡ kind-in bs → (x ≡ 2 → ⊥) → not-a-state ≡ read-state pauses bs
   unfolding read-state
   read-kind e h =
-      sym (not-kind (eqb (length bs) 22) (eqb (field bs 0 2) 22) (eqb (field bs 2 2) 2) (in-phase (field bs 4 2) pauses bs) (ne-eqb (field bs 2 2) 2 (λ z. h (e ∙ z))))
+      sym (not-kind (eqb (length bs) state-size) (eqb (length-in bs) state-size) (eqb (kind-in bs) 2) (in-phase (phase-in bs) pauses bs) (ne-eqb (kind-in bs) 2 (λ z. h (e ∙ z))))
 
-  pub read-whole : length bs ≡ 22 → field bs 0 2 ≡ 22 → field bs 2 2 ≡ 2 → in-phase (field bs 4 2) pauses bs ≡ read-state pauses bs
+  pub read-whole : length bs ≡ state-size → length-in bs ≡ state-size → kind-in bs ≡ 2 → in-phase (phase-in bs) pauses bs ≡ read-state pauses bs
   unfolding read-state
   read-whole l h k =
-      sym (ap (λ (n : ℕ). headed (eqb n 22) (eqb (field bs 0 2) 22) (eqb (field bs 2 2) 2) (in-phase (field bs 4 2) pauses bs)) l
-      ∙ ap₂ (λ (x y : ℕ). headed true (eqb x 22) (eqb y 2) (in-phase (field bs 4 2) pauses bs)) h k)
+      sym (ap (λ (n : ℕ). headed (eqb n state-size) (eqb (length-in bs) state-size) (eqb (kind-in bs) 2) (in-phase (phase-in bs) pauses bs)) l
+      ∙ ap₂ (λ (x y : ℕ). headed true (eqb x state-size) (eqb y 2) (in-phase (phase-in bs) pauses bs)) h k)

@@ -75,7 +75,7 @@ pub data Shape (tab : Table) (i : ℕ) (p : Stmt) : Type 0 where
   two : (q r : Stmt) → Two tab i p q r → Shape tab i p
 
 pub shape : (tab : Table) (i : ℕ) (p : Stmt) → Has tab i p → Shape tab i p
-unfolding Has statements pauses kind-of lowest-above two-parts compatible
+unfolding Has statements pauses kind-of lowest-above two-parts compatible listed
 shape tab i nothing h = leaf (omega arith) refl refl
 shape tab i (pause n) h = leaf (omega arith) refl refl
 shape tab i (emit s) h = leaf (omega arith) refl refl

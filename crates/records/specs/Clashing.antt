@@ -1,7 +1,7 @@
 -- What the search for the first clash asks of its table, and what its steps say. Assumes nothing.
 use mathlib.Core.Path.{_≡_}
 use mathlib.Core.Logic.{_⊎_}
-use mathlib.Core.Bool.{Bool, cond, _||_}
+use mathlib.Core.Bool.{Bool, cond}
 use mathlib.Core.List.{List}
 use mathlib.Core.Option.{Option, none, some}
 use Prim.Native.Nat.{ℕ, zero, suc, _+_, _≤_, _<_}
@@ -11,6 +11,7 @@ use Rattle.sets.specs.Words.{set-of}
 use Rattle.rules.specs.Statements.{Stmt, pauses, Numbered}
 use Rattle.rules.specs.States.{compatible}
 use Rattle.block.specs.Table.{Has, statements}
+use Rattle.block.specs.Format.{children-of}
 use Rattle.records.specs.StateRecord.{Pair}
 use Rattle.records.specs.declared.clash.Clash.{Clash}
 use Rattle.records.specs.declared.clash.Clash.the-variants as clash
@@ -52,9 +53,10 @@ pub record Pairable (kinds sizes firsts active : List ℕ) (m n : ℕ) : Type 0 
   pub lower : m < n
   pub in-width : n < 128
 
--- The kinds of statements with two parts: present, sequence, parallel.
+-- A statement of this kind has two parts: two children in the block's format.
 unfoldable pub two-parts : ℕ → Bool
-two-parts kind = eqb kind 19 || (eqb kind 21 || eqb kind 23)
+unfolding children-of
+two-parts kind = eqb (children-of kind) 2
 
 -- The statement p is at i and holds both pauses, the first the lower one.
 pub record Place (kinds sizes firsts : List ℕ) (m n i : ℕ) (p : Stmt) : Type 0 where

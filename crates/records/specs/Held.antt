@@ -1,12 +1,12 @@
 -- How the words that the code passes stand for the states and sets of the rules. Assumes nothing.
-use mathlib.Core.List.{List, [], _∷_, _++_}
+use mathlib.Core.List.{List, [], _∷_}
 use Prim.Native.Nat.{ℕ}
 use lib.ListN.{getD}
 use Rattle.sets.specs.Numbers.{Numbers}
 use Rattle.sets.specs.Words.{word}
 use Rattle.rules.specs.States.{phase-of, active-of}
-use Rattle.records.specs.Numerals.{in-bytes, field}
-use Rattle.records.specs.StateRecord.{Found, not-a-state, state, upper}
+use Rattle.records.specs.Fields.{laid}
+use Rattle.records.specs.StateRecord.{Found, not-a-state, state, upper, state-widths, state-values, low-in, high-in}
 use Rattle.records.specs.declared.state.Held.{Held}
 
 -- The two words of a set.
@@ -15,7 +15,7 @@ words-of A = word 64 A ∷ word 64 (upper A) ∷ []
 
 -- The two words in a state record.
 abbrev pub words-in : List ℕ → List ℕ
-words-in bs = field bs 6 8 ∷ field bs 14 8 ∷ []
+words-in bs = low-in bs ∷ high-in bs ∷ []
 
 -- What is found in a state record, as the code holds it: the phase's number and the two words, and phase 3 for no state.
 unfoldable pub held-of : Found → Held
@@ -25,6 +25,5 @@ held-of (state st) = record { phase = phase-of st; active = words-of (active-of 
 
 -- The bytes of a state record, from the phase's number and the two words.
 unfoldable pub state-bytes : ℕ → List ℕ → List ℕ
-unfolding in-bytes
-state-bytes phase ws =
-    in-bytes 2 22 ++ (in-bytes 2 2 ++ (in-bytes 2 phase ++ (in-bytes 8 (getD ws 0 0) ++ in-bytes 8 (getD ws 1 0))))
+unfolding laid
+state-bytes phase ws = laid state-widths (state-values phase (getD ws 0 0) (getD ws 1 0))

@@ -1,4 +1,5 @@
 pub mod Numerals
+pub mod Fields
 pub mod StateRecord
 pub mod Held
 pub mod LogRecord

@@ -1,6 +1,6 @@
--- The state record: its 22 bytes, the refusals 9 and 10, and the input set's 11. Assumes nothing.
+-- The state record: its fields, the refusals 9 and 10, and the input set's 11. Assumes nothing.
 use mathlib.Core.Bool.{Bool, not, cond, _&&_}
-use mathlib.Core.List.{List, _++_}
+use mathlib.Core.List.{List, [], _∷_}
 use mathlib.Core.Option.{Option, none, some}
 use Prim.Native.Nat.{ℕ, _+_, _/_, _^_}
 use lib.Dec.{eqb, ltb, leb}
@@ -9,17 +9,42 @@ use Rattle.sets.specs.Numbers.{Numbers, some-to, lowest}
 use Rattle.sets.specs.Words.{word, two-words}
 use Rattle.rules.specs.Statements.{Stmt}
 use Rattle.rules.specs.States.{State, fresh, running, finished, phase-of, active-of, compatible}
-use Rattle.records.specs.Numerals.{in-bytes, field}
+use Rattle.records.specs.Fields.{size, laid, value}
 
 -- The members from 64 on, as the second word holds them.
 abbrev pub upper : Numbers → Numbers
 upper A n = A (64 + n)
 
--- Length 22, kind 2, the phase, then two 64-bit words: bit n of the 128 for pause n.
+-- The fields and how many bytes each has: length, kind, phase, then two 64-bit words.
+abbrev pub state-widths : List ℕ
+state-widths = 2 ∷ 2 ∷ 2 ∷ 8 ∷ 8 ∷ []
+
+abbrev pub state-size : ℕ
+state-size = size state-widths
+
+-- Their values: the kind is 2, and bit n of the 128 is for pause n.
+abbrev pub state-values : ℕ → ℕ → ℕ → List ℕ
+state-values phase low high = state-size ∷ 2 ∷ phase ∷ low ∷ high ∷ []
+
 unfoldable pub state-record : State → List ℕ
-unfolding in-bytes word phase-of active-of
-state-record st =
-    in-bytes 2 22 ++ (in-bytes 2 2 ++ (in-bytes 2 (phase-of st) ++ (in-bytes 8 (word 64 (active-of st)) ++ in-bytes 8 (word 64 (upper (active-of st))))))
+unfolding laid word phase-of active-of
+state-record st = laid state-widths (state-values (phase-of st) (word 64 (active-of st)) (word 64 (upper (active-of st))))
+
+-- The values in some bytes.
+abbrev pub length-in : List ℕ → ℕ
+length-in bs = value state-widths 0 bs
+
+abbrev pub kind-in : List ℕ → ℕ
+kind-in bs = value state-widths 1 bs
+
+abbrev pub phase-in : List ℕ → ℕ
+phase-in bs = value state-widths 2 bs
+
+abbrev pub low-in : List ℕ → ℕ
+low-in bs = value state-widths 3 bs
+
+abbrev pub high-in : List ℕ → ℕ
+high-in bs = value state-widths 4 bs
 
 -- A record that holds a state, or none: STATE.
 pub data Found : Type 0 where
@@ -28,10 +53,10 @@ pub data Found : Type 0 where
 
 -- The active set in a record.
 abbrev pub active-in : List ℕ → Numbers
-active-in bs = two-words 64 (field bs 6 8) (field bs 14 8)
+active-in bs = two-words 64 (low-in bs) (high-in bs)
 
 abbrev pub none-active : List ℕ → Bool
-none-active bs = eqb (field bs 6 8) 0 && eqb (field bs 14 8) 0
+none-active bs = eqb (low-in bs) 0 && eqb (high-in bs) 0
 
 -- A bit at or above the pause count.
 unfoldable pub beyond : ℕ → Numbers → Bool
@@ -45,10 +70,10 @@ in-phase phase pauses bs =
     (cond (eqb phase 2 && none-active bs) (state finished)
     not-a-state))
 
--- The state that a record holds for a block of so many pauses: 22 bytes, length 22, kind 2, a phase with bits that fit it.
+-- The state that a record holds for a block of so many pauses: bytes of its size, that length, kind 2, a phase with bits that fit it.
 unfoldable pub read-state : ℕ → List ℕ → Found
 read-state pauses bs =
-    cond (eqb (length bs) 22 && eqb (field bs 0 2) 22 && eqb (field bs 2 2) 2) (in-phase (field bs 4 2) pauses bs) not-a-state
+    cond (eqb (length bs) state-size && eqb (length-in bs) state-size && eqb (kind-in bs) 2) (in-phase (phase-in bs) pauses bs) not-a-state
 
 -- Two active pauses are not compatible; the first is the lower.
 unfoldable pub clashes : Stmt → Numbers → ℕ → ℕ → Bool

@@ -1,15 +1,22 @@
-// The state record: 22 bytes read and written.
+// The state record, read and written.
 use crate::bits::bit_beyond;
-use crate::numerals::number_at;
-use crate::numerals::put_number;
+use crate::fields::field_at;
+use crate::fields::put_fields;
 ghost use mathlib.Core.Path.{_≡_};
 ghost use mathlib.Core.Bool.{_&&_};
 ghost use mathlib.Core.List.{List};
 ghost use Prim.Native.Nat.{ℕ};
 ghost use lib.Dec.{eqb};
 ghost use lib.ListN.{length, getD};
-ghost use Rattle.records.specs.StateRecord.{not-a-state, in-phase, read-state};
+ghost use Rattle.records.specs.StateRecord.{state-size, not-a-state, in-phase, read-state};
 ghost use Rattle.records.specs.Held.{words-in, held-of, state-bytes};
+
+// The record's fields: length, kind, phase, the two words.
+const WIDTHS: [usize; 5] = [2, 2, 2, 8, 8];
+
+const SIZE: usize = 22;
+
+const KIND: u64 = 2;
 
 // A state by its phase's number, 0 fresh, 1 running, 2 finished, and its active pauses; phase 3 is no state.
 pub struct Held {
@@ -70,28 +77,25 @@ fn by_phase(phase: u64, pauses: u16, active: [u64; 2]) -> Held
 pub fn read_state(state: &[u8], pauses: u16) -> Held
     ensures { λ r. ⌜ r ≡ held-of (read-state pauses (now (state .entry))) ⌝ }
 {
-    if state.len() != 22 {
+    if state.len() != SIZE {
         return no_state();
     }
-    if number_at(state, 0, 2) != 22 {
+    if field_at(state, &WIDTHS, 0) != SIZE as u64 {
         return no_state();
     }
-    if number_at(state, 2, 2) != 2 {
+    if field_at(state, &WIDTHS, 1) != KIND {
         return no_state();
     }
-    let phase = number_at(state, 4, 2);
-    let active = [number_at(state, 6, 8), number_at(state, 14, 8)];
+    let phase = field_at(state, &WIDTHS, 2);
+    let active = [field_at(state, &WIDTHS, 3), field_at(state, &WIDTHS, 4)];
     by_phase(phase, pauses, active)
 }
 
-// A state's record over the 22 lent bytes.
+// A state's record over the lent bytes.
 pub fn write_state(state: &mut [u8], phase: u16, active: [u64; 2])
-    requires { ⌜ length (now state) ≡ 22 ⌝ }
+    requires { ⌜ length (now state) ≡ state-size ⌝ }
     ensures { λ _. ⌜ now (state .exit) ≡ state-bytes phase active ⌝ }
 {
-    put_number(state, 0, 2, 22);
-    put_number(state, 2, 2, 2);
-    put_number(state, 4, 2, phase as u64);
-    put_number(state, 6, 8, active[0]);
-    put_number(state, 14, 8, active[1]);
+    let values = [SIZE as u64, KIND, phase as u64, active[0], active[1]];
+    put_fields(state, 0, &WIDTHS, &values);
 }

@@ -4,6 +4,7 @@ use mathlib.Core.List.{List, [], _∷_, _++_}
 use Prim.Native.Nat.{ℕ}
 use lib.Dec.{ltb}
 use lib.ListN.{length, drop}
+use Rattle.refusals.specs.Refusals.{number}
 use Rattle.writing.specs.declared.Wrote.{Wrote}
 use Rattle.writing.specs.declared.Wrote.the-variants.{Bytes, Refused}
 
@@ -20,7 +21,7 @@ roomed (refuses n at) lent = refuses n at
 -- The answer: number, place and size. All fields not named are 0.
 unfoldable pub wrote-values : Wrote → List ℕ
 wrote-values (Bytes n) = 0 ∷ 0 ∷ n ∷ []
-wrote-values (Refused n at) = n ∷ at ∷ 0 ∷ []
+wrote-values (Refused w at) = number w ∷ at ∷ 0 ∷ []
 
 unfoldable pub wrote-owed : Writing → List ℕ
 wrote-owed (writes bs) = 0 ∷ 0 ∷ length bs ∷ []

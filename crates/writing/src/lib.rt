@@ -3,6 +3,7 @@ use block::Declared;
 use block::kinds::Wire;
 use block::kinds::shape_of;
 use records::numerals::put_number;
+use refusals::Why;
 ghost use mathlib.Core.Path.{_≡_};
 ghost use mathlib.Core.List.{List};
 ghost use Prim.Native.Nat.{ℕ, _+_, _≤_};
@@ -13,10 +14,10 @@ ghost use Rattle.block.specs.Told.{header-of};
 ghost use Rattle.writing.specs.Written.{header-bytes, record-bytes};
 ghost use Rattle.writing.specs.Answers.{writes, roomed, wrote-values, wrote-owed};
 
-// So many bytes were written, or the number and the place of the refusal, with every lent byte as it was.
+// So many bytes were written, or why not and where, with every lent byte as it was.
 pub enum Wrote {
     Bytes(usize),
-    Refused(u16, usize),
+    Refused(Why, usize),
 }
 
 // A header at the front of the lent bytes; those behind it stay.
@@ -59,7 +60,7 @@ pub fn in_room(size: usize, lent: usize) -> Wrote
     ensures { λ r. ⌜ ((bs : List ℕ) → length bs ≡ size → wrote-values r ≡ wrote-owed (roomed (writes bs) lent)) ⌝ }
 {
     if lent < size {
-        Wrote::Refused(12, 0)
+        Wrote::Refused(Why::Room, 0)
     } else {
         Wrote::Bytes(size)
     }

@@ -12,6 +12,7 @@ use Rattle.foldheron.proofs.part_of.Lts as lts
 use Rattle.block.proofs.whole.offset_of.Reads as offset-of-reads
 use Rattle.block.proofs.whole.read_block.Reads as read-block-reads
 use Rattle.foldheron.proofs.no_part.Reads as no-part-reads
+use Rattle.refusals.proofs.number_of.Reads as number-of-reads
 use Rattle.foldheron.proofs.past_statement.Reads as past-statement-reads
 
 read-block-requires : tie.Need-read-block-requires
@@ -19,6 +20,9 @@ read-block-requires c κs = search needs
 
 enum-known-answer : tie.Need-enum-known-answer
 enum-known-answer c = search needs
+
+number-of-requires : tie.Need-number-of-requires
+number-of-requires c κs = search needs
 
 no-part-requires : tie.Need-no-part-requires
 no-part-requires c κs = search needs
@@ -41,11 +45,11 @@ past-statement-requires c κs = few _ (c .before .before .before .before .before
 offset-of-requires-2 : tie.Need-offset-of-requires-2
 offset-of-requires-2 c κs = past-few _ (c .before .before .before .before .before .before .before .before .before .before .read-block .ensures) (c .before .before .before .before .before .before .before .before .answer2 .given .1) (c .before .before .before .before .before .before .before .before .before .before .before .before .before .before .before .args .n) (c .before .before .before .before .before .if1 .left) (c .past-statement .ensures)
 
-sub-t19 : tie.Need-sub-t19
-sub-t19 c = start-first _ (c .before .before .before .before .before .before .before .before .before .before .before .read-block .ensures) (c .before .before .before .before .before .before .before .before .before .answer2 .given .1) (c .before .before .before .before .before .before .before .before .before .before .before .before .before .before .before .before .args .n) (c .before .before .before .before .before .before .if1 .left) (c .before .past-statement .ensures) (c .before .before .before .before .offset-of .ensures) (c .offset-of2 .ensures)
+sub-t20 : tie.Need-sub-t20
+sub-t20 c = start-first _ (c .before .before .before .before .before .before .before .before .before .before .before .read-block .ensures) (c .before .before .before .before .before .before .before .before .before .answer2 .given .1) (c .before .before .before .before .before .before .before .before .before .before .before .before .before .before .before .before .args .n) (c .before .before .before .before .before .before .if1 .left) (c .before .past-statement .ensures) (c .before .before .before .before .offset-of .ensures) (c .offset-of2 .ensures)
 
 returns-2 : tie.Need-returns-2
-returns-2 c = (c .no-part .ensures ∙ part-refused _ (c .before .before .before .before .read-block .ensures) (c .before .before .answer .given .1) (c .before .before .before .before .before .before .before .before .before .args .n), no-part-within (now (c .before .before .before .before .before .before .before .before .before .args .block)) (c .no-part .ensures))
+returns-2 c = (c .no-part .ensures ∙ part-refused _ (c .before .before .before .before .before .read-block .ensures) (c .before .before .before .answer .given .1) (c .before .before .before .before .before .before .before .before .before .before .args .n) (c .before .number-of .ensures), no-part-within (now (c .before .before .before .before .before .before .before .before .before .before .args .block)) (c .no-part .ensures))
 
 returns-3 : tie.Need-returns-3
 returns-3 c = (part-found _ (c .before .before .before .before .before .before .before .before .before .before .before .read-block .ensures) (c .before .before .before .before .before .before .before .before .before .answer2 .given .1) (c .before .before .before .before .before .before .before .before .before .before .before .before .before .before .before .before .args .n) (c .before .before .before .before .before .before .if1 .left) (c .before .past-statement .ensures) (c .before .before .before .before .offset-of .ensures) (c .offset-of2 .ensures), part-within _ (c .before .before .before .before .before .before .before .before .before .before .before .read-block .ensures) (c .before .before .before .before .before .before .before .before .before .answer2 .given .1) (c .before .before .before .before .before .before .before .before .before .before .before .before .before .before .before .before .args .n) (c .before .before .before .before .before .before .if1 .left) (c .before .past-statement .ensures) (c .before .before .before .before .offset-of .ensures) (c .offset-of2 .ensures))
@@ -56,6 +60,7 @@ part-of-spec =
     (tie.spec
     read-block-requires
     enum-known-answer
+    number-of-requires
     no-part-requires
     enum-known-answer-2
     no-part-requires-2
@@ -63,6 +68,6 @@ part-of-spec =
     offset-of-requires
     past-statement-requires
     offset-of-requires-2
-    sub-t19
+    sub-t20
     returns-2
     returns-3)

@@ -1,44 +1,56 @@
--- `reaction::comes_to` meets its contract: a block that cannot be read is turned down as its reading says, another goes on.
+-- `comes_to` meets its contract: what the tests came to is told, and where all are passed the rules go on.
 -- Assumes nothing.
-use Rattle.reaction.proofs.Ways.{block-fails, block-reads, block-way}
+use Rattle.reaction.proofs.Ways.{stopped-way, clash-way, ready-way, gone-in}
 use borrow.Author.Needs.{needs}
 use Rattle.reaction.proofs.comes_to.Statement.{statement}
 use Rattle.reaction.proofs.comes_to.Tie as tie
 use Rattle.reaction.proofs.comes_to.Reads as reads
 use Rattle.reaction.proofs.comes_to.Lts as lts
-use Rattle.block.proofs.whole.read_block.Reads as read-block-reads
-use Rattle.reaction.proofs.past_block.Reads as past-block-reads
-use Rattle.reaction.proofs.refused.Reads as refused-reads
+use Rattle.reaction.proofs.no_state.Reads as no-state-reads
+use Rattle.reaction.proofs.past_tests.Reads as past-tests-reads
+use Rattle.reaction.proofs.tests.front.Reads as front-reads
 
-read-block-requires : tie.Need-read-block-requires
-read-block-requires c κs = search needs
+front-requires : tie.Need-front-requires
+front-requires c κs = search needs
 
-enum-known-answer : tie.Need-enum-known-answer
-enum-known-answer c = search needs
+enum-known-met : tie.Need-enum-known-met
+enum-known-met c = search needs
 
-refused-requires : tie.Need-refused-requires
-refused-requires c κs = search needs
+no-state-requires : tie.Need-no-state-requires
+no-state-requires c κs = search needs
 
-enum-known-answer-2 : tie.Need-enum-known-answer-2
-enum-known-answer-2 c = search needs
+enum-known-met-2 : tie.Need-enum-known-met-2
+enum-known-met-2 c = search needs
 
-past-block-requires : tie.Need-past-block-requires
-past-block-requires c κs = let r = block-reads _ _ _ (c .before .before .before .before .before .before .read-block .ensures) _ (c .before .before .before .before .answer2 .given .1) in (r .its-good, r .opened)
+no-state-requires-2 : tie.Need-no-state-requires-2
+no-state-requires-2 c κs = search needs
+
+enum-known-met-3 : tie.Need-enum-known-met-3
+enum-known-met-3 c = search needs
+
+past-tests-requires : tie.Need-past-tests-requires
+past-tests-requires c κs = let q = gone-in (c .before .before .before .before .before .before .before .front .ensures .meets) (c .before .before .before .before .met3 .given .1) in (q .its-good, q .opened)
 
 returns : tie.Need-returns
-returns c = block-fails _ _ _ _ _ _ (c .before .before .before .before .read-block .ensures) _ _ (c .before .before .answer .given .1) (c .refused .ensures)
+returns c = stopped-way _ _ _ _ (c .before .before .before .before .before .front .ensures .meets) _ _ (c .before .before .met .given .1) (c .no-state .ensures)
 
 returns-2 : tie.Need-returns-2
-returns-2 c = let r = block-reads _ _ _ (c .before .before .before .before .before .before .before .read-block .ensures) _ (c .before .before .before .before .before .answer2 .given .1) in block-way _ _ _ _ (r .is-read) (c .past-block .ensures (r .its-good) (r .opened))
+returns-2 c = clash-way _ _ _ _ (c .before .before .before .before .before .front .ensures .meets) _ _ (c .before .before .met2 .given .1) (c .no-state2 .ensures)
+
+returns-3 : tie.Need-returns-3
+returns-3 c = let q = gone-in (c .before .before .before .before .before .before .before .before .front .ensures .meets) (c .before .before .before .before .before .met3 .given .1) in ready-way _ _ _ _ (c .before .before .before .before .before .before .before .before .front .ensures .meets) (q .is-ready) (c .past-tests .ensures (q .its-good) (q .opened) (q .its-state) (q .begins))
 
 pub comes-to-spec : {M : Type 1} → statement M
 comes-to-spec =
     tie.close
     (tie.spec
-    read-block-requires
-    enum-known-answer
-    refused-requires
-    enum-known-answer-2
-    past-block-requires
+    front-requires
+    enum-known-met
+    no-state-requires
+    enum-known-met-2
+    no-state-requires-2
+    enum-known-met-3
+    past-tests-requires
     returns
-    returns-2)
+    returns-2
+    returns-3)

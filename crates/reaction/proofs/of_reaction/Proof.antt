@@ -1,20 +1,26 @@
+-- `of_reaction` meets its contract: by whether the code is known.
+-- Assumes nothing.
 use mathlib.Core.Path.{refl}
-use borrow.Author.Needs.{needs}
 use Rattle.reaction.proofs.Ways.{known-way, unknown-way}
+use borrow.Author.Needs.{needs}
 use Rattle.reaction.proofs.of_reaction.Statement.{statement}
 use Rattle.reaction.proofs.of_reaction.Tie as tie
 use Rattle.reaction.proofs.of_reaction.Reads as reads
 use Rattle.reaction.proofs.of_reaction.Lts as lts
+use Rattle.reaction.proofs.no_state.Reads as no-state-reads
 use Rattle.reaction.proofs.phase_after.Reads as phase-after-reads
 
 phase-after-requires : tie.Need-phase-after-requires
 phase-after-requires c κs = search needs
 
+no-state-requires : tie.Need-no-state-requires
+no-state-requires c κs = search needs
+
 returns : tie.Need-returns
 returns c = λ b a x. known-way b (c .before .before .before .before .args .r) (record { present-fits = search needs; absent-fits = search needs; low-fits = search needs; high-fits = search needs }) _ a x (c .before .before .before .if1 .taken) refl (c .phase-after .ensures) refl
 
 returns-2 : tie.Need-returns-2
-returns-2 c = λ b a x. unknown-way b (c .before .args .r) (record { present-fits = search needs; absent-fits = search needs; low-fits = search needs; high-fits = search needs }) _ a x (c .if1 .left) refl
+returns-2 c = λ b a x. unknown-way b (c .before .before .args .r) (record { present-fits = search needs; absent-fits = search needs; low-fits = search needs; high-fits = search needs }) _ a x (c .before .if1 .left) (c .no-state .ensures)
 
 pub of-reaction-spec : {M : Type 1} → statement M
-of-reaction-spec = tie.close (tie.spec phase-after-requires returns returns-2)
+of-reaction-spec = tie.close (tie.spec phase-after-requires no-state-requires returns returns-2)

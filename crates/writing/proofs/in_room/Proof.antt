@@ -2,6 +2,7 @@
 use mathlib.Core.Path.{sym, ap, _∙_}
 use mathlib.Core.List.{[], _∷_}
 use native.Mathlib.Omega.{arith}
+use Rattle.refusals.specs.Refusals.{number}
 use Rattle.writing.specs.Answers.{wrote-values, wrote-owed}
 use Rattle.writing.proofs.Stores.{too-few, enough}
 use Rattle.writing.proofs.in_room.Statement.{statement}
@@ -10,7 +11,7 @@ use Rattle.writing.proofs.in_room.Reads as reads
 use Rattle.writing.proofs.in_room.Lts as lts
 
 returns : tie.Need-returns
-unfolding wrote-values wrote-owed
+unfolding number wrote-values wrote-owed
 returns c bs e = sym (ap wrote-owed (too-few bs _ (omega (arith, c .if1 .taken, e))))
 
 returns-2 : tie.Need-returns-2

@@ -8,7 +8,7 @@ use Rattle.exports.proofs.values.check.Tie as tie
 use Rattle.exports.proofs.values.check.Reads as reads
 use Rattle.exports.proofs.values.check.Lts as lts
 use Rattle.foldheron.proofs.check.Reads as check-reads
-use Rattle.foldheron.proofs.number_of.Reads as number-of-reads
+use Rattle.refusals.proofs.number_of.Reads as number-of-reads
 
 check-requires : tie.Need-check-requires
 check-requires c κs = search needs

@@ -8,7 +8,7 @@ use Rattle.exports.proofs.values.fresh.Tie as tie
 use Rattle.exports.proofs.values.fresh.Reads as reads
 use Rattle.exports.proofs.values.fresh.Lts as lts
 use Rattle.foldheron.proofs.fresh.Reads as fresh-reads
-use Rattle.foldheron.proofs.number_of.Reads as number-of-reads
+use Rattle.refusals.proofs.number_of.Reads as number-of-reads
 
 fresh-requires : tie.Need-fresh-requires
 fresh-requires c κs = search needs

@@ -1,7 +1,7 @@
 -- `values::told_values`: each case as its definition says it. Assumes nothing.
 use mathlib.Core.Path.{_∙_, sym, ap}
-use Rattle.foldheron.specs.declared.instants.Instant.{Instant}
-use Rattle.foldheron.specs.InstantAnswers.{instant-told}
+use Rattle.reaction.specs.declared.Instant.{Instant}
+use Rattle.reaction.specs.Answers.{instant-told}
 use Rattle.exports.specs.Calls.{logged-values}
 use Rattle.exports.proofs.Laid.{with-number}
 use borrow.Author.Needs.{needs}
@@ -9,7 +9,7 @@ use Rattle.exports.proofs.values.told_values.Statement.{statement}
 use Rattle.exports.proofs.values.told_values.Tie as tie
 use Rattle.exports.proofs.values.told_values.Reads as reads
 use Rattle.exports.proofs.values.told_values.Lts as lts
-use Rattle.foldheron.proofs.number_of.Reads as number-of-reads
+use Rattle.refusals.proofs.number_of.Reads as number-of-reads
 
 enum-known-answer : tie.Need-enum-known-answer
 enum-known-answer c = search needs

@@ -16,42 +16,57 @@ no-state-requires c κs = search needs
 returns : tie.Need-returns
 returns c = let a = c .before .before .before .args in c .no-state .ensures ∙ ap held-of (read-sized (a .pauses) (now (a .state)) (c .before .if1 .taken))
 
-number-at-requires : tie.Need-number-at-requires
-number-at-requires c κs = search needs
+slice-aggregate-field-at : tie.Need-slice-aggregate-field-at
+slice-aggregate-field-at c = search needs
+
+field-at-requires : tie.Need-field-at-requires
+field-at-requires c κs = search needs
 
 no-state-requires-2 : tie.Need-no-state-requires-2
 no-state-requires-2 c κs = search needs
 
 returns-2 : tie.Need-returns-2
-returns-2 c = let a = c .before .before .before .before .before .args in c .no-state2 .ensures ∙ ap held-of (read-headed (a .pauses) (now (a .state)) (c .before .before .number-at .ensures) (c .before .if2 .taken))
+returns-2 c = let a = c .before .before .before .before .before .before .args in c .no-state2 .ensures ∙ ap held-of (read-headed (a .pauses) (now (a .state)) (c .before .before .field-at .ensures) (c .before .if2 .taken))
 
-number-at-requires-2 : tie.Need-number-at-requires-2
-number-at-requires-2 c κs = search needs
+slice-aggregate-field-at-2 : tie.Need-slice-aggregate-field-at-2
+slice-aggregate-field-at-2 c = search needs
+
+field-at-requires-2 : tie.Need-field-at-requires-2
+field-at-requires-2 c κs = search needs
 
 no-state-requires-3 : tie.Need-no-state-requires-3
 no-state-requires-3 c κs = search needs
 
 returns-3 : tie.Need-returns-3
-returns-3 c = let a = c .before .before .before .before .before .before .before .args in c .no-state3 .ensures ∙ ap held-of (read-kind (a .pauses) (now (a .state)) (c .before .before .number-at2 .ensures) (c .before .if3 .taken))
+returns-3 c = let a = c .before .before .before .before .before .before .before .before .before .args in c .no-state3 .ensures ∙ ap held-of (read-kind (a .pauses) (now (a .state)) (c .before .before .field-at2 .ensures) (c .before .if3 .taken))
 
-number-at-requires-3 : tie.Need-number-at-requires-3
-number-at-requires-3 c κs = search needs
+slice-aggregate-field-at-3 : tie.Need-slice-aggregate-field-at-3
+slice-aggregate-field-at-3 c = search needs
 
-number-at-requires-4 : tie.Need-number-at-requires-4
-number-at-requires-4 c κs = search needs
+field-at-requires-3 : tie.Need-field-at-requires-3
+field-at-requires-3 c κs = search needs
 
-number-at-requires-5 : tie.Need-number-at-requires-5
-number-at-requires-5 c κs = search needs
+slice-aggregate-field-at-4 : tie.Need-slice-aggregate-field-at-4
+slice-aggregate-field-at-4 c = search needs
+
+field-at-requires-4 : tie.Need-field-at-requires-4
+field-at-requires-4 c κs = search needs
+
+slice-aggregate-field-at-5 : tie.Need-slice-aggregate-field-at-5
+slice-aggregate-field-at-5 c = search needs
+
+field-at-requires-5 : tie.Need-field-at-requires-5
+field-at-requires-5 c κs = search needs
 
 by-phase-requires : tie.Need-by-phase-requires
 by-phase-requires c κs = search needs
 
 returns-4 : tie.Need-returns-4
-returns-4 c = let a = c .before .before .before .before .before .before .before .before .before .before .args in
-    c .by-phase .ensures (now (a .state)) (ap₂ (λ (x y : ℕ). x ∷ y ∷ []) (c .before .before .number-at4 .ensures) (c .before .number-at5 .ensures))
+returns-4 c = let a = c .before .before .before .before .before .before .before .before .before .before .before .before .before .before .before .args in
+    c .by-phase .ensures (now (a .state)) (ap₂ (λ (x y : ℕ). x ∷ y ∷ []) (c .before .before .before .field-at4 .ensures) (c .before .field-at5 .ensures))
     ∙ ap held-of
-    (ap (λ (p : ℕ). in-phase p (a .pauses) (now (a .state))) (c .before .before .before .number-at3 .ensures)
-    ∙ read-whole (a .pauses) (now (a .state)) (c .before .before .before .before .before .before .before .before .if1 .left) (sym (c .before .before .before .before .before .before .before .number-at .ensures) ∙ c .before .before .before .before .before .before .if2 .left) (sym (c .before .before .before .before .before .number-at2 .ensures) ∙ c .before .before .before .before .if3 .left))
+    (ap (λ (p : ℕ). in-phase p (a .pauses) (now (a .state))) (c .before .before .before .before .before .field-at3 .ensures)
+    ∙ read-whole (a .pauses) (now (a .state)) (c .before .before .before .before .before .before .before .before .before .before .before .before .before .if1 .left) (sym (c .before .before .before .before .before .before .before .before .before .before .before .field-at .ensures) ∙ c .before .before .before .before .before .before .before .before .before .before .if2 .left) (sym (c .before .before .before .before .before .before .before .before .field-at2 .ensures) ∙ c .before .before .before .before .before .before .before .if3 .left))
 
 pub read-state-spec : {M : Type 1} → statement M
 read-state-spec =
@@ -59,14 +74,19 @@ read-state-spec =
     (tie.spec
     no-state-requires
     returns
-    number-at-requires
+    slice-aggregate-field-at
+    field-at-requires
     no-state-requires-2
     returns-2
-    number-at-requires-2
+    slice-aggregate-field-at-2
+    field-at-requires-2
     no-state-requires-3
     returns-3
-    number-at-requires-3
-    number-at-requires-4
-    number-at-requires-5
+    slice-aggregate-field-at-3
+    field-at-requires-3
+    slice-aggregate-field-at-4
+    field-at-requires-4
+    slice-aggregate-field-at-5
+    field-at-requires-5
     by-phase-requires
     returns-4)

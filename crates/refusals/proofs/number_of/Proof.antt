@@ -2,11 +2,11 @@
 -- Assumes nothing.
 use mathlib.Core.Path.{sym, ap}
 use borrow.Author.Needs.{needs}
-use Rattle.foldheron.specs.Answers.{number}
-use Rattle.foldheron.proofs.number_of.Statement.{statement}
-use Rattle.foldheron.proofs.number_of.Tie as tie
-use Rattle.foldheron.proofs.number_of.Reads as reads
-use Rattle.foldheron.proofs.number_of.Lts as lts
+use Rattle.refusals.specs.Refusals.{number}
+use Rattle.refusals.proofs.number_of.Statement.{statement}
+use Rattle.refusals.proofs.number_of.Tie as tie
+use Rattle.refusals.proofs.number_of.Reads as reads
+use Rattle.refusals.proofs.number_of.Lts as lts
 
 enum-told : tie.Need-enum-told
 enum-told c = search needs

@@ -1,9 +1,10 @@
--- What an instant's answer says: document 01's number and values for each case. All fields not named are 0. Assumes nothing.
+-- What the answer of an instant says. Assumes nothing.
+use Rattle.refusals.specs.Refusals.{number}
+use Rattle.reaction.specs.declared.Instant.{Instant}
+use Rattle.reaction.specs.declared.Instant.the-variants.{Answered, NotConstructive, Clash, Refused}
 use Rattle.reaction.specs.Instants.{Told, told-refusal, CLASH, NOT-CONSTRUCTIVE}
-use Rattle.foldheron.specs.declared.instants.Instant.{Instant}
-use Rattle.foldheron.specs.declared.instants.Instant.the-variants.{Answered, NotConstructive, Clash, Refused}
-use Rattle.foldheron.specs.Answers.{number}
 
+-- Every field of an answer: document 01's number and values for each case. All fields not named are 0.
 unfoldable pub instant-told : Instant → Told
 instant-told (Answered r) = record {
   number = 0;

@@ -1,0 +1,25 @@
+-- `tests::at_inputs` meets its contract: INPUT turns the instant down, or all tests are passed.
+-- Assumes nothing.
+use Rattle.reaction.proofs.Fronts.{input-way, passed-way}
+use borrow.Author.Needs.{needs}
+use Rattle.reaction.proofs.tests.at_inputs.Statement.{statement}
+use Rattle.reaction.proofs.tests.at_inputs.Tie as tie
+use Rattle.reaction.proofs.tests.at_inputs.Reads as reads
+use Rattle.reaction.proofs.tests.at_inputs.Lts as lts
+use Rattle.reaction.proofs.tests.stopped.Reads as stopped-reads
+use Rattle.records.proofs.bits.input_over.Reads as input-over-reads
+
+input-over-requires : tie.Need-input-over-requires
+input-over-requires c κs = search needs
+
+stopped-requires : tie.Need-stopped-requires
+stopped-requires c κs = search needs
+
+returns : tie.Need-returns
+returns c = λ tab g o st b. input-way o st (c .before .before .before .args .given) (c .before .before .input-over .ensures) (c .before .if1 .taken) (c .stopped .ensures)
+
+returns-2 : tie.Need-returns-2
+returns-2 c = λ tab g o st b. passed-way o st (c .before .before .args .given) (c .before .input-over .ensures) (c .if1 .left) b
+
+pub at-inputs-spec : {M : Type 1} → statement M
+at-inputs-spec = tie.close (tie.spec input-over-requires stopped-requires returns returns-2)

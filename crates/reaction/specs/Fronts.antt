@@ -1,0 +1,45 @@
+-- The tests before the rules, in their written order, on the caller's bytes: the block's 1 to 8, then 9, 10 and 11. Assumes nothing.
+use mathlib.Core.Bool.{cond}
+use mathlib.Core.List.{List}
+use mathlib.Core.Option.{Option, none, some}
+use Prim.Native.Nat.{ℕ}
+use Rattle.rules.specs.States.{State, active-of}
+use Rattle.block.specs.Format.{Good, Reading, good, turned-down, reading}
+use Rattle.records.specs.StateRecord.{Found, not-a-state, state, read-state, Pair, first-clash, undeclared-input}
+
+abbrev pub STATE : ℕ
+STATE = 9
+
+abbrev pub INPUT : ℕ
+INPUT = 11
+
+-- What the tests come to: turned down with a number and a place, a clash with its pair, or all passed, with the block and the state that were found.
+pub data Front : Type 0 where
+  stopped : ℕ → ℕ → Front
+  clashing : Pair → Front
+  ready : Good → State → Front
+
+-- INPUT, for a block that was read and a state that was found.
+unfoldable pub try-inputs : Good → State → ℕ → Front
+try-inputs g st given = cond (undeclared-input (g .header .inputs) given) (stopped INPUT 0) (ready g st)
+
+unfoldable pub try-clash : Good → State → ℕ → Option Pair → Front
+try-clash g st given (some pair) = clashing pair
+try-clash g st given none = try-inputs g st given
+
+-- CLASH, for a state that was found.
+abbrev pub clash-tried : Good → State → ℕ → Front
+clash-tried g st given = try-clash g st given (first-clash (g .body) (active-of st))
+
+-- STATE, for a block that was read.
+unfoldable pub try-state : Good → ℕ → Found → Front
+try-state g given not-a-state = stopped STATE 0
+try-state g given (state st) = clash-tried g st given
+
+unfoldable pub try-block : List ℕ → ℕ → Reading → Front
+try-block s given (turned-down n at) = stopped n at
+try-block s given (good g) = try-state g given (read-state (g .pauses) s)
+
+-- All of them, for a block's bytes, a state's bytes and an input set.
+unfoldable pub front : List ℕ → List ℕ → ℕ → Front
+front b s given = try-block s given (reading b)

@@ -1,0 +1,85 @@
+-- `fields::put_fields`: the stores that are left make of the present bytes what all of them make of the first. Assumes nothing.
+use mathlib.Core.Path.{_≡_, refl, sym, _∙_}
+use Prim.Native.Nat.{_+_, _-_, _≤_}
+use native.Mathlib.Omega.{arith}
+use denote.Ref.{now}
+use lib.ListN.{length, getD, drop}
+use lib.Seq.{sets}
+use borrow.Author.Needs.{needs}
+use Rattle.records.specs.Fields.{size, laid}
+use Rattle.records.proofs.Widths.{size-left, one-laid, all-laid}
+use Rattle.records.proofs.fields.put_fields.Statement.{statement}
+use Rattle.records.proofs.fields.put_fields.Tie as tie
+
+abbrev Inv-loop : tie.InvT-loop
+Inv-loop s₀ at widths values to₀ i₀ s to i =
+    (i ≤ length widths) × (length s ≡ length s₀) × (to + size (drop i widths) ≡ at + size widths)
+    × (sets s to (laid (drop i widths) (drop i values)) ≡ sets s₀ at (laid widths values))
+
+abbrev μ-loop : tie.MeasureT-loop
+μ-loop s₀ at widths values to₀ i₀ s to i = length widths - i
+
+loop-holds : tie.Need-loop-holds Inv-loop μ-loop
+loop-holds c = (search needs, refl, refl, refl)
+
+mul-n : tie.Need-mul-n Inv-loop μ-loop
+mul-n c = search needs
+
+shared-slice-read-n : tie.Need-shared-slice-read-n Inv-loop μ-loop
+shared-slice-read-n c = search needs
+
+mul-put-number : tie.Need-mul-put-number Inv-loop μ-loop
+mul-put-number c = search needs
+
+shared-slice-read-put-number : tie.Need-shared-slice-read-put-number Inv-loop μ-loop
+shared-slice-read-put-number c = search needs
+
+put-number-requires : tie.Need-put-number-requires Inv-loop μ-loop
+put-number-requires c κs =
+    let l = c .before .before .before .before .loop in omega (arith, size-left (now (c .before .before .before .before .before .before .before .before .args .widths)) (l .i) (c .before .before .before .loop-test .taken), l .inv .1, l .inv .2, c .before .before .before .before .before .before .before .before .pre .0)
+
+add-to : tie.Need-add-to Inv-loop μ-loop
+add-to c = let a = c .before .before .before .before .before .before .before .before .before .before .before .args in let l = c .before .before .before .before .before .before .before .loop in
+    let n = size-left (now (a .widths)) (l .i) (c .before .before .before .before .before .before .loop-test .taken) in
+    let h : l .to + getD (now (a .widths)) (l .i) 0 ≤ length (now (a .s)) = omega (arith, n, l .inv .2, c .before .before .before .before .before .before .before .before .before .before .before .pre .0) in
+    search needs
+
+add-i : tie.Need-add-i Inv-loop μ-loop
+add-i c = search needs
+
+loop-less : tie.Need-loop-less Inv-loop μ-loop
+loop-less c = search needs
+
+loop-again : tie.Need-loop-again Inv-loop μ-loop
+loop-again c =
+    let a = c .before .before .before .before .before .before .before .before .before .before .before .args in let l = c .before .before .before .before .before .before .before .loop in (
+      search needs,
+      search needs,
+      omega (arith, size-left (now (a .widths)) (l .i) (c .before .before .before .before .before .before .loop-test .taken), l .inv .2),
+      one-laid (now (a .widths)) (now (a .values)) (l .s) (l .i) (l .to) (c .before .before .before .before .before .before .loop-test .taken) (c .before .before .before .before .before .before .before .before .before .before .before .pre .1) (c .before .before .put-number .ensures) ∙ l .inv .3,
+    )
+
+same-length : tie.Need-same-length Inv-loop μ-loop
+same-length c = search needs
+
+returns : tie.Need-returns Inv-loop μ-loop
+returns c = let a = c .before .before .before .before .before .args in let l = c .before .loop in sym (all-laid (now (a .widths)) (now (a .values)) (l .s) (l .i) (l .to) (c .loop-test .left)) ∙ l .inv .3
+
+pub put-fields-spec : {M : Type 1} → statement M
+put-fields-spec =
+    tie.close
+    (tie.spec
+    Inv-loop
+    μ-loop
+    loop-holds
+    mul-n
+    shared-slice-read-n
+    mul-put-number
+    shared-slice-read-put-number
+    put-number-requires
+    add-to
+    add-i
+    loop-less
+    loop-again
+    same-length
+    returns)

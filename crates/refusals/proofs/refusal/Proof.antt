@@ -1,0 +1,89 @@
+-- `refusal` meets its contract: each arm has its own number, and what is left is none of the list's.
+-- Assumes nothing.
+use mathlib.Core.Path.{sym, ap}
+use Rattle.refusals.specs.Refusals.{number, refusals, first-with, why-of}
+use Rattle.refusals.proofs.Laws.{NoneOf, none-of}
+use Rattle.refusals.proofs.refusal.Statement.{statement}
+use Rattle.refusals.proofs.refusal.Tie as tie
+use Rattle.refusals.proofs.refusal.Reads as reads
+use Rattle.refusals.proofs.refusal.Lts as lts
+
+returns : tie.Need-returns
+unfolding number first-with
+returns c = ap why-of (sym (c .match .keys1))
+
+returns-2 : tie.Need-returns-2
+unfolding number first-with
+returns-2 c = ap why-of (sym (c .match .keys2))
+
+returns-3 : tie.Need-returns-3
+unfolding number first-with
+returns-3 c = ap why-of (sym (c .match .keys3))
+
+returns-4 : tie.Need-returns-4
+unfolding number first-with
+returns-4 c = ap why-of (sym (c .match .keys4))
+
+returns-5 : tie.Need-returns-5
+unfolding number first-with
+returns-5 c = ap why-of (sym (c .match .keys5))
+
+returns-6 : tie.Need-returns-6
+unfolding number first-with
+returns-6 c = ap why-of (sym (c .match .keys6))
+
+returns-7 : tie.Need-returns-7
+unfolding number first-with
+returns-7 c = ap why-of (sym (c .match .keys7))
+
+returns-8 : tie.Need-returns-8
+unfolding number first-with
+returns-8 c = ap why-of (sym (c .match .keys8))
+
+returns-9 : tie.Need-returns-9
+unfolding number first-with
+returns-9 c = ap why-of (sym (c .match .keys9))
+
+returns-10 : tie.Need-returns-10
+unfolding number first-with
+returns-10 c = ap why-of (sym (c .match .keys10))
+
+returns-11 : tie.Need-returns-11
+unfolding number first-with
+returns-11 c = ap why-of (sym (c .match .keys11))
+
+returns-12 : tie.Need-returns-12
+unfolding number first-with
+returns-12 c = ap why-of (sym (c .match .keys12))
+
+returns-13 : tie.Need-returns-13
+unfolding number first-with
+returns-13 c = ap why-of (sym (c .match .keys13))
+
+returns-14 : tie.Need-returns-14
+unfolding number first-with
+returns-14 c = ap why-of (sym (c .match .keys14))
+
+returns-15 : tie.Need-returns-15
+unfolding number NoneOf
+returns-15 c = none-of _ refusals _ (c .match .rest) .1
+
+pub refusal-spec : {M : Type 1} → statement M
+refusal-spec =
+    tie.close
+    (tie.spec
+    returns
+    returns-2
+    returns-3
+    returns-4
+    returns-5
+    returns-6
+    returns-7
+    returns-8
+    returns-9
+    returns-10
+    returns-11
+    returns-12
+    returns-13
+    returns-14
+    returns-15)
