@@ -3,6 +3,7 @@
 use crate::plain::Answer;
 use crate::shapes::Shape;
 use crate::{library, plain};
+use foldheron::STATE;
 use std::time::{Duration, Instant};
 
 /// One instant of either side.
@@ -15,12 +16,16 @@ pub struct Pace {
     pub about: Duration,
 }
 
-/// A fresh state: length 22, kind 2, and all else 0.
-const FRESH: [u8; 22] = [22, 0, 2, 0, 0, 0, 0, 0, 0, 0, 0, 0, 0, 0, 0, 0, 0, 0, 0, 0, 0, 0];
+/// The shape's fresh state.
+fn fresh(shape: &Shape) -> [u8; STATE] {
+    let mut state = [0; STATE];
+    foldheron::fresh(&shape.block, &mut state).expect("a shape is a good block");
+    state
+}
 
 /// The answers of one run from fresh over the shape's inputs, and the state after each.
-pub fn answers(call: Call, shape: &Shape) -> Vec<(Answer, [u8; 22])> {
-    let mut state = FRESH;
+pub fn answers(call: Call, shape: &Shape) -> Vec<(Answer, [u8; STATE])> {
+    let mut state = fresh(shape);
     shape.inputs.iter().map(|&inputs| (call(&shape.block, &mut state, inputs), state)).collect()
 }
 
@@ -32,9 +37,10 @@ fn needed(answer: Answer) {
 /// Nanoseconds an instant, from whole runs from fresh for about so long.
 pub fn measure(call: Call, shape: &Shape, about: Duration) -> f64 {
     let begun = Instant::now();
+    let begin = fresh(shape);
     let mut instants = 0u32;
     while instants == 0 || begun.elapsed() < about {
-        let mut state = FRESH;
+        let mut state = begin;
         for &inputs in &shape.inputs {
             needed(call(&shape.block, &mut state, inputs));
             instants += 1;

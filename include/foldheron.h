@@ -38,13 +38,13 @@ extern "C" {
 
 /* The version of the calls, the records and this header: the first number rises where a program has to change, the second where some answers are
  * others than before. */
-#define FOLDHERON_VERSION_MAJOR 1
-#define FOLDHERON_VERSION_MINOR 1
+#define FOLDHERON_VERSION_MAJOR 2
+#define FOLDHERON_VERSION_MINOR 0
 #define FOLDHERON_VERSION_PATCH 0
-#define FOLDHERON_VERSION "1.1.0"
+#define FOLDHERON_VERSION "2.0.0"
 
-/* The numbers of refusals, the first that applies in this order. 1 to 8, the block: every call; 9, the state: fresh and the instants; 10, 11
- * and 13: the instants; 12: the one with a log, before 13; 14: an excerpt. 64, the answer's bytes, comes before all of them. */
+/* The numbers of refusals, the first that applies in this order. 1 to 8, the block: every call; 9, the state: fresh and the instants; 17, then 10,
+ * 11 and 13: the instants; 12: the one with a log, before 13; 14: an excerpt. 64, the answer's bytes, comes before all of them. */
 #define FOLDHERON_GOOD 0
 #define FOLDHERON_BROKEN 1           /* a record is cut off, or has a length below 4 */
 #define FOLDHERON_KIND 2             /* a kind that is not allowed here, or not that kind's length */
@@ -55,6 +55,7 @@ extern "C" {
 #define FOLDHERON_SHAPE 7            /* the tree ends too early or too late */
 #define FOLDHERON_LOOP 8             /* a loop that may go round without a pause */
 #define FOLDHERON_STATE 9            /* not a state of this block */
+#define FOLDHERON_OTHER_BLOCK 17     /* a state that names another version or another statement count than the block has */
 #define FOLDHERON_CLASH 10           /* two active pauses that cannot be active together */
 #define FOLDHERON_INPUT 11           /* an input that the block does not have */
 #define FOLDHERON_ROOM 12            /* fewer than 24 bytes after the log's end, or no such end */
@@ -64,7 +65,7 @@ extern "C" {
 
 /* A block has at most so many bytes, a state exactly so many, a log record exactly so many. */
 #define FOLDHERON_BLOCK_MOST 3086
-#define FOLDHERON_STATE_SIZE 22
+#define FOLDHERON_STATE_SIZE 26
 #define FOLDHERON_RECORD_SIZE 24
 
 /* A call takes less stack than this, from its caller's frame down; 45,320 bytes were the most that was seen. */
@@ -84,14 +85,14 @@ extern "C" {
 #define FOLDHERON_AT_PAUSES 56
 uint16_t foldheron_check(const uint8_t *block, size_t block_size, uint8_t *answer, size_t answer_size);
 
-/* Writes the block's fresh state into the lent state, which has 22 bytes; another size is refused with 9. Refused, no byte of the
- * state changes. The answer, 16 bytes: number and place. Refusals: 1 to 8, then 9. */
+/* Writes the block's fresh state, with the block's version and statement count, into the lent state, which has 26 bytes; another size is
+ * refused with 9. Refused, no byte of the state changes. The answer, 16 bytes: number and place. Refusals: 1 to 8, then 9. */
 #define FOLDHERON_FRESH_SIZE 16
 uint16_t foldheron_fresh(const uint8_t *block, size_t block_size, uint8_t *state, size_t state_size, uint8_t *answer,
                          size_t answer_size);
 
 /* Runs one instant. Bit n of inputs is set where input n is present; the other inputs are absent. Answered, the lent state is the
- * next state; refused, no byte of it changes. Refusals: 1 to 8, then 9, 10, 11, 13. The answer, 80 bytes:
+ * next state; refused, no byte of it changes. Refusals: 1 to 8, then 9, 17, 10, 11, 13. The answer, 80 bytes:
  *   first, second   of a CLASH: the numbers of the two pauses;
  *   present         the present outputs, bit n for signal n; of a 13, those known to be present;
  *   absent          of a 13: the outputs known to be absent;
@@ -114,7 +115,7 @@ uint16_t foldheron_instant(const uint8_t *block, size_t block_size, uint8_t *sta
 /* Runs one instant and, where it is answered, writes its record of 24 bytes into the log from its end on: length 24, kind 3 (2 bytes
  * each), the inputs, the present outputs (8 each), code, rounds (2 each). Nothing before or after the record changes. The answer, 88
  * bytes: that of an instant, and the log's new end, which the caller lends with the next call. A refused instant writes no record and
- * changes no byte of log or state; the new end is 0 then, so the caller keeps the end it had. Refusals: 1 to 8, then 9 to 13. */
+ * changes no byte of log or state; the new end is 0 then, so the caller keeps the end it had. Refusals: 1 to 8, then 9, 17, 10 to 13. */
 #define FOLDHERON_LOGGED_SIZE 88
 #define FOLDHERON_AT_END 80
 uint16_t foldheron_instant_logged(const uint8_t *block, size_t block_size, uint8_t *state, size_t state_size, uint64_t inputs,
@@ -140,11 +141,25 @@ static inline uint64_t foldheron_number(const uint8_t *answer, size_t at)
 /* The name of a refusal's number, as the guide has it; NULL of a number that no call gives back, and of 0. */
 static inline const char *foldheron_name(unsigned number)
 {
-    static const char *const names[] = {"BROKEN", "KIND", "EDITION", "LIMIT", "SIGNAL", "EXIT", "SHAPE", "LOOP", "STATE", "CLASH",
-                                        "INPUT", "ROOM", "NOT CONSTRUCTIVE", "INDEX"};
-    if (number >= 1 && number <= sizeof names / sizeof names[0])
-        return names[number - 1];
-    return number == FOLDHERON_ANSWER ? "ANSWER" : NULL;
+    switch (number) {
+    case FOLDHERON_BROKEN: return "BROKEN";
+    case FOLDHERON_KIND: return "KIND";
+    case FOLDHERON_EDITION: return "EDITION";
+    case FOLDHERON_LIMIT: return "LIMIT";
+    case FOLDHERON_SIGNAL: return "SIGNAL";
+    case FOLDHERON_EXIT: return "EXIT";
+    case FOLDHERON_SHAPE: return "SHAPE";
+    case FOLDHERON_LOOP: return "LOOP";
+    case FOLDHERON_STATE: return "STATE";
+    case FOLDHERON_CLASH: return "CLASH";
+    case FOLDHERON_INPUT: return "INPUT";
+    case FOLDHERON_ROOM: return "ROOM";
+    case FOLDHERON_NOT_CONSTRUCTIVE: return "NOT CONSTRUCTIVE";
+    case FOLDHERON_INDEX: return "INDEX";
+    case FOLDHERON_OTHER_BLOCK: return "OTHER BLOCK";
+    case FOLDHERON_ANSWER: return "ANSWER";
+    default: return NULL;
+    }
 }
 
 /* The answers as structs, with the names that stand at the calls above. Each is read from the bytes that a call wrote; after FOLDHERON_ANSWER

@@ -37,9 +37,9 @@ pub fn instant(block: &[u8], lent: &mut [u8], inputs: u64) -> Answer {
     if let Err((number, place)) = read(block, &mut table) {
         return refused(number, place);
     }
-    let state = match state::read(lent, table.pauses) {
-        Some(state) => state,
-        None => return refused(9, 0),
+    let state = match state::read(lent, &table) {
+        Ok(state) => state,
+        Err(number) => return refused(number, 0),
     };
     if let Some((first, second)) = first_clash(&table, state.active) {
         return Answer { first, second, ..refused(10, 0) };

@@ -51,7 +51,7 @@ pub fn header(bytes: &[u8], table: &mut Table) -> Result<(), Refused> {
     if u32::from(inputs) + u32::from(outputs) + u32::from(locals) > 64 {
         return Err((4, 0));
     }
-    (table.inputs, table.outputs, table.locals) = (inputs, outputs, locals);
+    (table.version, table.inputs, table.outputs, table.locals) = (word(bytes, 6), inputs, outputs, locals);
     Ok(())
 }
 

@@ -1,8 +1,9 @@
-//! The state record, and the refusal 9.
+//! The state record, and the refusals 9 and 17.
 
 use super::records::word;
+use super::table::Table;
 
-pub const SIZE: usize = 22;
+pub const SIZE: usize = 26;
 
 pub const FRESH: u16 = 0;
 pub const RUNNING: u16 = 1;
@@ -14,26 +15,30 @@ pub struct State {
     pub active: u128,
 }
 
-/// The state that a record holds for a block of so many pauses.
-pub fn read(bytes: &[u8], pauses: u16) -> Option<State> {
-    if bytes.len() != SIZE || word(bytes, 0) != 22 || word(bytes, 2) != 2 {
-        return None;
+/// The state that a record holds for a block, or the number of the refusal.
+pub fn read(bytes: &[u8], table: &Table) -> Result<State, u16> {
+    if bytes.len() != SIZE || word(bytes, 0) != SIZE as u16 || word(bytes, 2) != 2 {
+        return Err(9);
     }
     let mut bits = [0; 16];
-    bits.copy_from_slice(&bytes[6..]);
-    let (phase, active) = (word(bytes, 4), u128::from_le_bytes(bits));
-    let is_beyond = pauses < 128 && active >> pauses != 0;
+    bits.copy_from_slice(&bytes[10..]);
+    let (phase, active) = (word(bytes, 8), u128::from_le_bytes(bits));
+    let is_beyond = table.pauses < 128 && active >> table.pauses != 0;
     let fits = match phase {
         FRESH | FINISHED => active == 0,
         RUNNING => active != 0 && !is_beyond,
         _ => false,
     };
-    if fits { Some(State { phase, active }) } else { None }
+    let is_named = word(bytes, 4) == table.version && usize::from(word(bytes, 6)) == table.statements;
+    match (fits, is_named) {
+        (true, true) => Ok(State { phase, active }),
+        (true, false) => Err(17),
+        _ => Err(9),
+    }
 }
 
+/// The next state, over one of the same block: its length, kind and names stay.
 pub fn write(bytes: &mut [u8], state: State) {
-    bytes[0..2].copy_from_slice(&22u16.to_le_bytes());
-    bytes[2..4].copy_from_slice(&2u16.to_le_bytes());
-    bytes[4..6].copy_from_slice(&state.phase.to_le_bytes());
-    bytes[6..22].copy_from_slice(&state.active.to_le_bytes());
+    bytes[8..10].copy_from_slice(&state.phase.to_le_bytes());
+    bytes[10..].copy_from_slice(&state.active.to_le_bytes());
 }

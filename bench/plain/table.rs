@@ -17,6 +17,7 @@ pub struct Row {
 }
 
 pub struct Table {
+    pub version: u16,
     pub inputs: u16,
     pub outputs: u16,
     pub locals: u16,
@@ -28,7 +29,7 @@ pub struct Table {
 impl Table {
     pub fn empty() -> Table {
         let row = Row { kind: 0, operand: 0, size: 0, active: false };
-        Table { inputs: 0, outputs: 0, locals: 0, statements: 0, pauses: 0, rows: [row; ROWS] }
+        Table { version: 0, inputs: 0, outputs: 0, locals: 0, statements: 0, pauses: 0, rows: [row; ROWS] }
     }
 
     /// The second child's number; the first child's is the next one.

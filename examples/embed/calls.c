@@ -69,10 +69,10 @@ static void try_layout(void)
     EXPECT(foldheron_number(bytes, FOLDHERON_AT_END) == (UINT64_C(1) << 56) + 10);
     EXPECT(foldheron_number(bytes, FOLDHERON_AT_OFFSET) == 2 && foldheron_number(bytes, FOLDHERON_AT_COUNT) == 3);
     EXPECT(FOLDHERON_CHECK_SIZE == 64 && FOLDHERON_FRESH_SIZE == 16 && FOLDHERON_INSTANT_SIZE == 80 && FOLDHERON_EXCERPT_SIZE == 32);
-    EXPECT(FOLDHERON_BLOCK_MOST == 3086 && FOLDHERON_STATE_SIZE == 22 && FOLDHERON_RECORD_SIZE == 24);
+    EXPECT(FOLDHERON_BLOCK_MOST == 3086 && FOLDHERON_STATE_SIZE == 26 && FOLDHERON_RECORD_SIZE == 24);
 }
 
-/* The structs, against an answer whose n-th number is n; and the names, against document 01's table. */
+/* The structs, against an answer whose n-th number is n. */
 static void try_structs(void)
 {
     uint8_t bytes[FOLDHERON_LOGGED_SIZE] = {0};
@@ -88,16 +88,18 @@ static void try_structs(void)
     EXPECT(e.number == 0 && e.place == 1 && e.offset == 2 && e.count == 3);
 }
 
+/* The names, against document 01's table and what later requests add to it. */
 static void try_names(void)
 {
-    static const char *const names[] = {"BROKEN", "KIND", "EDITION", "LIMIT", "SIGNAL", "EXIT", "SHAPE", "LOOP", "STATE", "CLASH",
-                                        "INPUT", "ROOM", "NOT CONSTRUCTIVE", "INDEX"};
+    static const char *const names[65] = {[1] = "BROKEN", [2] = "KIND", [3] = "EDITION", [4] = "LIMIT", [5] = "SIGNAL", [6] = "EXIT",
+                                          [7] = "SHAPE", [8] = "LOOP", [9] = "STATE", [10] = "CLASH", [11] = "INPUT", [12] = "ROOM",
+                                          [13] = "NOT CONSTRUCTIVE", [14] = "INDEX", [17] = "OTHER BLOCK", [64] = "ANSWER"};
     for (unsigned number = 0; number < 70000; number++) {
-        const char *wanted = number >= 1 && number <= 14 ? names[number - 1] : number == 64 ? "ANSWER" : NULL, *name = foldheron_name(number);
+        const char *wanted = number < 65 ? names[number] : NULL, *name = foldheron_name(number);
         EXPECT(wanted == NULL ? name == NULL : name != NULL && strcmp(name, wanted) == 0);
     }
-    EXPECT(strcmp(FOLDHERON_VERSION, "1.1.0") == 0);
-    EXPECT(FOLDHERON_VERSION_MAJOR == 1 && FOLDHERON_VERSION_MINOR == 1 && FOLDHERON_VERSION_PATCH == 0);
+    EXPECT(strcmp(FOLDHERON_VERSION, "2.0.0") == 0);
+    EXPECT(FOLDHERON_VERSION_MAJOR == 2 && FOLDHERON_VERSION_MINOR == 0 && FOLDHERON_VERSION_PATCH == 0);
 }
 
 static void try_check(void)
@@ -115,60 +117,79 @@ static void try_check(void)
 
 static void try_fresh(void)
 {
-    static const uint8_t fresh[22] = {22, 0, 2};
+    static const uint8_t fresh[26] = {26, 0, 2, 0, 7, 0, 4};
     static const uint64_t written[] = {0, 0}, refused[] = {9, 0};
     struct lent a = lend(), s = lend();
-    EXPECT(foldheron_fresh(block, sizeof block, s.bytes, 21, a.bytes, FOLDHERON_FRESH_SIZE) == FOLDHERON_STATE);
+    EXPECT(foldheron_fresh(block, sizeof block, s.bytes, 25, a.bytes, FOLDHERON_FRESH_SIZE) == FOLDHERON_STATE);
+    EXPECT(told(&a, 16, refused) && guarded(&s, 0));
+    EXPECT(foldheron_fresh(block, sizeof block, s.bytes, 22, a.bytes, FOLDHERON_FRESH_SIZE) == FOLDHERON_STATE);
     EXPECT(told(&a, 16, refused) && guarded(&s, 0));
     a = lend();
-    EXPECT(foldheron_fresh(block, sizeof block, s.bytes, 22, a.bytes, 15) == FOLDHERON_ANSWER && guarded(&s, 0) && guarded(&a, 0));
-    EXPECT(foldheron_fresh(block, sizeof block, s.bytes, 22, a.bytes, FOLDHERON_FRESH_SIZE) == 0 && told(&a, 16, written));
-    EXPECT(memcmp(s.bytes, fresh, 22) == 0 && guarded(&s, 22));
+    EXPECT(foldheron_fresh(block, sizeof block, s.bytes, 26, a.bytes, 15) == FOLDHERON_ANSWER && guarded(&s, 0) && guarded(&a, 0));
+    EXPECT(foldheron_fresh(block, sizeof block, s.bytes, 26, a.bytes, FOLDHERON_FRESH_SIZE) == 0 && told(&a, 16, written));
+    EXPECT(memcmp(s.bytes, fresh, 26) == 0 && guarded(&s, 26));
 }
 
 static void try_instant(void)
 {
     static const uint64_t waits[] = {0, 0, 0, 0, 0, 0, 0, 2, 1, 1}, unknown_input[] = {11, 0, 0, 0, 0, 0, 0, 0, 0, 0};
     static const uint64_t ends[] = {0, 0, 0, 0, 2, 0, 0, 2, 0, 0};
-    uint8_t state[22] = {22, 0, 2}, kept[22];
+    static const uint8_t running[26] = {26, 0, 2, 0, 7, 0, 4, 0, 1, 0, 1}, finished[26] = {26, 0, 2, 0, 7, 0, 4, 0, 2};
+    uint8_t state[26] = {26, 0, 2, 0, 7, 0, 4};
     struct lent a = lend();
-    EXPECT(foldheron_instant(block, sizeof block, state, 22, 1, a.bytes, 79) == FOLDHERON_ANSWER && guarded(&a, 0) && state[4] == 0);
-    EXPECT(foldheron_instant(block, sizeof block, state, 22, 1, a.bytes, FOLDHERON_INSTANT_SIZE) == 0 && told(&a, 80, waits));
-    EXPECT(state[4] == 1 && state[6] == 1);
-    memcpy(kept, state, 22);
-    EXPECT(foldheron_instant(block, sizeof block, state, 22, 2, a.bytes, FOLDHERON_INSTANT_SIZE) == FOLDHERON_INPUT);
-    EXPECT(told(&a, 80, unknown_input) && memcmp(state, kept, 22) == 0);
-    EXPECT(foldheron_instant(block, sizeof block, state, 22, 0, a.bytes, FOLDHERON_INSTANT_SIZE) == 0 && told(&a, 80, ends));
-    EXPECT(state[4] == 2 && state[6] == 0);
+    EXPECT(foldheron_instant(block, sizeof block, state, 26, 1, a.bytes, 79) == FOLDHERON_ANSWER && guarded(&a, 0) && state[8] == 0);
+    EXPECT(foldheron_instant(block, sizeof block, state, 26, 1, a.bytes, FOLDHERON_INSTANT_SIZE) == 0 && told(&a, 80, waits));
+    EXPECT(memcmp(state, running, 26) == 0);
+    EXPECT(foldheron_instant(block, sizeof block, state, 26, 2, a.bytes, FOLDHERON_INSTANT_SIZE) == FOLDHERON_INPUT);
+    EXPECT(told(&a, 80, unknown_input) && memcmp(state, running, 26) == 0);
+    EXPECT(foldheron_instant(block, sizeof block, state, 26, 0, a.bytes, FOLDHERON_INSTANT_SIZE) == 0 && told(&a, 80, ends));
+    EXPECT(memcmp(state, finished, 26) == 0);
 }
 
 static void try_refusals(void)
 {
     static const uint64_t doubt[] = {13, 0, 0, 0, 1, 4, 1, 2, 0, 0}, clash[] = {10, 0, 0, 1, 0, 0, 0, 0, 0, 0};
-    uint8_t state[22] = {22, 0, 2}, both[22] = {22, 0, 2, 0, 1, 0, 3}, kept[22];
+    uint8_t state[26] = {26, 0, 2, 0, 1, 0, 5}, both[26] = {26, 0, 2, 0, 7, 0, 3, 0, 1, 0, 3}, kept[26];
     struct lent a = lend();
-    memcpy(kept, state, 22);
-    EXPECT(foldheron_instant(cycle, sizeof cycle, state, 22, 0, a.bytes, FOLDHERON_INSTANT_SIZE) == FOLDHERON_NOT_CONSTRUCTIVE);
-    EXPECT(told(&a, 80, doubt) && memcmp(state, kept, 22) == 0);
-    memcpy(kept, both, 22);
-    EXPECT(foldheron_instant(pauses, sizeof pauses, both, 22, 0, a.bytes, FOLDHERON_INSTANT_SIZE) == FOLDHERON_CLASH);
-    EXPECT(told(&a, 80, clash) && memcmp(both, kept, 22) == 0);
+    memcpy(kept, state, 26);
+    EXPECT(foldheron_instant(cycle, sizeof cycle, state, 26, 0, a.bytes, FOLDHERON_INSTANT_SIZE) == FOLDHERON_NOT_CONSTRUCTIVE);
+    EXPECT(told(&a, 80, doubt) && memcmp(state, kept, 26) == 0);
+    memcpy(kept, both, 26);
+    EXPECT(foldheron_instant(pauses, sizeof pauses, both, 26, 0, a.bytes, FOLDHERON_INSTANT_SIZE) == FOLDHERON_CLASH);
+    EXPECT(told(&a, 80, clash) && memcmp(both, kept, 26) == 0);
+}
+
+/* A state that names another version or count: after all of 9, before 10 and 11. */
+static void try_other_block(void)
+{
+    static const uint8_t others[][26] = {
+        {26, 0, 2, 0, 8, 0, 3}, {26, 0, 2, 0, 7, 1, 3}, {26, 0, 2, 0, 7, 0, 4, 0, 1, 0, 3}, {26, 0, 2, 0, 7, 0, 3, 1, 2}, {26, 0, 2, 0, 8, 0, 3, 0, 3},
+        {26, 0, 2, 0, 8, 0, 3, 0, 1, 0, 4}};
+    static const uint64_t named[] = {17, 0, 0, 0, 0, 0, 0, 0, 0, 0}, none[] = {9, 0, 0, 0, 0, 0, 0, 0, 0, 0};
+    for (size_t n = 0; n < 6; n++) {
+        uint8_t state[26];
+        struct lent a = lend();
+        memcpy(state, others[n], 26);
+        unsigned wanted = n < 4 ? FOLDHERON_OTHER_BLOCK : FOLDHERON_STATE;
+        EXPECT(foldheron_instant(pauses, sizeof pauses, state, 26, 1, a.bytes, FOLDHERON_INSTANT_SIZE) == wanted);
+        EXPECT(told(&a, 80, n < 4 ? named : none) && memcmp(state, others[n], 26) == 0);
+    }
 }
 
 static void try_logged(void)
 {
     static const uint8_t record[24] = {24, 0, 3, 0, 1, 0, 0, 0, 0, 0, 0, 0, 0, 0, 0, 0, 0, 0, 0, 0, 1, 0, 2, 0};
     static const uint64_t roomless[] = {12, 0, 0, 0, 0, 0, 0, 0, 0, 0, 0}, waits[] = {0, 0, 0, 0, 0, 0, 0, 2, 1, 1, 29};
-    uint8_t state[22] = {22, 0, 2};
+    uint8_t state[26] = {26, 0, 2, 0, 7, 0, 4};
     struct lent a = lend(), log = lend();
-    EXPECT(foldheron_instant_logged(block, sizeof block, state, 22, 1, log.bytes, 28, 5, a.bytes, FOLDHERON_LOGGED_SIZE) == FOLDHERON_ROOM);
-    EXPECT(told(&a, 88, roomless) && guarded(&log, 0) && state[4] == 0);
-    EXPECT(foldheron_instant_logged(block, sizeof block, state, 22, 1, log.bytes, 28, SIZE_MAX, a.bytes, 88) == FOLDHERON_ROOM);
+    EXPECT(foldheron_instant_logged(block, sizeof block, state, 26, 1, log.bytes, 28, 5, a.bytes, FOLDHERON_LOGGED_SIZE) == FOLDHERON_ROOM);
+    EXPECT(told(&a, 88, roomless) && guarded(&log, 0) && state[8] == 0);
+    EXPECT(foldheron_instant_logged(block, sizeof block, state, 26, 1, log.bytes, 28, SIZE_MAX, a.bytes, 88) == FOLDHERON_ROOM);
     EXPECT(told(&a, 88, roomless));
-    EXPECT(foldheron_instant_logged(block, sizeof block, state, 22, 1, log.bytes, 29, 5, a.bytes, 87) == FOLDHERON_ANSWER);
-    EXPECT(told(&a, 88, roomless) && guarded(&log, 0) && state[4] == 0);
-    EXPECT(foldheron_instant_logged(block, sizeof block, state, 22, 1, log.bytes, 29, 5, a.bytes, FOLDHERON_LOGGED_SIZE) == 0);
-    EXPECT(told(&a, 88, waits) && state[4] == 1);
+    EXPECT(foldheron_instant_logged(block, sizeof block, state, 26, 1, log.bytes, 29, 5, a.bytes, 87) == FOLDHERON_ANSWER);
+    EXPECT(told(&a, 88, roomless) && guarded(&log, 0) && state[8] == 0);
+    EXPECT(foldheron_instant_logged(block, sizeof block, state, 26, 1, log.bytes, 29, 5, a.bytes, FOLDHERON_LOGGED_SIZE) == 0);
+    EXPECT(told(&a, 88, waits) && state[8] == 1);
     EXPECT(memcmp(log.bytes + 5, record, FOLDHERON_RECORD_SIZE) == 0 && log.bytes[4] == 0xA5 && guarded(&log, 29));
 }
 
@@ -192,6 +213,7 @@ int main(void)
     try_fresh();
     try_instant();
     try_refusals();
+    try_other_block();
     try_logged();
     try_excerpt();
     printf("calls: %d wrong\n", wrong);

@@ -28,9 +28,14 @@ const CYCLE: [u8; 40] = [
 /// pause; pause, whose two pauses clash.
 const PAUSES: [u8; 26] = [14, 0, 1, 0, 1, 0, 7, 0, 0, 0, 0, 0, 0, 0, 4, 0, 21, 0, 4, 0, 17, 0, 4, 0, 17, 0];
 
-/// A state: its phase and the first of its pauses.
-const fn state(phase: u8, active: u8) -> [u8; 22] {
-    [22, 0, 2, 0, phase, 0, active, 0, 0, 0, 0, 0, 0, 0, 0, 0, 0, 0, 0, 0, 0, 0]
+/// A state: the version and the statement count of its block, its phase and the first of its pauses.
+const fn state_of(version: u8, statements: u8, phase: u8, active: u8) -> [u8; 26] {
+    [26, 0, 2, 0, version, 0, statements, 0, phase, 0, active, 0, 0, 0, 0, 0, 0, 0, 0, 0, 0, 0, 0, 0, 0, 0]
+}
+
+/// A state of the first block.
+const fn state(phase: u8, active: u8) -> [u8; 26] {
+    state_of(7, 4, phase, active)
 }
 
 fn refused(number: u16, place: usize) -> Refusal {
@@ -52,13 +57,14 @@ fn try_check() {
 
 fn try_fresh() {
     let mut lent = [0xA5; 64];
-    expect!(fresh(&BLOCK, &mut lent[8..29]) == Err(refused(9, 0)));
-    expect!(fresh(&BLOCK, &mut lent[8..31]) == Err(refused(9, 0)));
+    expect!(fresh(&BLOCK, &mut lent[8..30]) == Err(refused(9, 0)));
+    expect!(fresh(&BLOCK, &mut lent[8..33]) == Err(refused(9, 0)));
+    expect!(fresh(&BLOCK, &mut lent[8..35]) == Err(refused(9, 0)));
     expect!(fresh(&BLOCK, &mut []) == Err(refused(9, 0)));
-    expect!(fresh(&BLOCK[..33], &mut lent[8..30]) == Err(refused(1, 28)));
+    expect!(fresh(&BLOCK[..33], &mut lent[8..34]) == Err(refused(1, 28)));
     expect!(lent == [0xA5; 64]);
-    expect!(fresh(&BLOCK, &mut lent[8..30]) == Ok(()));
-    expect!(lent[8..30] == state(0, 0) && lent[..8] == [0xA5; 8] && lent[30..] == [0xA5; 34]);
+    expect!(fresh(&BLOCK, &mut lent[8..34]) == Ok(()));
+    expect!(lent[8..34] == state(0, 0) && lent[..8] == [0xA5; 8] && lent[34..] == [0xA5; 30]);
 }
 
 /// The document's run, and one instant more, in which the block is finished.
@@ -73,26 +79,39 @@ fn try_instant() {
 
 fn try_refusals() {
     let doubt = Instant::NotConstructive(Doubt { present: 1, absent: 4, undecided: 1, rounds: 2 });
-    let (mut lent, mut both, mut phase) = (state(0, 0), state(1, 3), state(3, 0));
-    expect!(instant(&CYCLE, &mut lent, 0) == doubt && lent == state(0, 0));
-    expect!(instant(&PAUSES, &mut both, 0) == Instant::Clash(0, 1) && both == state(1, 3));
-    expect!(instant(&BLOCK, &mut both, 0) == Instant::Refused(refused(9, 0)) && both == state(1, 3));
+    let (mut lent, mut both, mut phase) = (state_of(1, 5, 0, 0), state_of(7, 3, 1, 3), state(3, 0));
+    expect!(instant(&CYCLE, &mut lent, 0) == doubt && lent == state_of(1, 5, 0, 0));
+    expect!(instant(&PAUSES, &mut both, 0) == Instant::Clash(0, 1) && both == state_of(7, 3, 1, 3));
+    expect!(instant(&BLOCK, &mut both, 0) == Instant::Refused(refused(9, 0)) && both == state_of(7, 3, 1, 3));
     expect!(instant(&BLOCK, &mut phase, 0) == Instant::Refused(refused(9, 0)) && phase == state(3, 0));
-    expect!(instant(&BLOCK, &mut lent[..21], 0) == Instant::Refused(refused(9, 0)) && lent == state(0, 0));
-    expect!(instant(&BLOCK[..33], &mut lent, 0) == Instant::Refused(refused(1, 28)) && lent == state(0, 0));
+    expect!(instant(&CYCLE, &mut lent[..25], 0) == Instant::Refused(refused(9, 0)) && lent == state_of(1, 5, 0, 0));
+    expect!(instant(&BLOCK[..33], &mut lent, 0) == Instant::Refused(refused(1, 28)) && lent == state_of(1, 5, 0, 0));
+}
+
+/// A state that names another version or count: after all of 9, before 10 and 11.
+fn try_other_block() {
+    let other = Instant::Refused(refused(17, 0));
+    for mut lent in [state_of(8, 3, 0, 0), state_of(7, 2, 0, 0), state_of(7, 4, 1, 3), state_of(3, 7, 2, 0)] {
+        let kept = lent;
+        expect!(instant(&PAUSES, &mut lent, 1) == other && lent == kept);
+    }
+    for mut lent in [state_of(8, 3, 3, 0), state_of(8, 3, 1, 4), state_of(8, 3, 1, 0)] {
+        expect!(instant(&PAUSES, &mut lent, 1) == Instant::Refused(refused(9, 0)));
+    }
 }
 
 fn try_logged() {
     let record = [24, 0, 3, 0, 1, 0, 0, 0, 0, 0, 0, 0, 0, 0, 0, 0, 0, 0, 0, 0, 1, 0, 2, 0];
     let none = Logged { answer: Instant::Refused(refused(12, 0)), end: 0 };
-    let (mut log, mut lent) = ([0xA5; 64], state(0, 0));
+    let (mut log, mut lent, mut other) = ([0xA5; 64], state(0, 0), state_of(1, 5, 0, 0));
     expect!(instant_logged(&BLOCK, &mut lent, 1, &mut log[..28], 5) == none);
     expect!(instant_logged(&BLOCK, &mut lent, 1, &mut log[..28], 29) == none);
     expect!(instant_logged(&BLOCK, &mut lent, 1, &mut log, usize::MAX) == none);
     expect!(instant_logged(&BLOCK, &mut lent, 1, &mut [], 0) == none);
-    let in_doubt = instant_logged(&CYCLE, &mut lent, 0, &mut log, 5);
+    let in_doubt = instant_logged(&CYCLE, &mut other, 0, &mut log, 5);
     expect!(in_doubt.answer.number() == 13 && in_doubt.end == 0);
-    expect!(log == [0xA5; 64] && lent == state(0, 0));
+    expect!(instant_logged(&CYCLE, &mut lent, 0, &mut log, 5) == Logged { answer: Instant::Refused(refused(17, 0)), end: 0 });
+    expect!(log == [0xA5; 64] && lent == state(0, 0) && other == state_of(1, 5, 0, 0));
     let good = Logged { answer: answered(0, 1, 2, 1), end: 29 };
     expect!(instant_logged(&BLOCK, &mut lent, 1, &mut log[..29], 5) == good && lent == state(1, 1));
     expect!(log[..5] == [0xA5; 5] && log[5..29] == record && log[29..] == [0xA5; 35]);
@@ -108,10 +127,11 @@ fn try_excerpt() {
     expect!(excerpt(&BLOCK[..33], 0) == Err(refused(1, 28)));
 }
 
-/// The names in the order of document 01's table, and what a refusal says of itself.
+/// The names in the order of document 01's table, those of later requests, and what a refusal says of itself.
 fn try_names() {
     let names = "BROKEN,KIND,EDITION,LIMIT,SIGNAL,EXIT,SHAPE,LOOP,STATE,CLASH,INPUT,ROOM,NOT CONSTRUCTIVE,INDEX";
     expect!((1..15).filter_map(name_of).collect::<Vec<_>>().join(",") == names);
+    expect!(name_of(17) == Some("OTHER BLOCK"));
     expect!(name_of(0).is_none() && name_of(15).is_none() && name_of(64).is_none() && name_of(u16::MAX).is_none());
     expect!(refused(1, 28).to_string() == "refused with 1, BROKEN, at offset 28 of the block");
     expect!(refused(9, 0).to_string() == "refused with 9, STATE");
@@ -124,6 +144,7 @@ fn main() {
     try_fresh();
     try_instant();
     try_refusals();
+    try_other_block();
     try_logged();
     try_excerpt();
     try_names();

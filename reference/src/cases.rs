@@ -1,6 +1,6 @@
 //! Calls with all that is lent to them, and lines that give the complete answer and every lent byte after.
 
-use crate::block::{decode, Block};
+use crate::block::{decode, Block, Header};
 use crate::chance::Chance;
 use crate::edge_calls::edge_calls;
 use crate::edges::edge_blocks;
@@ -138,11 +138,23 @@ pub fn some_case(chance: &mut Chance) -> Case {
         }
         _ => some_edge_block(chance),
     };
+    let block = with_version(&mut bytes, block, chance);
     let call = some_call(&block, chance);
     if !bytes.is_empty() && chance.percent(12) {
         spoil(&mut bytes, chance);
     }
     Case { block: bytes, call }
+}
+
+/// Another version in the header, three times in four; a header cut short keeps its own.
+fn with_version(bytes: &mut [u8], block: Block, chance: &mut Chance) -> Block {
+    let any = chance.number() as u16;
+    let version = chance.pick(&[0, 1, 2, 7, 255, 256, 65535, any]);
+    if bytes.len() < 8 || chance.percent(25) {
+        return block;
+    }
+    bytes[6..8].copy_from_slice(&version.to_le_bytes());
+    Block { header: Header { version, ..block.header }, ..block }
 }
 
 /// A block at a boundary; where it is refused, a small block stands in for what else is lent.
@@ -156,7 +168,7 @@ fn some_edge_block(chance: &mut Chance) -> (Vec<u8>, Block) {
 fn some_call(block: &Block, chance: &mut Chance) -> Call {
     match chance.weighed(&[2, 1, 12, 4, 2]) {
         0 => Call::Check,
-        1 => Call::Fresh { state: some_bytes(chance.pick(&[22, 22, 22, 21, 23, 0]), chance) },
+        1 => Call::Fresh { state: some_bytes(chance.pick(&[26, 26, 26, 25, 27, 22, 0]), chance) },
         2 => Call::Instant { state: some_state(block, chance), inputs: maybe_bad_inputs(block, chance) },
         3 => {
             let size = chance.pick(&[0, 24, 24, 24, 24]) + chance.below(60);
@@ -188,20 +200,31 @@ fn maybe_bad_inputs(block: &Block, chance: &mut Chance) -> u64 {
 
 /// A state record: mostly legal, else clashing or spoilt.
 fn some_state(block: &Block, chance: &mut Chance) -> Vec<u8> {
-    let mut state = state_record(some_phase(block, chance));
-    match chance.below(40) {
+    let mut state = state_record(block, some_phase(block, chance));
+    match chance.below(44) {
         0 | 1 => {
             let some = (chance.number() as u128) << 64 | chance.number() as u128;
-            state = state_record(Phase::Running(some & block.root.pauses));
+            state = state_record(block, Phase::Running(some & block.root.pauses));
         }
-        2 => state[chance.below(6)] ^= 1 << chance.below(8),
-        3 => state[6 + chance.below(16)] ^= 1 << chance.below(8),
-        4 => state.truncate(chance.below(22)),
+        2 => state[chance.pick(&[0, 1, 2, 3, 8, 9])] ^= 1 << chance.below(8),
+        3 => state[10 + chance.below(16)] ^= 1 << chance.below(8),
+        4 => state.truncate(chance.below(26)),
         5 => state.push(0),
-        6 => state[4] = chance.below(4) as u8,
+        6 => state[8] = chance.below(4) as u8,
         7 => {
             let active = some_active(&block.root, chance) | 1u128.checked_shl(block.pauses as u32).unwrap_or(0);
-            state = state_record(Phase::Running(active));
+            state = state_record(block, Phase::Running(active));
+        }
+        // Running pauses of this block, or of any, under another block's version or count.
+        8 | 9 => state[4 + chance.below(4)] ^= 1 << chance.below(8),
+        10 => {
+            state = state_record(block, Phase::Running(chance.number() as u128 & block.root.pauses));
+            state[4 + chance.below(4)] ^= 1 << chance.below(8);
+        }
+        11 => {
+            let active = chance.number() as u128;
+            state = state_record(block, Phase::Running(active));
+            state[4 + chance.below(4)] ^= 1 << chance.below(8);
         }
         _ => {}
     }

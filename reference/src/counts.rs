@@ -83,11 +83,11 @@ impl<'a> Seen<'a> {
     }
 
     fn phase(&self) -> Option<u8> {
-        self.state().get(4).copied()
+        self.state().get(8).copied()
     }
 
     fn active(&self) -> u128 {
-        self.state().iter().skip(6).rev().fold(0, |all, &byte| all << 8 | byte as u128)
+        self.state().iter().skip(10).rev().fold(0, |all, &byte| all << 8 | byte as u128)
     }
 }
 
@@ -108,11 +108,14 @@ fn possible(call: &str, number: usize) -> bool {
     match call {
         "check" => number <= 8,
         "fresh" => number <= 9,
-        "instant" => number <= 13 && number != 12,
-        "logged" => number <= 13,
+        "instant" => number <= 13 && number != 12 || number == 17,
+        "logged" => number <= 13 || number == 17,
         _ => number <= 8 || number == 14,
     }
 }
+
+/// The greatest number that a call gives.
+const LAST: usize = 17;
 
 fn numbered(call: &str, number: usize) -> String {
     format!("{call} {number}")
@@ -130,7 +133,7 @@ pub fn sorts(case: &Case) -> Vec<String> {
 pub fn all_sorts() -> Vec<String> {
     let mut all: Vec<String> = SORTS.iter().map(|sort| sort.0.to_string()).collect();
     for call in CALLS.iter() {
-        all.extend((0..=14).filter(|&number| possible(call, number)).map(|number| numbered(call, number)));
+        all.extend((0..=LAST).filter(|&number| possible(call, number)).map(|number| numbered(call, number)));
     }
     all
 }
@@ -141,7 +144,7 @@ pub fn print_counts(cases: &[Case]) -> bool {
     cases.iter().flat_map(sorts).for_each(|sort| *counts.entry(sort).or_insert(0) += 1);
     let count = |sort: &str| counts.get(sort).copied().unwrap_or(0);
     println!("{:>8}{}", "number", CALLS.iter().map(|call| format!("{call:>9}")).collect::<String>());
-    for number in 0..=14 {
+    for number in (0..=LAST).filter(|&number| CALLS.iter().any(|call| possible(call, number))) {
         let cell = |call: &&str| match possible(call, number) {
             true => format!("{:9}", count(&numbered(call, number))),
             false => format!("{:>9}", "."),

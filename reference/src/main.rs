@@ -37,6 +37,7 @@ mod shrink;
 mod smallest;
 mod state;
 mod statement;
+mod states;
 mod sweep;
 mod text;
 mod values;
@@ -54,6 +55,7 @@ const USAGE: &str = "subcommands:
   older [N SEED]    N instants (40000, seed 1) beside the older rule of a local's absence
   older-smallest SEED  the smallest block found for each way in which an instant was changed from that rule
   circuits [N SEED] N random blocks (4000, seed 1) and all of up to 5 statements as circuits
+  states [SIZE N SEED]  states lent to other blocks: all blocks up to SIZE statements (3) and N random ones (4000, seed 1)
   bite [CASES]      a case for each fault
   run FOLDER        the run program
   cases [CASES]     lines of calls with their complete answers
@@ -88,6 +90,7 @@ fn main() {
             true
         }
         Some("orders") => orders::print_orders(number(1, 5) as usize, number(2, 8000) as usize, number(3, 1)),
+        Some("states") => states::print_states(number(1, 3) as usize, number(2, 4000) as usize, number(3, 1)),
         Some("older") => older::print_older(number(1, 40_000) as usize, number(2, 1)),
         Some("older-smallest") => older::print_smallest(number(1, 1)),
         Some("circuits") => circuits::print_circuits(5, number(1, 4000) as usize, number(2, 1)),

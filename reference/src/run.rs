@@ -17,10 +17,10 @@ pub fn run_folder(folder: &str) -> String {
 
 /// All that the run program prints.
 pub fn run_lines(block: &[u8], inputs: &[u8]) -> String {
-    if let Err(refusal) = decode(block, Fault::None) {
-        return format!("block {} {}\n", refusal.number, refusal.place);
-    }
-    let mut state = state_record(Phase::Fresh);
+    let mut state = match decode(block, Fault::None) {
+        Ok(read) => state_record(&read, Phase::Fresh),
+        Err(refusal) => return format!("block {} {}\n", refusal.number, refusal.place),
+    };
     let mut lines = String::new();
     for (n, eight) in inputs.chunks(8).enumerate() {
         let given = match eight.try_into() {

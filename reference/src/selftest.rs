@@ -14,11 +14,12 @@ use crate::generate::{some_inputs, some_phase};
 use crate::mutate::some_mixed_block;
 use crate::older::print_older;
 use crate::orders::print_orders;
+use crate::states::print_states;
 use crate::sweep::{sweep, Counts};
 use crate::worked::print_worked;
 
 /// Worked cases, edges, coherence, orders of settling and circuits over all small and some random blocks, the older rule,
-/// and the faults.
+/// states lent to other blocks, and the faults.
 pub fn selftest() -> bool {
     let worked = print_worked();
     let edges = print_edges();
@@ -27,11 +28,12 @@ pub fn selftest() -> bool {
     let orders = print_orders(5, 8000, 1);
     let older = print_older(40_000, 1);
     let circuits = print_circuits(5, 4000, 1);
+    let states = print_states(3, 4000, 1);
     let cases = cases(COUNT, &SEEDS);
     let kept = print_kept(&cases);
     let sorts = print_counts(&cases);
     let bites = print_bites(&cases, false);
-    worked && edges && coherent && random && orders && older && circuits && kept && sorts && bites
+    worked && edges && coherent && random && orders && older && circuits && states && kept && sorts && bites
 }
 
 /// Whether cases written as bytes are read back as they were.

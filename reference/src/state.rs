@@ -14,8 +14,9 @@ pub const INPUT: u16 = 11;
 pub const ROOM: u16 = 12;
 pub const NOT_CONSTRUCTIVE: u16 = 13;
 pub const INDEX: u16 = 14;
+pub const OTHER_BLOCK: u16 = 17;
 
-pub const STATE_SIZE: usize = 22;
+pub const STATE_SIZE: usize = 26;
 pub const LOG_SIZE: usize = 24;
 
 /// What a call gives back; number 0 is an answer, and every field not named is 0.
@@ -46,15 +47,16 @@ impl Answer {
     }
 }
 
-/// The 22 bytes of a state.
-pub fn state_record(phase: Phase) -> Vec<u8> {
+/// The 26 bytes of a state: it names its block by version and statement count.
+pub fn state_record(block: &Block, phase: Phase) -> Vec<u8> {
+    let (version, count) = (block.header.version, block.statements as u16);
     let number: u16 = match phase {
         Phase::Fresh => 0,
         Phase::Running(_) => 1,
         Phase::Finished => 2,
     };
     let mut bytes = Vec::with_capacity(STATE_SIZE);
-    [STATE_SIZE as u16, 2, number].iter().for_each(|word| bytes.extend(word.to_le_bytes()));
+    [STATE_SIZE as u16, 2, version, count, number].iter().for_each(|word| bytes.extend(word.to_le_bytes()));
     bytes.extend(active_of(phase).to_le_bytes());
     bytes
 }
@@ -76,18 +78,24 @@ fn summary(block: &Block, fault: Fault) -> [usize; 6] {
     [version as usize, inputs as usize, outputs as usize, locals as usize, statements, pauses]
 }
 
-/// Writes a fresh state; after 1 to 8, a size other than 22 gets 9.
+/// Writes a fresh state with the block's version and statement count; after 1 to 8, a size other than 26 gets 9.
 pub fn fresh(block: &[u8], state: &mut [u8], fault: Fault) -> Answer {
-    let answer = check(block, fault);
+    let read = match decode(block, fault) {
+        Ok(read) => read,
+        Err(refusal) => return Answer::of_block(refusal),
+    };
     let larger = state.len() > STATE_SIZE && fault == Fault::FreshOfAnySize;
-    if answer.number != 0 {
-        return answer;
-    }
     if state.len() != STATE_SIZE && !larger {
         return Answer::refused(STATE);
     }
-    state[..STATE_SIZE].copy_from_slice(&state_record(Phase::Fresh));
-    answer
+    state[..STATE_SIZE].copy_from_slice(&state_record(&read, Phase::Fresh));
+    match fault {
+        Fault::FreshWithoutVersion => state[4..6].fill(0),
+        Fault::FreshCountsPauses => state[6..8].copy_from_slice(&(read.pauses as u16).to_le_bytes()),
+        Fault::NameTurnedRound => state[4..8].rotate_left(2),
+        _ => {}
+    }
+    Answer { summary: summary(&read, fault), ..Answer::default() }
 }
 
 /// The part of the lent block that holds a statement and all below it.
@@ -117,7 +125,7 @@ pub fn instant(block: &[u8], state: &mut [u8], inputs: u64, fault: Fault) -> Ans
         Err(answer) => answer,
         Ok((block, phase)) => {
             let reaction = Rules { fault }.react(&block, phase, inputs);
-            settle(state, reaction, fault)
+            settle(&block, state, reaction, fault)
         }
     }
 }
@@ -131,7 +139,7 @@ pub fn instant_with_log(
         Ok(both) => both,
     };
     let reaction = Rules { fault }.react(&block, phase, inputs);
-    let answer = settle(state, reaction, fault);
+    let answer = settle(&block, state, reaction, fault);
     if answer.number != 0 && fault != Fault::LogWrittenOnRefusal {
         return answer;
     }
@@ -157,16 +165,19 @@ fn log_record(inputs: u64, present: u64, reaction: Reaction) -> Vec<u8> {
 }
 
 /// Gives the answer of a reaction and writes the next state over the lent one.
-fn settle(state: &mut [u8], reaction: Reaction, fault: Fault) -> Answer {
+fn settle(block: &Block, state: &mut [u8], reaction: Reaction, fault: Fault) -> Answer {
     let answer = Answer { present: reaction.present, rounds: reaction.rounds, ..Answer::default() };
     if reaction.code.is_none() {
         if fault == Fault::StateWrittenOnRefusal {
-            state.copy_from_slice(&state_record(Phase::Finished));
+            state.copy_from_slice(&state_record(block, Phase::Finished));
         }
         let undecided = if fault == Fault::UndecidedNotGiven { 0 } else { reaction.undecided };
         return Answer { number: NOT_CONSTRUCTIVE, absent: reaction.absent, undecided, ..answer };
     }
-    state[..STATE_SIZE].copy_from_slice(&state_record(reaction.next));
+    state[..STATE_SIZE].copy_from_slice(&state_record(block, reaction.next));
+    if fault == Fault::NextWithoutName {
+        state[4..8].fill(0);
+    }
     if fault == Fault::UpperWordUnwritten {
         state[STATE_SIZE - 8..STATE_SIZE].fill(0);
     }
@@ -179,7 +190,7 @@ fn settle(state: &mut [u8], reaction: Reaction, fault: Fault) -> Answer {
     }
 }
 
-/// The block and the state of an instant, tested in order: 1 to 8, then 9, 10, 11 and, with a log, 12.
+/// The block and the state of an instant, tested in order: 1 to 8, then 9, 17, 10, 11 and, with a log, 12.
 fn prepare(
     block: &[u8], state: &[u8], inputs: u64, log: Option<(usize, u64)>, fault: Fault,
 ) -> Result<(Block, Phase), Answer> {
@@ -188,10 +199,20 @@ fn prepare(
     let room_bad = log.map_or(false, |(size, end)| no_room(size, end, fault));
     let phase = read_state(state, &block, fault);
     let clash = first_clash(state, &block, fault);
+    let other = names_other(state, &block, fault);
+    if fault == Fault::OtherBlockBeforeState && other {
+        return Err(Answer::refused(OTHER_BLOCK));
+    }
     if fault == Fault::ClashBeforeState && clash.is_some() {
         return Err(clash_answer(clash));
     }
     let phase = phase.ok_or_else(|| Answer::refused(STATE))?;
+    if fault == Fault::ClashBeforeOtherBlock && clash.is_some() {
+        return Err(clash_answer(clash));
+    }
+    if other {
+        return Err(Answer::refused(if fault == Fault::OtherBlockIsState { STATE } else { OTHER_BLOCK }));
+    }
     if fault == Fault::InputBeforeClash && input_bad {
         return Err(Answer::refused(INPUT));
     }
@@ -238,7 +259,7 @@ fn word(bytes: &[u8], at: usize) -> u16 {
 
 fn bits(state: &[u8]) -> u128 {
     let mut sixteen = [0; 16];
-    sixteen.copy_from_slice(&state[6..STATE_SIZE]);
+    sixteen.copy_from_slice(&state[10..STATE_SIZE]);
     u128::from_le_bytes(sixteen)
 }
 
@@ -247,7 +268,7 @@ fn taken_up(active: u128, fault: Fault) -> u128 {
     if fault == Fault::UpperWordUnread && active as u64 != 0 { active & u64::MAX as u128 } else { active }
 }
 
-/// STATE: anything but 22 bytes of a good phase with the bits it may have.
+/// STATE: anything but 26 bytes of a good phase with the bits it may have.
 fn read_state(state: &[u8], block: &Block, fault: Fault) -> Option<Phase> {
     let size_good = state.len() == STATE_SIZE || fault == Fault::StateOfAnySize && state.len() > STATE_SIZE;
     if !size_good {
@@ -261,7 +282,7 @@ fn read_state(state: &[u8], block: &Block, fault: Fault) -> Option<Phase> {
     if !length_good || !kind_good || !bits_good {
         return None;
     }
-    match word(state, 4) {
+    match word(state, 8) {
         0 if active == 0 || fault == Fault::BitsWhileFresh => Some(Phase::Fresh),
         1 if active != 0 => Some(Phase::Running(taken_up(active, fault))),
         1 if fault == Fault::RunningWithoutPauses => Some(Phase::Finished),
@@ -269,6 +290,17 @@ fn read_state(state: &[u8], block: &Block, fault: Fault) -> Option<Phase> {
         3 if fault == Fault::PhaseThreeAllowed => Some(Phase::Finished),
         _ => None,
     }
+}
+
+/// OTHER BLOCK: the version or the statement count is not this block's.
+fn names_other(state: &[u8], block: &Block, fault: Fault) -> bool {
+    if state.len() < STATE_SIZE {
+        return false;
+    }
+    let version = word(state, 4) != block.header.version && fault != Fault::StateVersionUnread;
+    let count = word(state, 6) as usize != block.statements && fault != Fault::StateCountUnread;
+    let later = word(state, 4) > block.header.version;
+    if fault == Fault::NewerVersionAllowed { later || count } else { version || count }
 }
 
 /// The first pair of active pauses that are not compatible: lowest first pause, then lowest second.

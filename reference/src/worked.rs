@@ -1,12 +1,12 @@
 //! Every worked instant, check, state case and the run example, against what the documents say.
 
-use crate::block::{decode, encode_tokens, EXIT, LIMIT, LOOP};
+use crate::block::{decode, encode_tokens, Header, EXIT, LIMIT, LOOP};
 use crate::coherence::{reactions, Slip};
 use crate::fault::Fault;
 use crate::reaction::Phase;
 use crate::row::{agrees, header_of, Row};
 use crate::run::run_lines;
-use crate::state::{instant, state_record, CLASH};
+use crate::state::{fresh, instant, state_record, Answer, CLASH, OTHER_BLOCK, STATE_SIZE};
 use crate::text::read_statement;
 
 /// Name and row; what the document leaves open is `?` or `...`.
@@ -78,6 +78,7 @@ pub fn worked_cases() -> Vec<(String, bool)> {
     }
     cases.push(("clash of a sequence".to_string(), clash()));
     cases.push(("run program".to_string(), run_example()));
+    cases.extend(named_states());
     cases
 }
 
@@ -91,7 +92,8 @@ fn one_reaction(text: &str) -> bool {
 fn clash() -> bool {
     let tokens = read_statement("(seq pause pause)");
     let bytes = encode_tokens(header_of(0, 0, &tokens), &tokens);
-    let mut state = state_record(Phase::Running(3));
+    let read = decode(&bytes, Fault::None).expect("a good block");
+    let mut state = state_record(&read, Phase::Running(3));
     let before = state.clone();
     let answer = instant(&bytes, &mut state, 0, Fault::None);
     (answer.number, answer.first, answer.second) == (CLASH, 0, 1) && state == before
@@ -100,6 +102,31 @@ fn clash() -> bool {
 fn run_example() -> bool {
     let inputs: Vec<u8> = [1u64, 1, 0].iter().flat_map(|set| set.to_le_bytes()).collect();
     run_lines(&RUN_BLOCK, &inputs) == "1 0 1 0 1 2\n2 0 1 0 1 2\n3 0 0 2 0 2\n"
+}
+
+/// The block of the run example: a fresh state names version 7 and 4 statements, and so does the next. Of two blocks with one
+/// version and as many statements it cannot tell which it is.
+fn named_states() -> Vec<(String, bool)> {
+    let mut state = vec![0xA5; STATE_SIZE];
+    let written = fresh(&RUN_BLOCK, &mut state, Fault::None).number == 0;
+    let first = [&[26, 0, 2, 0, 7, 0, 4, 0, 0, 0][..], &[0; 16]].concat();
+    let mut cases = vec![("a fresh state".to_string(), written && state == first)];
+    let answered = instant(&RUN_BLOCK, &mut state, 1, Fault::None).number == 0;
+    let second = [&[26, 0, 2, 0, 7, 0, 4, 0, 1, 0, 1][..], &[0; 15]].concat();
+    cases.push(("the next state".to_string(), answered && state == second));
+    let mut version = RUN_BLOCK;
+    version[6] = 8;
+    let refused = instant(&version, &mut state, 0, Fault::None) == Answer { number: OTHER_BLOCK, ..Answer::default() };
+    cases.push(("a state of another version".to_string(), refused && state == second));
+    let block = |text: &str| {
+        let tokens = read_statement(text);
+        encode_tokens(Header { version: 0, ..header_of(0, 0, &tokens) }, &tokens)
+    };
+    let mut state = vec![0; STATE_SIZE];
+    fresh(&block("nothing"), &mut state, Fault::None);
+    let taken = instant(&block("pause"), &mut state, 0, Fault::None);
+    cases.push(("a block that is not told apart".to_string(), (taken.number, taken.code, taken.active) == (0, 1, 1)));
+    cases
 }
 
 /// Prints each failure and the counts; true if there is none.

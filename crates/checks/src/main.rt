@@ -1,4 +1,4 @@
-// Checks blocks, fresh states and excerpts at the boundaries of each refusal, with the numbers of document 01 written by hand, and says
+// Checks blocks, fresh states, states of other blocks and excerpts at the boundaries of each refusal, with the numbers of document 01 written by hand, and says
 // of each case what came and whether it is what was expected. The blocks stand in the file stdin, a line for each: the name of the case, a
 // bar, the number and the place expected, and how the block is made (see pages::block).
 mod lines;
@@ -6,6 +6,7 @@ mod pages;
 
 use foldheron::Begun;
 use foldheron::Checked;
+use foldheron::Instant;
 use foldheron::Why;
 use libc::STDIN_FILENO;
 use libc::STDOUT_FILENO;
@@ -32,6 +33,7 @@ fn number(w: Why) -> u64 {
         Why::Room => 12,
         Why::NotConstructive => 13,
         Why::Index => 14,
+        Why::OtherBlock => 17,
     }
 }
 
@@ -113,31 +115,70 @@ fn byte(bytes: &[u8], i: usize) -> u64 {
     if i < bytes.len() { wide(bytes[i]) } else { 256 }
 }
 
-// A block of one nothing.
+// A block of one nothing, of version 5.
 fn nothing() -> [u8; 18] {
-    [14, 0, 1, 0, 1, 0, 0, 0, 0, 0, 0, 0, 0, 0, 4, 0, 16, 0]
+    [14, 0, 1, 0, 1, 0, 5, 0, 0, 0, 0, 0, 0, 0, 4, 0, 16, 0]
 }
 
 fn turned_down(good: &[u8], state: &mut [u8]) {
-    begun(b"fresh into 21 bytes ", good, state, 21, 9, 0);
-    begun(b"fresh into 23 bytes ", good, state, 23, 9, 0);
-    begun(b"fresh of a bad block ", b"\x0e", state, 22, 1, 0);
+    begun(b"fresh into 22 bytes ", good, state, 22, 9, 0);
+    begun(b"fresh into 25 bytes ", good, state, 25, 9, 0);
+    begun(b"fresh into 27 bytes ", good, state, 27, 9, 0);
+    begun(b"fresh of a bad block ", b"\x0e", state, 26, 1, 0);
     say(b"first byte kept ", byte(state, 0), 0, 7, 0);
 }
 
 fn written(good: &[u8], state: &mut [u8]) {
-    begun(b"fresh into 22 bytes ", good, state, 22, 0, 0);
-    say(b"first byte ", byte(state, 0), 0, 22, 0);
+    begun(b"fresh into 26 bytes ", good, state, 26, 0, 0);
+    say(b"first byte ", byte(state, 0), 0, 26, 0);
     say(b"third byte ", byte(state, 2), 0, 2, 0);
-    say(b"twenty-second byte ", byte(state, 21), 0, 0, 0);
-    say(b"byte after it ", byte(state, 22), 0, 7, 0);
+    say(b"twenty-sixth byte ", byte(state, 25), 0, 0, 0);
+    say(b"byte after it ", byte(state, 26), 0, 7, 0);
+}
+
+// A fresh state names its block.
+fn names(state: &[u8]) {
+    say(b"its version ", byte(state, 4), 0, 5, 0);
+    say(b"its statements ", byte(state, 6), 0, 1, 0);
 }
 
 fn fresh_states() {
     let good = nothing();
-    let mut state = [7u8; 23];
+    let mut state = [7u8; 27];
     turned_down(&good, &mut state);
     written(&good, &mut state);
+    names(&state);
+}
+
+// Another byte at a place.
+fn changed(bytes: &mut [u8], at: usize, other: u8) {
+    if at < bytes.len() {
+        bytes[at] = other;
+    }
+}
+
+// An instant on a fresh state of which one byte is another.
+fn on_state(name: &[u8], good: &[u8], at: usize, other: u8, expected: u64) {
+    let mut state = [0u8; 26];
+    begun(b"fresh ", good, &mut state, 26, 0, 0);
+    changed(&mut state, at, other);
+    match foldheron::instant(good, &mut state, 0) {
+        Instant::Answered(r) => say(name, 0, 0, expected, 0),
+        Instant::NotConstructive(d) => say(name, 13, 0, expected, 0),
+        Instant::Clash(m, n) => say(name, 10, 0, expected, 0),
+        Instant::Refused(w, place) => say(name, number(w), place, expected, 0),
+    }
+}
+
+// OTHER BLOCK comes after STATE; the right names go through.
+fn named_states() {
+    let good = nothing();
+    on_state(b"the block's own state ", &good, 4, 5, 0);
+    on_state(b"another version ", &good, 4, 6, 17);
+    on_state(b"another version by its second byte ", &good, 5, 1, 17);
+    on_state(b"another statement count ", &good, 6, 2, 17);
+    on_state(b"a bit at or above the pause count ", &good, 10, 1, 9);
+    on_state(b"another phase ", &good, 8, 3, 9);
 }
 
 // The excerpt of a statement of a block: number and place, then first byte of its kind and its length.
@@ -165,5 +206,6 @@ fn main() {
     let n = io::read_full(STDIN_FILENO, &mut text);
     cases(part(&text, n));
     fresh_states();
+    named_states();
     excerpts();
 }

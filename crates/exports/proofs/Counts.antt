@@ -50,7 +50,7 @@ begun-sized false = record { counted = refl; small = lit≤ tt }
 
 pub begun-counted : (b s : List ℕ) → Counted 2 (begun-owed (reading b) s)
 unfolding begun-owed
-begun-counted b s = by-reading (λ x. begun-owed x s) b (λ g. begun-sized (eqb (length s) 22)) (λ n at l. record { counted = refl; small = l })
+begun-counted b s = by-reading (λ x. begun-owed x s) b (λ g. begun-sized (eqb (length s) 26)) (λ n at l. record { counted = refl; small = l })
 
 part-found : (t : Bool) (p : Part) → p .number ≡ 0 → Counted 4 (part-values (cond t p (absent-part 14 0)))
 part-found true p e = record { counted = refl; small = omega arith }

@@ -7,7 +7,6 @@ use mathlib.Core.List.{List, [], _∷_}
 use mathlib.Core.Option.{Option, none, some}
 use Prim.Native.Nat.{ℕ, _+_, _≤_}
 use native.Mathlib.Omega.{arith}
-use native.Mathlib.Decide.{ℕ-discrete}
 use lib.Dec.{T}
 use lib.ListN.{length}
 use denote.Enum.Declared.{tagOf}
@@ -18,35 +17,28 @@ use Rattle.rules.specs.States.{State, active-of}
 use Rattle.rules.specs.Rounds.{answered, not-constructive}
 use Rattle.block.specs.Format.{Good, Reading, good, turned-down, reading}
 use Rattle.block.proofs.GoodReadings.{In-range, numbers}
-use Rattle.records.specs.StateRecord.{Found, not-a-state, state, read-state, Pair as Pairing, first-clash, undeclared-input}
+use Rattle.records.specs.StateRecord.{state-size, version-in, statements-in, Found, not-a-state, state, read-state, names-block, Pair as Pairing, first-clash, undeclared-input}
 use Rattle.records.specs.LogRecord.{no-room, logged-at}
 use Rattle.records.specs.Held.{state-bytes}
-use Rattle.records.proofs.Reading.{read-sized}
+use Rattle.records.proofs.Reading.{found-sized}
 use Rattle.reaction.specs.declared.Instant.{Instant}
 use Rattle.reaction.specs.declared.Instant.the-variants.{Refused, Clash, Answered, NotConstructive}
 use Rattle.reaction.specs.declared.Reaction.{Reaction}
 use Rattle.reaction.specs.declared.Outcome.{Outcome}
 use Rattle.reaction.proofs.Instant.{the-type}
-use Rattle.reaction.specs.Fronts.{stopped, ready, try-inputs, try-clash, try-state, try-block, front}
+use Rattle.reaction.specs.Fronts.{stopped, ready, try-inputs, try-clash, clash-tried, try-names, try-state, try-block, front}
 use Rattle.reaction.specs.Instants.{Verdict, refused, clash, reacted, Told, told, goes-on, verdict, logged-verdict, state-after, log-after, end-after}
 use Rattle.reaction.specs.Answers.{instant-told}
 use Rattle.reaction.specs.Outcomes.{Writes, case-of, case-for, Comes}
 
--- What the tests leave behind: a refusal's number is a listed one, and a reaction has 22 lent bytes for the state and room in the log.
+-- What the tests leave behind: a refusal's number is a listed one, and a reaction has as many lent bytes as a state's record and room in the log.
 unfoldable pub Leaves : Verdict → List ℕ → Bool → Type 0
 Leaves (refused n at) s roomless = T (has-refusal n)
 Leaves (clash pair) s roomless = Unit {0}
-Leaves (reacted b a) s roomless = (length s ≡ 22) × (roomless ≡ false)
-
-found-sized : (n : ℕ) (s : List ℕ) (st : State) → read-state n s ≡ state st → length s ≡ 22
-found-sized n s st e = go (ℕ-discrete (length s) 22)
-  where
-    go : Dec (length s ≡ 22) → length s ≡ 22
-    go (yes h) = h
-    go (no h) = let d : not-a-state ≡ state st = read-sized n s h ∙ e in let z : _≡_ {A = ℕ} 0 1 = cc in absurd (omega arith)
+Leaves (reacted b a) s roomless = (length s ≡ state-size) × (roomless ≡ false)
 
 module _ (given : ℕ) (roomless : Bool) (s : List ℕ) where
-  inputs-leave : (g : Good) (st : State) → length s ≡ 22 → Leaves (goes-on given roomless (try-inputs g st given)) s roomless
+  inputs-leave : (g : Good) (st : State) → length s ≡ state-size → Leaves (goes-on given roomless (try-inputs g st given)) s roomless
   unfolding Leaves try-inputs goes-on has-number number
   inputs-leave g st h = go (undeclared-input (g .header .inputs) given) roomless refl
     where
@@ -55,15 +47,23 @@ module _ (given : ℕ) (roomless : Bool) (s : List ℕ) where
       go false true e = tt
       go false false e = (h, e)
 
-  clash-leaves : (g : Good) (st : State) → length s ≡ 22 → (c : Option Pairing) → Leaves (goes-on given roomless (try-clash g st given c)) s roomless
+  clash-leaves : (g : Good) (st : State) → length s ≡ state-size → (c : Option Pairing) → Leaves (goes-on given roomless (try-clash g st given c)) s roomless
   unfolding Leaves try-clash goes-on
   clash-leaves g st h none = inputs-leave g st h
   clash-leaves g st h (some pair) = tt
 
-  state-leaves : (g : Good) (f : Found) → read-state (g .pauses) s ≡ f → Leaves (goes-on given roomless (try-state g given f)) s roomless
+  names-leave : (g : Good) (st : State) → length s ≡ state-size → Leaves (goes-on given roomless (try-names g st s given)) s roomless
+  unfolding Leaves try-names goes-on has-number number
+  names-leave g st h = go (names-block (g .header .version) (g .statements) s)
+    where
+      go : (x : Bool) → Leaves (goes-on given roomless (cond x (clash-tried g st given) (stopped 17 0))) s roomless
+      go true = clash-leaves g st h (first-clash (g .body) (active-of st))
+      go false = tt
+
+  state-leaves : (g : Good) (f : Found) → read-state (g .pauses) s ≡ f → Leaves (goes-on given roomless (try-state g s given f)) s roomless
   unfolding Leaves try-state goes-on has-number number
   state-leaves g not-a-state e = tt
-  state-leaves g (state st) e = clash-leaves g st (found-sized (g .pauses) s st e) (first-clash (g .body) (active-of st))
+  state-leaves g (state st) e = names-leave g st (found-sized (g .pauses) s st e)
 
 pub leaves : (b s : List ℕ) (given : ℕ) (roomless : Bool) → Leaves (verdict b s given roomless) s roomless
 unfolding Leaves verdict front try-block goes-on
@@ -79,9 +79,9 @@ apart m n e f = absurd (f e)
 
 -- An answered instant comes from an answer of the rules, and has its fields.
 pub record WasAnswered (v : Verdict) (s : List ℕ) (roomless : Bool) (o : Outcome) (r : Reaction) : Type 0 where
-  pub sized : length s ≡ 22
+  pub sized : length s ≡ state-size
   pub room : roomless ≡ false
-  pub state-is : state-after s v ≡ state-bytes (o .phase) (o .kept)
+  pub state-is : state-after s v ≡ state-bytes (version-in s) (statements-in s) (o .phase) (o .kept)
   pub log-is : (log : List ℕ) (end given : ℕ)
       → log-after log end given v ≡ logged-at log end (record { inputs = given; present = r .present; code = r .code .0; rounds = r .rounds })
   pub end-is : (end : ℕ) → end-after end v ≡ end + 24
@@ -96,7 +96,7 @@ answered-by (reacted b (answered outs k st n)) s roomless o r l c e =
     record {
       sized = l .0;
       room = l .1;
-      state-is = sym (c .writes);
+      state-is = sym (c .writes (version-in s) (statements-in s));
       log-is = λ log end given. ap (λ (x : Told). logged-at log end (record { inputs = given; present = x .present-outputs; code = x .code; rounds = x .rounds })) (sym t);
       end-is = λ end. refl;
     }

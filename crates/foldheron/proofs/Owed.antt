@@ -19,7 +19,7 @@ use Rattle.block.specs.Format.{Good, Reading, good, reading, preorder, numbered
 use Rattle.block.specs.Told.{ReadWhole}
 use Rattle.block.specs.Codes.{Tabled, Listed}
 use Rattle.block.specs.declared.whole.Summary.{Summary}
-use Rattle.records.specs.StateRecord.{state-record}
+use Rattle.records.specs.StateRecord.{state-size, state-record}
 use Rattle.records.specs.Held.{state-bytes}
 use Rattle.records.proofs.Writing.{fresh-written as fresh-record}
 use Rattle.block.specs.declared.whole.Checked.{Checked}
@@ -63,28 +63,29 @@ module _ (b : List ℕ) {tab : Table} {a : Checked} (w : ReadWhole (reading b) t
     unfolding check-values check-owed
     check-good = ap (λ (s : Summary). check-values (GoodOne s)) (sym (was-good w e .2)) ∙ ap check-owed (sym is-good)
 
-    pub fresh-written : (state : List ℕ) → length state ≡ 22 → begun-values Fresh ≡ begun-owed (reading b) state
+    pub fresh-written : (state : List ℕ) → length state ≡ state-size → begun-values Fresh ≡ begun-owed (reading b) state
     unfolding begun-values begun-owed
     fresh-written state l =
-        let q : begun-owed (good g) state ≡ 0 ∷ 0 ∷ [] = simp (eq-eqb (length state) 22 l) in
+        let q : begun-owed (good g) state ≡ 0 ∷ 0 ∷ [] = simp (eq-eqb (length state) state-size l) in
         sym (ap (λ (x : Reading). begun-owed x state) is-good ∙ q)
 
-    pub state-written : (state : List ℕ) → length state ≡ 22 → state-bytes 0 (0 ∷ 0 ∷ []) ≡ state-owed (reading b) state
+    pub state-written : (state : List ℕ) → length state ≡ state-size → state-bytes (s .version) (s .statements) 0 (0 ∷ 0 ∷ []) ≡ state-owed (reading b) state
     unfolding state-owed
     state-written state l =
-        let q : state-owed (good g) state ≡ state-record fresh = simp (eq-eqb (length state) 22 l) in
-        fresh-record ∙ sym (ap (λ (x : Reading). state-owed x state) is-good ∙ q)
+        let q : state-owed (good g) state ≡ state-record (g .header .version) (g .statements) fresh = simp (eq-eqb (length state) state-size l) in
+        fresh-record (s .version) (s .statements) ∙ ap (λ (y : Summary). state-record (y .version) (y .statements) fresh) (sym (was-good w e .2))
+        ∙ sym (ap (λ (x : Reading). state-owed x state) is-good ∙ q)
 
-    pub other-size : (state : List ℕ) → (length state ≡ 22 → ⊥) → begun-values (TurnedDown State 0) ≡ begun-owed (reading b) state
+    pub other-size : (state : List ℕ) → (length state ≡ state-size → ⊥) → begun-values (TurnedDown State 0) ≡ begun-owed (reading b) state
     unfolding begun-values begun-owed number
     other-size state n =
-        let q : begun-owed (good g) state ≡ 9 ∷ 0 ∷ [] = simp (ne-eqb (length state) 22 n) in
+        let q : begun-owed (good g) state ≡ 9 ∷ 0 ∷ [] = simp (ne-eqb (length state) state-size n) in
         sym (ap (λ (x : Reading). begun-owed x state) is-good ∙ q)
 
-    pub other-stays : (state : List ℕ) → (length state ≡ 22 → ⊥) → state ≡ state-owed (reading b) state
+    pub other-stays : (state : List ℕ) → (length state ≡ state-size → ⊥) → state ≡ state-owed (reading b) state
     unfolding state-owed
     other-stays state n =
-        let q : state-owed (good g) state ≡ state = simp (ne-eqb (length state) 22 n) in
+        let q : state-owed (good g) state ≡ state = simp (ne-eqb (length state) state-size n) in
         sym (ap (λ (x : Reading). state-owed x state) is-good ∙ q)
 
     -- The part of a good block.

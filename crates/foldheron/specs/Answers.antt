@@ -10,7 +10,7 @@ use Rattle.rules.specs.States.{fresh}
 use Rattle.block.specs.Format.{Reading, good, turned-down, preorder, numbered, bytes, offset}
 use Rattle.block.specs.declared.whole.Checked.{Checked}
 use Rattle.block.specs.declared.whole.Checked.the-variants.{Good, Refused}
-use Rattle.records.specs.StateRecord.{state-record}
+use Rattle.records.specs.StateRecord.{state-size, state-record}
 use Rattle.foldheron.specs.declared.Begun.{Begun}
 use Rattle.foldheron.specs.declared.Begun.the-variants.{Fresh, TurnedDown}
 use Rattle.foldheron.specs.declared.Part.{Part}
@@ -31,14 +31,14 @@ unfoldable pub begun-values : Begun → List ℕ
 begun-values Fresh = 0 ∷ 0 ∷ []
 begun-values (TurnedDown w at) = number w ∷ at ∷ []
 
--- After 1 to 8, a state of another size than 22 bytes gets 9.
+-- After 1 to 8, a state of another size than the record's gets 9.
 unfoldable pub begun-owed : Reading → List ℕ → List ℕ
-begun-owed (good g) state = cond (eqb (length state) 22) (0 ∷ 0 ∷ []) (9 ∷ 0 ∷ [])
+begun-owed (good g) state = cond (eqb (length state) state-size) (0 ∷ 0 ∷ []) (9 ∷ 0 ∷ [])
 begun-owed (turned-down n at) state = n ∷ at ∷ []
 
--- The state's bytes after the call: a fresh record, or as they were.
+-- The state's bytes after the call: a fresh record that names the block, or as they were.
 unfoldable pub state-owed : Reading → List ℕ → List ℕ
-state-owed (good g) state = cond (eqb (length state) 22) (state-record fresh) state
+state-owed (good g) state = cond (eqb (length state) state-size) (state-record (g .header .version) (g .statements) fresh) state
 state-owed (turned-down n at) state = state
 
 -- A refusal has no part.

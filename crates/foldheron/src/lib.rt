@@ -11,6 +11,7 @@ pub use reaction::Reaction;
 use reaction::comes_to;
 use records::log::no_room;
 use records::log::write_at_end;
+use records::state::write_next;
 use records::state::write_state;
 pub use refusals::Why;
 pub use refusals::number_of;
@@ -53,7 +54,7 @@ pub fn check(block: &[u8]) -> Checked
     read_block(block, &mut kinds, &mut operands, &mut sizes)
 }
 
-// Writes a fresh state of a block into 22 lent bytes: numbers 1 to 8, then 9 for another size. A refusal changes no byte.
+// Writes a fresh state of a block, which names it, into 26 lent bytes: numbers 1 to 8, then 9 for another size. A refusal changes no byte.
 pub fn fresh(block: &[u8], state: &mut [u8]) -> Begun
     ensures { λ r. ⌜ begun-values r ≡ begun-owed (reading (now (block .entry))) (now (state .entry)) ⌝ }
     ensures { λ _. ⌜ now (state .exit) ≡ state-owed (reading (now (block .entry))) (now (state .entry)) ⌝ }
@@ -63,11 +64,11 @@ pub fn fresh(block: &[u8], state: &mut [u8]) -> Begun
     let mut sizes = [0u16; 512];
     let answer = read_block(block, &mut kinds, &mut operands, &mut sizes);
     match answer {
-        Checked::Good(_) => {
-            if state.len() != 22 {
+        Checked::Good(s) => {
+            if state.len() != 26 {
                 return Begun::TurnedDown(Why::State, 0);
             }
-            write_state(state, 0, [0, 0]);
+            write_state(state, s.version, s.statements, 0, [0, 0]);
             Begun::Fresh
         }
         Checked::Refused(why, at) => Begun::TurnedDown(why, at),
@@ -143,7 +144,7 @@ pub fn excerpt<'a>(block: &'a [u8], n: usize, number: &mut u16, place: &mut usiz
     cut(block, start, end)
 }
 
-// Runs one instant: numbers 1 to 8, then 9, 10 with the pair, 11, 13. An answered one writes the next state over the lent state; a
+// Runs one instant: numbers 1 to 8, then 9, 17, 10 with the pair, 11, 13. An answered one writes the next state over the lent state; a
 // refusal changes no byte.
 pub fn instant(block: &[u8], state: &mut [u8], inputs: u64) -> Instant
     ensures { λ r. ⌜ instant-told r ≡ told (instant-verdict (now (block .entry)) (now (state .entry)) inputs) ⌝ }
@@ -156,7 +157,7 @@ pub fn instant(block: &[u8], state: &mut [u8], inputs: u64) -> Instant
     let Instant::Answered(_) = answer else {
         return answer;
     };
-    write_state(state, phase, kept);
+    write_next(state, phase, kept);
     answer
 }
 
@@ -182,7 +183,7 @@ pub fn instant_logged(
     let Instant::Answered(r) = answer else {
         return Logged { answer, end: 0 };
     };
-    write_state(state, phase, kept);
+    write_next(state, phase, kept);
     let next = write_at_end(log, end, inputs, r.present, r.code, r.rounds);
     Logged { answer, end: next }
 }

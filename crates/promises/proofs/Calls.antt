@@ -11,6 +11,7 @@ use Rattle.theorems.specs.Traces.{run, arrives}
 use Rattle.block.specs.Format.{Good, Reading, good, turned-down, reading}
 use Rattle.block.specs.declared.whole.Summary.{Summary}
 use Rattle.block.proofs.GoodReadings.{numbers as refusal-numbers}
+use Rattle.records.specs.Numerals.{Bytes}
 use Rattle.records.specs.StateRecord.{state-record}
 use Rattle.reaction.specs.Instants.{block-of, Verdict, reacted, Told, told, told-reaction, state-after, log-after, end-after, instant-verdict, logged-verdict}
 use Rattle.reaction.specs.declared.Instant.{Instant}
@@ -23,7 +24,7 @@ use Rattle.promises.specs.Promised.{ReadAs, Holds, Inputs, rules-answer,
 use Rattle.promises.specs.Promised as promised
 use Rattle.promises.specs.Runs.{verdicts, bytes-left, numbers, sets}
 use Rattle.promises.specs.Calls.{CheckCalled, FreshCalled, Called, Calls, no-call, one-more, CalledWithLog}
-use Rattle.promises.proofs.Records.{legal-is-held}
+use Rattle.promises.proofs.Records.{version-fits, legal-is-held}
 use Rattle.promises.proofs.Learnt.{check-says, fresh-says, instant-says, logged-answer, logged-end, logged-state, logged-log}
 use Rattle.promises.proofs.Instants.{promised as kept}
 use Rattle.promises.proofs.Runs.{promised-run, same-verdict}
@@ -62,19 +63,23 @@ calls-are b (one-more {ws = ws} c t) =
     )
 
 -- `fresh` wrote this record: it is found legal, and holds the fresh state.
-pub fresh-is-held : (b : List ℕ) (g : Good) → reading b ≡ good g → (s s′ : List ℕ) → FreshCalled b s Fresh s′ → Holds g s′ fresh
+pub fresh-is-held : (b : List ℕ) → Bytes b → (g : Good) → reading b ≡ good g → (s s′ : List ℕ) → FreshCalled b s Fresh s′ → Holds g s′ fresh
 unfolding begun-values begun-owed state-owed Legal nth
-fresh-is-held b g e s s′ c = go (eqb (length s) 22) refl
+fresh-is-held b bytes g e s s′ c = go (eqb (length s) 26) refl
   where
-    says : _≡_ {A = List ℕ} (0 ∷ 0 ∷ []) (cond (eqb (length s) 22) (0 ∷ 0 ∷ []) (9 ∷ 0 ∷ []))
+    says : _≡_ {A = List ℕ} (0 ∷ 0 ∷ []) (cond (eqb (length s) 26) (0 ∷ 0 ∷ []) (9 ∷ 0 ∷ []))
     says = fresh-says b c .0 ∙ ap (λ (x : Reading). begun-owed x s) e
 
-    leaves : s′ ≡ cond (eqb (length s) 22) (state-record fresh) s
+    its-record : List ℕ
+    its-record = state-record (g .header .version) (g .statements) fresh
+
+    leaves : s′ ≡ cond (eqb (length s) 26) its-record s
     leaves = fresh-says b c .1 ∙ ap (λ (x : Reading). state-owed x s) e
 
-    go : (x : Bool) → eqb (length s) 22 ≡ x → Holds g s′ fresh
+    go : (x : Bool) → eqb (length s) 26 ≡ x → Holds g s′ fresh
     go true q =
-        subst⁻¹ (λ (l : List ℕ). Holds g l fresh) (leaves ∙ ap (λ (x : Bool). cond x (state-record fresh) s) q) (legal-is-held b g e fresh tt)
+        subst⁻¹ (λ (l : List ℕ). Holds g l fresh) (leaves ∙ ap (λ (x : Bool). cond x its-record s) q)
+        (legal-is-held b g e (version-fits b g e bytes) fresh tt)
     go false q =
         let z : _≡_ {A = ℕ} 0 9 = ap (nth 0) (says ∙ ap (λ (x : Bool). cond x (0 ∷ 0 ∷ []) (9 ∷ 0 ∷ [])) q) in
         absurd (omega arith)

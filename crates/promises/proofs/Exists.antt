@@ -52,7 +52,7 @@ a-beginning b s = go (reading b) refl
     sized false = (Begun.TurnedDown Why.State 0, refl)
 
     go : (x : Reading) → reading b ≡ x → (r : Begun) × (begun-values r ≡ begun-owed x s)
-    go (good g) e = sized (eqb (length s) 22)
+    go (good g) e = sized (eqb (length s) 26)
     go (turned-down n at) e = (Begun.TurnedDown (why-of n) at, ap (λ (m : ℕ). m ∷ at ∷ []) (named-in-block b n at e))
 
 pub an-instant : (b s : List ℕ) (w : ℕ) (roomless : Bool) → (r : Instant) × (instant-told r ≡ told (verdict b s w roomless))

@@ -1,7 +1,7 @@
 -- The number that a call gives back is that of the first test that applies: by cases on what each test finds, in their order. A test that
 -- applies found what the call's definition found, since a block has one reading and a record holds one state. Assumes nothing.
 use mathlib.Core.Path.{_≡_, refl, sym, ap, _∙_, subst}
-use mathlib.Core.Logic.{inl, inr, _≢_}
+use mathlib.Core.Logic.{_⊎_, inl, inr, ⊎-elim, _≢_}
 use mathlib.Core.Bool.{Bool, true, false, cond, true≢false, _||_}
 use mathlib.Core.List.{List, [], _∷_, _++_}
 use mathlib.Core.Option.{Option, none, some}
@@ -15,15 +15,16 @@ use Rattle.rules.specs.States.{State, fresh, active-of}
 use Rattle.rules.specs.Rounds.{Answer, answered, not-constructive, react}
 use Rattle.block.specs.Format.{Good, Reading, good, turned-down, reading, preorder, numbered, bytes, offset}
 use Rattle.block.proofs.GoodReadings.{numbers}
-use Rattle.records.specs.StateRecord.{Found, not-a-state, state, active-in, read-state, state-record, Pair, first-clash, undeclared-input}
+use Rattle.records.specs.StateRecord.{version-in, statements-in, Found, not-a-state, state, active-in, read-state, names-block, state-record, Pair, first-clash, undeclared-input}
 use Rattle.records.specs.LogRecord.{no-room}
-use Rattle.reaction.specs.Fronts.{STATE, INPUT, stopped, ready, try-inputs, try-clash, try-state, try-block, front}
+use Rattle.records.proofs.Reading.{found-sized, named-version, named-statements, named-not}
+use Rattle.reaction.specs.Fronts.{STATE, OTHER-BLOCK, INPUT, stopped, ready, try-inputs, try-clash, clash-tried, try-names, try-state, try-block, front}
 use Rattle.reaction.specs.Instants.{CLASH, ROOM, Verdict, refused, clash, reacted, block-of, goes-on, verdict, told, instant-verdict, logged-verdict, heard-of}
 use Rattle.foldheron.specs.declared.Part.{Part}
 use Rattle.foldheron.specs.Answers.{check-owed, begun-owed, state-owed, absent-part, part-owed}
 use Rattle.promises.specs.Tests.{Test, First}
-use Rattle.promises.specs.Demand1.{NoState, Incompatible, HeldBy, Clashing, Undeclared, Unsettled, of-block, one-to-8}
-use Rattle.promises.specs.Demand1.{block-tests, state-test, clash-test, input-test, code-test, room-test, fresh-tests, excerpt-tests}
+use Rattle.promises.specs.Demand1.{NoState, OtherBlock, Incompatible, HeldBy, Clashing, Undeclared, Unsettled, of-block, one-to-8}
+use Rattle.promises.specs.Demand1.{block-tests, state-test, names-test, clash-test, input-test, code-test, room-test, fresh-tests, excerpt-tests}
 use Rattle.promises.specs.Demand1.{instant-tests, logged-tests, INDEX, NoStatement, number-in, place-in, PairOf, PlacedBy, in-block}
 use Rattle.promises.specs.Demand1.{at-0}
 use Rattle.promises.proofs.Records.{checked}
@@ -69,7 +70,7 @@ among (suc (suc (suc (suc (suc (suc (suc (suc (suc n))))))))) l h = absurd (omeg
 pub of-the-block : (b : List ℕ) (n at : ℕ) → reading b ≡ turned-down n at → (ts : List Test) → First (block-tests b ++ ts) n
 of-the-block b n at e ts = let r = numbers b n at e in one-of b n at e one-to-8 (among n (r .0) (r .1)) ts
 
--- 9, 10, 11, then the tests in the middle (of the log call, 12), then 13.
+-- 9, 17, 10, 11, then the tests in the middle (of the log call, 12), then 13.
 module _ (b s : List ℕ) (w : ℕ) (g : Good) (e : reading b ≡ good g) where
   same-block : (x : Good) → reading b ≡ good x → g ≡ x
   same-block x q = let d : good g ≡ good x = sym e ∙ q in cc
@@ -92,6 +93,14 @@ module _ (b s : List ℕ) (w : ℕ) (g : Good) (e : reading b ≡ good g) where
       of-the-128 = c .of-the-128;
       not-compatible = c .not-compatible;
     }
+
+    other-none : names-block (g .header .version) (g .statements) s ≡ true → OtherBlock b s → ⊥
+    other-none q t =
+        ⊎-elim (λ f. f (named-version (g .header .version) (g .statements) s q)) (λ f. f (named-statements (g .header .version) (g .statements) s q))
+        (subst (λ (x : Good). (version-in s ≢ x .header .version) ⊎ (statements-in s ≢ x .statements)) (sym (same-block (t .block) (t .is-good))) (t .other))
+
+    other-some : names-block (g .header .version) (g .statements) s ≡ false → OtherBlock b s
+    other-some q = record { block = g; is-good = e; other = named-not (g .header .version) (g .statements) s (found-sized (g .pauses) s st h) q }
 
     clash-none : first-clash (g .body) (active-of st) ≡ none → Clashing b s → ⊥
     clash-none q t =
@@ -162,13 +171,23 @@ module _ (b s : List ℕ) (w : ℕ) (g : Good) (e : reading b ≡ good g) where
       clash-first none q = inr (clash-none q, inputs-first)
       clash-first (some pair) q = inl (clash-some pair q, refl)
 
+      names-first : First (names-test b s ∷ clash-test b s ∷ input-test b w ∷ (middle ++ code-test b s w ∷ [])) (told (goes-on w roomless (try-names g st s w)) .number)
+      unfolding told try-names goes-on
+      names-first = go (names-block (g .header .version) (g .statements) s) refl
+        where
+          go : (x : Bool) → names-block (g .header .version) (g .statements) s ≡ x
+              → First (names-test b s ∷ clash-test b s ∷ input-test b w ∷ (middle ++ code-test b s w ∷ []))
+              (told (goes-on w roomless (cond x (clash-tried g st w) (stopped OTHER-BLOCK 0))) .number)
+          go true q = inr (other-none q, clash-first (first-clash (g .body) (active-of st)) refl)
+          go false q = inl (other-some q, refl)
+
   module _ (roomless : Bool) (middle : List Test) (full : roomless ≡ true → (ts : List Test) → First (middle ++ ts) ROOM)
       (room : roomless ≡ false → (ts : List Test) (n : ℕ) → First ts n → First (middle ++ ts) n) where
     state-first : (f : Found) → read-state (g .pauses) s ≡ f
-        → First (state-test b s ∷ clash-test b s ∷ input-test b w ∷ (middle ++ code-test b s w ∷ [])) (told (goes-on w roomless (try-state g w f)) .number)
+        → First (state-test b s ∷ names-test b s ∷ clash-test b s ∷ input-test b w ∷ (middle ++ code-test b s w ∷ [])) (told (goes-on w roomless (try-state g s w f)) .number)
     unfolding told try-state goes-on
     state-first not-a-state q = inl (record { block = g; is-good = e; wrong = read-wrong (g .pauses) s q }, refl)
-    state-first (state st) q = inr (right, clash-first st q roomless middle full room (first-clash (g .body) (active-of st)) refl)
+    state-first (state st) q = inr (right, names-first st q roomless middle full room)
       where
         right : NoState b s → ⊥
         right t =
@@ -178,24 +197,24 @@ module _ (b s : List ℕ) (w : ℕ) (g : Good) (e : reading b ≡ good g) where
 
 pub verdict-first : (b s : List ℕ) (w : ℕ) (roomless : Bool) (middle : List Test) → (roomless ≡ true → (ts : List Test) → First (middle ++ ts) ROOM)
     → (roomless ≡ false → (ts : List Test) (n : ℕ) → First ts n → First (middle ++ ts) n)
-    → First (block-tests b ++ state-test b s ∷ clash-test b s ∷ input-test b w ∷ (middle ++ code-test b s w ∷ [])) (told (verdict b s w roomless) .number)
+    → First (block-tests b ++ state-test b s ∷ names-test b s ∷ clash-test b s ∷ input-test b w ∷ (middle ++ code-test b s w ∷ [])) (told (verdict b s w roomless) .number)
 unfolding told verdict front try-block goes-on
 verdict-first b s w roomless middle full room = go (reading b) refl
   where
     late : List Test
-    late = state-test b s ∷ clash-test b s ∷ input-test b w ∷ (middle ++ code-test b s w ∷ [])
+    late = state-test b s ∷ names-test b s ∷ clash-test b s ∷ input-test b w ∷ (middle ++ code-test b s w ∷ [])
 
     go : (x : Reading) → reading b ≡ x → First (block-tests b ++ late) (told (goes-on w roomless (try-block s w x)) .number)
-    go (good g) e = past-block b g e one-to-8 late (told (goes-on w roomless (try-state g w (read-state (g .pauses) s))) .number)
+    go (good g) e = past-block b g e one-to-8 late (told (goes-on w roomless (try-state g s w (read-state (g .pauses) s))) .number)
         (state-first b s w g e roomless middle full room (read-state (g .pauses) s) refl)
     go (turned-down n at) e = of-the-block b n at e late
 
 -- The place, and the pair of a CLASH.
 past-tests : (b s : List ℕ) (w : ℕ) (roomless : Bool) (g : Good) → reading b ≡ good g
-    → (told (goes-on w roomless (try-state g w (read-state (g .pauses) s))) .place ≡ 0)
-    × (told (goes-on w roomless (try-state g w (read-state (g .pauses) s))) .number ≡ CLASH
-    → PairOf b s (told (goes-on w roomless (try-state g w (read-state (g .pauses) s))) .first) (told (goes-on w roomless (try-state g w (read-state (g .pauses) s))) .second))
-unfolding told try-state try-clash try-inputs goes-on
+    → (told (goes-on w roomless (try-state g s w (read-state (g .pauses) s))) .place ≡ 0)
+    × (told (goes-on w roomless (try-state g s w (read-state (g .pauses) s))) .number ≡ CLASH
+    → PairOf b s (told (goes-on w roomless (try-state g s w (read-state (g .pauses) s))) .first) (told (goes-on w roomless (try-state g s w (read-state (g .pauses) s))) .second))
+unfolding told try-state try-names try-clash try-inputs goes-on
 past-tests b s w roomless g e = on-state (read-state (g .pauses) s) refl
   where
     Fine : Verdict → Type 0
@@ -214,9 +233,13 @@ past-tests b s w roomless g e = on-state (read-state (g .pauses) s) refl
     on-clash st h none q = on-inputs st (undeclared-input (g .header .inputs) w) roomless
     on-clash st h (some pair) q = (refl, λ z. its-pair b s w g e st h pair q)
 
-    on-state : (f : Found) → read-state (g .pauses) s ≡ f → Fine (goes-on w roomless (try-state g w f))
+    on-names : (st : State) → read-state (g .pauses) s ≡ state st → (x : Bool) → Fine (goes-on w roomless (cond x (clash-tried g st w) (stopped OTHER-BLOCK 0)))
+    on-names st h true = on-clash st h (first-clash (g .body) (active-of st)) refl
+    on-names st h false = (refl, λ z. absurd (omega arith))
+
+    on-state : (f : Found) → read-state (g .pauses) s ≡ f → Fine (goes-on w roomless (try-state g s w f))
     on-state not-a-state q = (refl, λ z. absurd (omega arith))
-    on-state (state st) q = on-clash st q (first-clash (g .body) (active-of st)) refl
+    on-state (state st) q = on-names st q (names-block (g .header .version) (g .statements) s)
 
 module _ (b s : List ℕ) (w : ℕ) (roomless : Bool) where
   pub verdict-placed : PlacedBy b (told (verdict b s w roomless) .number) (told (verdict b s w roomless) .place)
@@ -225,8 +248,8 @@ module _ (b s : List ℕ) (w : ℕ) (roomless : Bool) where
     where
       go : (x : Reading) → reading b ≡ x → PlacedBy b (told (goes-on w roomless (try-block s w x)) .number) (told (goes-on w roomless (try-block s w x)) .place)
       go (good g) e =
-          subst (λ (at : ℕ). PlacedBy b (told (goes-on w roomless (try-state g w (read-state (g .pauses) s))) .number) at) (sym (past-tests b s w roomless g e .0))
-          (at-0 (told (goes-on w roomless (try-state g w (read-state (g .pauses) s))) .number) g e)
+          subst (λ (at : ℕ). PlacedBy b (told (goes-on w roomless (try-state g s w (read-state (g .pauses) s))) .number) at) (sym (past-tests b s w roomless g e .0))
+          (at-0 (told (goes-on w roomless (try-state g s w (read-state (g .pauses) s))) .number) g e)
       go (turned-down n at) e = in-block n at (turned-down-decides b n at e)
 
   pub verdict-paired : told (verdict b s w roomless) .number ≡ CLASH → PairOf b s (told (verdict b s w roomless) .first) (told (verdict b s w roomless) .second)
@@ -265,14 +288,14 @@ module _ (b : List ℕ) where
     fresh-first = go (reading b) refl
       where
         size : Test
-        size = record { number = STATE; Applies = length s ≢ 22 }
+        size = record { number = STATE; Applies = length s ≢ 26 }
 
-        sized : (x : Bool) → eqb (length s) 22 ≡ x → First (size ∷ []) (number-in (cond x (0 ∷ 0 ∷ []) (9 ∷ 0 ∷ [])))
-        sized true q = inr ((λ h. h (eqb-true (length s) 22 q)), refl)
-        sized false q = inl (eqb-false (length s) 22 q, refl)
+        sized : (x : Bool) → eqb (length s) 26 ≡ x → First (size ∷ []) (number-in (cond x (0 ∷ 0 ∷ []) (9 ∷ 0 ∷ [])))
+        sized true q = inr ((λ h. h (eqb-true (length s) 26 q)), refl)
+        sized false q = inl (eqb-false (length s) 26 q, refl)
 
         go : (x : Reading) → reading b ≡ x → First (fresh-tests b s) (number-in (begun-owed x s))
-        go (good g) e = past-block b g e one-to-8 (size ∷ []) (number-in (begun-owed (good g) s)) (sized (eqb (length s) 22) refl)
+        go (good g) e = past-block b g e one-to-8 (size ∷ []) (number-in (begun-owed (good g) s)) (sized (eqb (length s) 26) refl)
         go (turned-down n at) e = of-the-block b n at e (size ∷ [])
 
     pub fresh-placed : PlacedBy b (number-in (begun-owed (reading b) s)) (place-in (begun-owed (reading b) s))
@@ -284,19 +307,19 @@ module _ (b : List ℕ) where
         sized g e false = at-0 9 g e
 
         go : (x : Reading) → reading b ≡ x → PlacedBy b (number-in (begun-owed x s)) (place-in (begun-owed x s))
-        go (good g) e = sized g e (eqb (length s) 22)
+        go (good g) e = sized g e (eqb (length s) 26)
         go (turned-down n at) e = in-block n at (turned-down-decides b n at e)
 
     pub fresh-stays : number-in (begun-owed (reading b) s) ≢ 0 → state-owed (reading b) s ≡ s
     unfolding begun-owed state-owed
     fresh-stays = go (reading b)
       where
-        sized : (x : Bool) → number-in (cond x (0 ∷ 0 ∷ []) (9 ∷ 0 ∷ [])) ≢ 0 → cond x (state-record fresh) s ≡ s
-        sized true h = absurd (h refl)
-        sized false h = refl
+        sized : (v k : ℕ) (x : Bool) → number-in (cond x (0 ∷ 0 ∷ []) (9 ∷ 0 ∷ [])) ≢ 0 → cond x (state-record v k fresh) s ≡ s
+        sized v k true h = absurd (h refl)
+        sized v k false h = refl
 
         go : (x : Reading) → number-in (begun-owed x s) ≢ 0 → state-owed x s ≡ s
-        go (good g) h = sized (eqb (length s) 22) h
+        go (good g) h = sized (g .header .version) (g .statements) (eqb (length s) 26) h
         go (turned-down n at) h = refl
 
   module _ (n : ℕ) where

@@ -20,8 +20,8 @@ use Rattle.rules.specs.Rounds.{Settled, answered, not-constructive, answer, fin
 use Rattle.theorems.proofs.Demand3.{rounds-end}
 use Rattle.block.specs.Format.{Good, Reading, good, turned-down, reading}
 use Rattle.block.proofs.GoodReadings.{numbers}
-use Rattle.records.specs.StateRecord.{Found, not-a-state, state, read-state, Pair, paired, with-second, clashes, first-clash, undeclared-input}
-use Rattle.reaction.specs.Fronts.{stopped, ready, try-inputs, try-clash, try-state, try-block, front}
+use Rattle.records.specs.StateRecord.{Found, not-a-state, state, read-state, names-block, Pair, paired, with-second, clashes, first-clash, undeclared-input}
+use Rattle.reaction.specs.Fronts.{OTHER-BLOCK, stopped, ready, try-inputs, try-clash, clash-tried, try-names, try-state, try-block, front}
 use Rattle.reaction.specs.Instants.{Verdict, refused, clash, reacted, Told, told, block-of, goes-on, verdict, heard-of}
 use Rattle.refusals.specs.declared.Why.{Why}
 use Rattle.refusals.specs.declared.Why.the-variants as Why
@@ -74,21 +74,25 @@ clash-apart : (p : Stmt) (A : Numbers) (o : Option ℕ) (pair : Pair) → with-s
 clash-apart p A none pair e = let z : _≡_ {A = ℕ} 0 1 = cc in absurd (omega arith)
 clash-apart p A (some m) pair e = second-above p A m (lowest 128 (clashes p A m)) pair refl e
 
-state-apart : (g : Good) (given : ℕ) (roomless : Bool) (f : Found) → Apart (goes-on given roomless (try-state g given f))
-unfolding Apart try-state try-clash goes-on first-clash
-state-apart g given roomless not-a-state = ((λ e. omega arith), (λ e. omega arith))
-state-apart g given roomless (state st) = go (first-clash (g .body) (active-of st)) refl
+state-apart : (g : Good) (s : List ℕ) (given : ℕ) (roomless : Bool) (f : Found) → Apart (goes-on given roomless (try-state g s given f))
+unfolding Apart try-state try-names try-clash goes-on first-clash
+state-apart g s given roomless not-a-state = ((λ e. omega arith), (λ e. omega arith))
+state-apart g s given roomless (state st) = named (names-block (g .header .version) (g .statements) s)
   where
     go : (o : Option Pair) → first-clash (g .body) (active-of st) ≡ o → Apart (goes-on given roomless (try-clash g st given o))
     go none e = inputs-apart g st given roomless
     go (some pair) e = clash-apart (g .body) (active-of st) (lowest 128 (λ m. some-to (clashes (g .body) (active-of st) m) 127)) pair e
+
+    named : (x : Bool) → Apart (goes-on given roomless (cond x (clash-tried g st given) (stopped OTHER-BLOCK 0)))
+    named true = go (first-clash (g .body) (active-of st)) refl
+    named false = ((λ e. omega arith), (λ e. omega arith))
 
 apart : (b s : List ℕ) (given : ℕ) (roomless : Bool) → Apart (verdict b s given roomless)
 unfolding Apart verdict front try-block goes-on
 apart b s given roomless = go (reading b) refl
   where
     go : (x : Reading) → reading b ≡ x → Apart (goes-on given roomless (try-block s given x))
-    go (good g) e = state-apart g given roomless (read-state (g .pauses) s)
+    go (good g) e = state-apart g s given roomless (read-state (g .pauses) s)
     go (turned-down n at) e = let h : n ≤ 8 = numbers b n at e .1 in ((λ d. omega arith), (λ d. omega arith))
 
 -- The answer that has these fields.

@@ -11,7 +11,9 @@ use Rattle.theorems.specs.Checked.{Checked}
 use Rattle.theorems.specs.Traces.{run, arrives}
 use Rattle.block.specs.Format.{Good, good, reading}
 use Rattle.block.specs.declared.whole.Summary.{Summary}
-use Rattle.records.specs.StateRecord.{state-record}
+use Rattle.records.specs.Numerals.{Bytes}
+use Rattle.records.specs.StateRecord.{state-record, version-in, statements-in}
+use Rattle.records.proofs.Reading.{named-version, named-statements}
 use Rattle.reaction.specs.Instants.{block-of, told-reaction, instant-verdict, logged-verdict}
 use Rattle.block.specs.declared.whole.Checked.the-variants.{Good as GoodOne}
 use Rattle.foldheron.specs.declared.Begun.the-variants.{Fresh}
@@ -21,7 +23,7 @@ use Rattle.reaction.specs.Answers.{instant-told}
 use Rattle.promises.specs.Promised.{ReadAs, Holds, Inputs, PromisedAnswer, Promised, PromisedLogged, PromisedCalls}
 use Rattle.promises.specs.Runs.{verdicts, bytes-left, logged-verdicts, logged-bytes-left, numbers, sets, PromisedRun}
 use Rattle.promises.specs.Calls.{CheckCalled, FreshCalled, Called, Calls, CalledWithLog, LoggedCalls}
-use Rattle.promises.proofs.Records.{checked, held-is-legal, legal-is-held}
+use Rattle.promises.proofs.Records.{checked, held-is-legal, version-fits, legal-is-held}
 use Rattle.promises.proofs.Instants.{promised}
 use Rattle.promises.proofs.Runs.{promised-run, same-verdict, same-run}
 use Rattle.promises.proofs.Calls.{good-is-read, fresh-is-held, call, calls, calls-keep, call-with-log}
@@ -43,39 +45,46 @@ module _ (b : List ℕ) (said : Summary) (good-answer : CheckCalled b (GoodOne s
   pub good-is-checked : Checked (block-of g)
   good-is-checked = checked b g e
 
-  -- The record that `fresh` wrote is found legal, and holds the fresh state.
-  pub fresh-writes-a-legal-record : (s s′ : List ℕ) → FreshCalled b s Fresh s′ → Holds g s′ fresh
-  fresh-writes-a-legal-record = fresh-is-held b g e
+  -- The record that `fresh` wrote is found legal, and holds the fresh state. Like everything lent the block is bytes, so that its version has two.
+  pub fresh-writes-a-legal-record : Bytes b → (s s′ : List ℕ) → FreshCalled b s Fresh s′ → Holds g s′ fresh
+  fresh-writes-a-legal-record bytes = fresh-is-held b bytes g e
 
   -- A record that is found legal holds a legal state, and every legal state's record is found legal.
   pub found-legal-is-legal : (s : List ℕ) (st : State) → Holds g s st → Legal (g .body) st
   found-legal-is-legal = held-is-legal b g e
 
-  pub legal-is-found-legal : (st : State) → Legal (g .body) st → Holds g (state-record st) st
-  legal-is-found-legal = legal-is-held b g e
+  pub legal-is-found-legal : Bytes b → (st : State) → Legal (g .body) st → Holds g (state-record (g .header .version) (g .statements) st) st
+  legal-is-found-legal bytes = legal-is-held b g e (version-fits b g e bytes)
 
   -- From the record that `fresh` wrote, over calls of `instant` one after the other: each answered one is the only coherent reaction, told and
   -- written as a legal state, or 13 is told and every byte kept;
-  module _ (s s₀ : List ℕ) (written : FreshCalled b s Fresh s₀) (ws : List (Inputs g)) (rs : List Instant) (s′ : List ℕ) (made : Calls b s₀ (numbers ws) rs s′) where
+  module _ (bytes : Bytes b) (s s₀ : List ℕ) (written : FreshCalled b s Fresh s₀) (ws : List (Inputs g)) (rs : List Instant) (s′ : List ℕ) (made : Calls b s₀ (numbers ws) rs s′) where
     pub from-fresh-each-answer-is-the-only-reaction-or-13 : PromisedCalls g s₀ fresh ws rs s′
-    from-fresh-each-answer-is-the-only-reaction-or-13 = calls-keep b g e s₀ fresh (fresh-is-held b g e s s₀ written) ws rs s′ made
+    from-fresh-each-answer-is-the-only-reaction-or-13 = calls-keep b g e s₀ fresh (fresh-is-held b bytes g e s s₀ written) ws rs s′ made
 
     -- and together they are the run of the rules, and leave the bytes of the state that it arrives at.
     pub from-fresh-the-calls-make-the-rules-run : (map instant-told rs ≡ map (told-reaction (block-of g)) (run (block-of g) fresh (sets ws))) × Holds g s′ (arrives (block-of g) fresh (sets ws))
-    from-fresh-the-calls-make-the-rules-run = calls b g e s₀ fresh (fresh-is-held b g e s s₀ written) ws rs s′ made
+    from-fresh-the-calls-make-the-rules-run = calls b g e s₀ fresh (fresh-is-held b bytes g e s s₀ written) ws rs s′ made
 
   -- and so over calls of `instant_logged`, where the log has room for a record each.
-  pub from-fresh-each-logged-answer-is-the-only-reaction-or-13 : (s s₀ : List ℕ) → FreshCalled b s Fresh s₀
+  pub from-fresh-each-logged-answer-is-the-only-reaction-or-13 : Bytes b → (s s₀ : List ℕ) → FreshCalled b s Fresh s₀
       → (ws : List (Inputs g)) (rs : List Logged) (log log′ : List ℕ) (end end′ : ℕ) (s′ : List ℕ) → end + 24 * length (numbers ws) ≤ length log
       → LoggedCalls b s₀ log end (numbers ws) rs s′ log′ end′ → PromisedCalls g s₀ fresh ws (map (λ r. r .answer) rs) s′
-  from-fresh-each-logged-answer-is-the-only-reaction-or-13 s s₀ written ws rs log log′ end end′ s′ room made =
-      calls-keep b g e s₀ fresh (fresh-is-held b g e s s₀ written) ws (map (λ r. r .answer) rs) s′ (without-log b made room)
+  from-fresh-each-logged-answer-is-the-only-reaction-or-13 bytes s s₀ written ws rs log log′ end end′ s′ room made =
+      calls-keep b g e s₀ fresh (fresh-is-held b bytes g e s s₀ written) ws (map (λ r. r .answer) rs) s′ (without-log b made room)
 
   -- The same from any record that is found legal:
   module _ (s : List ℕ) (st : State) (h : Holds g s st) where
     -- in one call and in calls one after the other,
     pub each-call-keeps-the-promise : (w : Inputs g) (r : Instant) (s′ : List ℕ) → Called b s (w .number) r s′ → PromisedAnswer g s st w (instant-told r) s′
     each-call-keeps-the-promise = call b g e s st h
+
+    -- what is written names the block,
+    pub what-is-written-names-the-block : (w : Inputs g) (r : Instant) (s′ : List ℕ) → Called b s (w .number) r s′
+        → (version-in s′ ≡ g .header .version) × (statements-in s′ ≡ g .statements)
+    what-is-written-names-the-block w r s′ c =
+        let n = call b g e s st h w r s′ c .holds-after .names-it in
+        (named-version (g .header .version) (g .statements) s′ n, named-statements (g .header .version) (g .statements) s′ n)
 
     pub each-of-the-calls-keeps-the-promise : (ws : List (Inputs g)) (rs : List Instant) (s′ : List ℕ) → Calls b s (numbers ws) rs s′ → PromisedCalls g s st ws rs s′
     each-of-the-calls-keeps-the-promise = calls-keep b g e s st h

@@ -7,16 +7,19 @@ use Prim.Native.Nat.{ℕ, zero, suc, _+_, _/_, _%_, _^_, _≤_, _<_}
 use native.Mathlib.Omega.{arith}
 use lib.Dec.{eqb}
 use lib.ListN.{getD}
-use Rattle.sets.specs.Words.{bits}
+use Rattle.sets.specs.Words.{bits, word}
 use Rattle.sets.proofs.Members.{of-true, is-false}
 use Rattle.sets.proofs.Words.{bits-ext, bits-shift, bits-zero}
-use Rattle.rules.specs.States.{State, phase-of, Legal}
+use Rattle.rules.specs.States.{State, phase-of, active-of, Legal}
 use Rattle.theorems.specs.Checked.{Checked}
-use Rattle.block.specs.Format.{Good, good, reading}
+use Rattle.block.specs.Format.{Header, header, Good, good, reading}
 use Rattle.block.proofs.GoodReadings.{Sound, sound}
 use Rattle.records.specs.Numerals.{Bytes, in-bytes}
-use Rattle.records.specs.StateRecord.{state, state-record, read-state, undeclared-input}
-use Rattle.records.proofs.LegalStates.{found-legal, legal-found, legal-clear}
+use Rattle.records.specs.Fields.{place, laid}
+use Rattle.records.specs.StateRecord.{upper, state-widths, state-values, state, state-record, read-state, undeclared-input}
+use Rattle.records.proofs.Reading.{named-version}
+use Rattle.records.proofs.Back.{written-names}
+use Rattle.records.proofs.LegalStates.{field-lt, found-legal, legal-found, legal-clear}
 use Rattle.reaction.specs.Instants.{block-of}
 use Rattle.promises.specs.Promised.{Holds, Inputs}
 
@@ -43,11 +46,15 @@ unfolding in-bytes
 in-bytes-bytes zero x = no-bytes
 in-bytes-bytes (suc n) x = more-bytes (x % 256) (in-bytes n (x / 256)) (omega arith) (in-bytes-bytes n (x / 256))
 
-pub record-bytes : (st : State) → Bytes (state-record st)
+laid-bytes : (ws xs : List ℕ) → Bytes (laid ws xs)
+unfolding laid
+laid-bytes [] xs = no-bytes
+laid-bytes (w ∷ ws) [] = both-bytes (in-bytes w 0) (laid ws []) (in-bytes-bytes w 0) (laid-bytes ws [])
+laid-bytes (w ∷ ws) (x ∷ xs) = both-bytes (in-bytes w x) (laid ws xs) (in-bytes-bytes w x) (laid-bytes ws xs)
+
+pub record-bytes : (v n : ℕ) (st : State) → Bytes (state-record v n st)
 unfolding state-record
-record-bytes st =
-    both-bytes _ _ (in-bytes-bytes 2 22)
-    (both-bytes _ _ (in-bytes-bytes 2 2) (both-bytes _ _ (in-bytes-bytes 2 (phase-of st)) (both-bytes _ _ (in-bytes-bytes 8 _) (in-bytes-bytes 8 _))))
+record-bytes v n st = laid-bytes state-widths (state-values v n (phase-of st) (word 64 (active-of st)) (word 64 (upper (active-of st))))
 
 -- No bit at or above the number of inputs: not the refusal 11.
 pub inputs-pass : (g : Good) (w : Inputs g) → undeclared-input (g .header .inputs) (w .number) ≡ false
@@ -78,11 +85,25 @@ module _ (b : List ℕ) (g : Good) (e : reading b ≡ good g) where
   held-is-legal s st h =
       found-legal (g .body) s (h .bytes) st (subst (λ (n : ℕ). read-state n s ≡ state st) (read .paused) (h .found)) (h .no-clash)
 
-  pub legal-is-held : (st : State) → Legal (g .body) st → Holds g (state-record st) st
-  legal-is-held st l = record {
-    bytes = record-bytes st;
+  -- A version in bytes has two of them.
+  pub version-fits : Bytes b → g .header .version < 65536
+  unfolding header
+  version-fits c =
+      let low : getD b 6 0 < 256 = c .byte 6 in
+      let high : getD b 7 0 < 256 = c .byte 7 in
+      subst (λ (h : Header). h .version < 65536) (sym (read .its-header)) (omega arith)
+
+  -- A record that is found legal is bytes and names the block, so the version fits.
+  pub held-version-fits : (s : List ℕ) (st : State) → Holds g s st → g .header .version < 65536
+  held-version-fits s st h =
+      subst (λ (v : ℕ). v < 65536) (named-version (g .header .version) (g .statements) s (h .names-it)) (field-lt s (h .bytes) (place state-widths 2) 2)
+
+  pub legal-is-held : g .header .version < 65536 → (st : State) → Legal (g .body) st → Holds g (state-record (g .header .version) (g .statements) st) st
+  legal-is-held v st l = record {
+    bytes = record-bytes (g .header .version) (g .statements) st;
     found =
-        subst (λ (n : ℕ). read-state n (state-record st) ≡ state st) (sym (read .paused))
-        (legal-found (g .body) (subst (λ (n : ℕ). n ≤ 128) (read .paused) (read .few-pauses)) st l);
+        subst (λ (n : ℕ). read-state n (state-record (g .header .version) (g .statements) st) ≡ state st) (sym (read .paused))
+        (legal-found (g .header .version) (g .statements) (g .body) (subst (λ (n : ℕ). n ≤ 128) (read .paused) (read .few-pauses)) st l);
+    names-it = written-names (g .header .version) (g .statements) st v (let h : g .statements ≤ 512 = read .few-statements in omega arith);
     no-clash = legal-clear (g .body) st l;
   }

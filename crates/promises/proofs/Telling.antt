@@ -1,6 +1,6 @@
 -- What is told of an answered instant is the only coherent reaction: every coherent one has its outputs, its code and its next state, so
 -- its numbers are those told, bit by bit. Assumes nothing.
-use mathlib.Core.Path.{_≡_, refl, sym, ap, _∙_}
+use mathlib.Core.Path.{_≡_, refl, sym, ap, ap₂, _∙_}
 use mathlib.Core.Bool.{Bool, true, false, cond, _&&_}
 use mathlib.Core.List.{List, [], _∷_, map}
 use Prim.Native.Nat.{ℕ, zero, suc, _+_, _-_, _≤_}
@@ -18,8 +18,10 @@ use Rattle.rules.specs.Rounds.{same, outputs-with, Answer, answered, not-constr
 use Rattle.rules.specs.Coherence.{world}
 use Rattle.theorems.specs.Reactions.{OnlyIfAnswered}
 use Rattle.theorems.proofs.Late.{all-is-choice}
-use Rattle.records.specs.StateRecord.{state-record}
-use Rattle.reaction.specs.Instants.{reacted, told, state-after}
+use Rattle.block.specs.Format.{Good}
+use Rattle.records.specs.StateRecord.{state-record, names-block}
+use Rattle.records.proofs.Reading.{named-version, named-statements}
+use Rattle.reaction.specs.Instants.{block-of, reacted, told, state-after}
 use Rattle.promises.specs.Promised.{Tells}
 
 same-known : (x : Bool) → same (known x) present ≡ x
@@ -61,19 +63,23 @@ module _ (b : Block) (few : b .inputs + b .outputs ≤ 64) (outs : List Bool) (e
       bits-word 64 (outputs-with present b vs) n
       ∙ ap (λ (x : Bool). ltb n 64 && x) (ap (λ (us : List Status). outputs-with present b us n) (sym e) ∙ present-outputs b outs n) ∙ within n
 
-pub tells : (b : Block) → b .inputs + b .outputs ≤ 64 → (st : State) (given : Numbers) (s : List ℕ) (a : Answer) → OnlyIfAnswered b st (all-heard b given) a
-    → Tells b st given s a (told (reacted b a)) (state-after s (reacted b a))
+pub tells : (g : Good) → g .header .inputs + g .header .outputs ≤ 64 → (st : State) (given : Numbers) (s : List ℕ)
+    → names-block (g .header .version) (g .statements) s ≡ true → (a : Answer) → OnlyIfAnswered (block-of g) st (all-heard (block-of g) given) a
+    → Tells g st given s a (told (reacted (block-of g) a)) (state-after s (reacted (block-of g) a))
 unfolding told state-after
-tells b few st given s (answered vs c st′ n) only = record {
+tells g few st given s named (answered vs c st′ n) only = record {
   is-answered = refl;
-  only-reaction = only given (all-is-choice b given);
+  only-reaction = only given (all-is-choice (block-of g) given);
   says-it =
-      λ outs d st″ r. let q = only given (all-is-choice b given) .the-only-one outs d st″ r in
+      λ outs d st″ r. let q = only given (all-is-choice (block-of g) given) .the-only-one outs d st″ r in
       record {
-        outputs-are = outputs-told b few outs (r .each-output) vs (q .same-outputs);
+        outputs-are = outputs-told (block-of g) few outs (r .each-output) vs (q .same-outputs);
         code-is = sym (q .same-code);
         active-are = ap (λ (x : State). count 128 (active-of x)) (sym (q .same-next));
-        state-is = ap state-record (sym (q .same-next));
+        state-is =
+            ap₂ (λ (v k : ℕ). state-record v k st′) (named-version (g .header .version) (g .statements) s named)
+            (named-statements (g .header .version) (g .statements) s named)
+            ∙ ap (state-record (g .header .version) (g .statements)) (sym (q .same-next));
       };
 }
-tells b few st given s (not-constructive vs n) only = record { is-refused = refl; unchanged = refl }
+tells g few st given s named (not-constructive vs n) only = record { is-refused = refl; unchanged = refl }

@@ -27,15 +27,14 @@ use Rattle.theorems.specs.Traces.{Instant, answers, refuses}
 use Rattle.theorems.proofs.Instants.{reacts}
 use Rattle.theorems.proofs.Demand3.{rounds-are-determined}
 use Rattle.block.specs.Format.{Good}
-use Rattle.records.specs.Numerals.{field}
-use Rattle.records.specs.StateRecord.{Found, not-a-state, state, active-in, none-active, beyond, in-phase, read-state, Pair, paired, with-second, clashes, first-clash, undeclared-input}
+use Rattle.records.specs.StateRecord.{length-in, kind-in, phase-in, low-in, high-in, Found, not-a-state, state, active-in, none-active, beyond, in-phase, read-state, Pair, paired, with-second, clashes, first-clash, undeclared-input}
 use Rattle.records.specs.LogRecord.{no-room}
 use Rattle.records.proofs.TwoWords.{set-of-none, none-from, beyond-in, beyond-out}
 use Rattle.records.proofs.Reading.{read-sized, read-headed, read-kind}
 use Rattle.records.proofs.Pairs.{clash-first, clash-second, clash-lower, clash-apart}
 use Rattle.records.proofs.LegalStates.{no-clash, found-ran}
 use Rattle.records.proofs.Logs.{has-room, room-has}
-use Rattle.promises.specs.Demand1.{WrongState, not-22-bytes, wrong-length, wrong-kind, wrong-phase, bit-beyond, bits-while-fresh}
+use Rattle.promises.specs.Demand1.{WrongState, not-26-bytes, wrong-length, wrong-kind, wrong-phase, bit-beyond, bits-while-fresh}
 use Rattle.promises.specs.Demand1.{none-while-running, bits-while-finished, Incompatible, FirstPair, NoRoom}
 
 -- STATE.
@@ -47,20 +46,20 @@ no-state false y z f e = refl
 
 module _ (n : ℕ) (s : List ℕ) where
   abbrev p : ℕ
-  p = field s 4 2
+  p = phase-in s
 
   abbrev A : Numbers
   A = active-in s
 
   by-phase : in-phase p n s ≡ not-a-state → read-state n s ≡ not-a-state
   unfolding read-state
-  by-phase e = no-state (eqb (length s) 22) (eqb (field s 0 2) 22) (eqb (field s 2 2) 2) (in-phase p n s) e
+  by-phase e = no-state (eqb (length s) 26) (eqb (length-in s) 26) (eqb (kind-in s) 2) (in-phase p n s) e
 
   -- a bit is set: the words are not both 0
   not-clear : (m : ℕ) → T (A m) → none-active s ≡ false
   not-clear m h = is-false (none-active s) λ t.
-      let low : field s 6 8 ≡ 0 = eqb→eq (field s 6 8) 0 (and-left (eqb (field s 6 8) 0) (eqb (field s 14 8) 0) t) in
-      let high : field s 14 8 ≡ 0 = eqb→eq (field s 14 8) 0 (and-right (eqb (field s 6 8) 0) (eqb (field s 14 8) 0) t) in
+      let low : low-in s ≡ 0 = eqb→eq (low-in s) 0 (and-left (eqb (low-in s) 0) (eqb (high-in s) 0) t) in
+      let high : high-in s ≡ 0 = eqb→eq (high-in s) 0 (and-right (eqb (low-in s) 0) (eqb (high-in s) 0) t) in
       of-false (ap₂ (λ (x y : ℕ). two-words 64 x y m) low high ∙ set-of-none m) h
 
   beyond-fails : (a b c clear far : Bool) → clear ≡ false → far ≡ true
@@ -78,7 +77,7 @@ module _ (n : ℕ) (s : List ℕ) where
 
   pub wrong-read : WrongState n s → read-state n s ≡ not-a-state
   unfolding in-phase
-  wrong-read (not-22-bytes h) = sym (read-sized n s h)
+  wrong-read (not-26-bytes h) = sym (read-sized n s h)
   wrong-read (wrong-length h) = sym (read-headed n s refl h)
   wrong-read (wrong-kind h) = sym (read-kind n s refl h)
   wrong-read (wrong-phase h) = by-phase (rw (ne-eqb p 0 (λ e. omega arith), ne-eqb p 1 (λ e. omega arith), ne-eqb p 2 (λ e. omega arith)))
@@ -91,7 +90,7 @@ module _ (n : ℕ) (s : List ℕ) where
   -- a bit of the record is one of the state that it holds, and the other way
   pub found-set : (st : State) → read-state n s ≡ state st → (m : ℕ) → T (A m) → T (active-of st m)
   unfolding read-state in-phase active-of
-  found-set st e m h = go (eqb (length s) 22) (eqb (field s 0 2) 22) (eqb (field s 2 2) 2) (eqb p 0) (eqb p 1) (eqb p 2) (none-active s) (beyond n A) (not-clear m h) e
+  found-set st e m h = go (eqb (length s) 26) (eqb (length-in s) 26) (eqb (kind-in s) 2) (eqb p 0) (eqb p 1) (eqb p 2) (none-active s) (beyond n A) (not-clear m h) e
     where
       absent : {X : Type 0} → not-a-state ≡ state st → X
       absent q = let z : _≡_ {A = ℕ} 0 1 = cc in absurd (omega arith)
@@ -129,15 +128,15 @@ module _ (n : ℕ) (s : List ℕ) where
   pub read-wrong : read-state n s ≡ not-a-state → WrongState n s
   unfolding read-state in-phase
   read-wrong e =
-      go (eqb (length s) 22) (eqb (field s 0 2) 22) (eqb (field s 2 2) 2) (eqb p 0) (eqb p 1) (eqb p 2) (none-active s) (beyond n A) refl refl refl refl refl refl refl refl e
+      go (eqb (length s) 26) (eqb (length-in s) 26) (eqb (kind-in s) 2) (eqb p 0) (eqb p 1) (eqb p 2) (none-active s) (beyond n A) refl refl refl refl refl refl refl refl e
     where
-      go : (x y z a b c clear far : Bool) → eqb (length s) 22 ≡ x → eqb (field s 0 2) 22 ≡ y → eqb (field s 2 2) 2 ≡ z → eqb p 0 ≡ a → eqb p 1 ≡ b → eqb p 2 ≡ c
+      go : (x y z a b c clear far : Bool) → eqb (length s) 26 ≡ x → eqb (length-in s) 26 ≡ y → eqb (kind-in s) 2 ≡ z → eqb p 0 ≡ a → eqb p 1 ≡ b → eqb p 2 ≡ c
           → none-active s ≡ clear → beyond n A ≡ far
           → cond (x && y && z) (cond (a && clear) (state fresh) (cond (b && not clear && not far) (state (running A)) (cond (c && clear) (state finished) not-a-state))) not-a-state ≡ not-a-state
           → WrongState n s
-      go false y z a b c clear far ex ey ez ea eb ec et ef q = not-22-bytes (eqb-false (length s) 22 ex)
-      go true false z a b c clear far ex ey ez ea eb ec et ef q = wrong-length (eqb-false (field s 0 2) 22 ey)
-      go true true false a b c clear far ex ey ez ea eb ec et ef q = wrong-kind (eqb-false (field s 2 2) 2 ez)
+      go false y z a b c clear far ex ey ez ea eb ec et ef q = not-26-bytes (eqb-false (length s) 26 ex)
+      go true false z a b c clear far ex ey ez ea eb ec et ef q = wrong-length (eqb-false (length-in s) 26 ey)
+      go true true false a b c clear far ex ey ez ea eb ec et ef q = wrong-kind (eqb-false (kind-in s) 2 ez)
       go true true true true b c true far ex ey ez ea eb ec et ef q = not-found q
       go true true true true b c false far ex ey ez ea eb ec et ef q = bits-while-fresh (eqb-true p 0 ea) et
       go true true true false true c true far ex ey ez ea eb ec et ef q = none-while-running (eqb-true p 1 eb) et

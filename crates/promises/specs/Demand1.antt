@@ -17,10 +17,9 @@ use Rattle.rules.specs.MustCan.{must, gives}
 use Rattle.rules.specs.States.{State, active-of, compatible, step}
 use Rattle.rules.specs.Rounds.{begin, Rounds}
 use Rattle.block.specs.Format.{BROKEN, KIND, EDITION, LIMIT, SIGNAL, EXIT, SHAPE, LOOP, Good, good, reading}
-use Rattle.records.specs.Numerals.{field}
-use Rattle.records.specs.StateRecord.{state, active-in, none-active, read-state}
+use Rattle.records.specs.StateRecord.{length-in, kind-in, version-in, statements-in, phase-in, state, active-in, none-active, read-state}
 use Rattle.records.specs.LogRecord.{log-record}
-use Rattle.reaction.specs.Fronts.{STATE, INPUT}
+use Rattle.reaction.specs.Fronts.{STATE, OTHER-BLOCK, INPUT}
 use Rattle.reaction.specs.Instants.{CLASH, ROOM, NOT-CONSTRUCTIVE, block-of, Told, heard-of}
 use Rattle.foldheron.specs.declared.Logged.{Logged}
 use Rattle.reaction.specs.Answers.{instant-told}
@@ -35,22 +34,28 @@ pub record TurnedDown (b : List ℕ) (n : ℕ) : Type 0 where
   pub place : ℕ
   pub decided : Decides b n place
 
--- 9 STATE, for a block with so many pauses: not 22 bytes, wrong length, kind or phase, a bit at or above the pause count, bits set while fresh or
+-- 9 STATE, for a block with so many pauses: not 26 bytes, wrong length, kind or phase, a bit at or above the pause count, bits set while fresh or
 -- finished, none while running.
 pub data WrongState (pauses : ℕ) (s : List ℕ) : Type 0 where
-  not-22-bytes : length s ≢ 22 → WrongState pauses s
-  wrong-length : field s 0 2 ≢ 22 → WrongState pauses s
-  wrong-kind : field s 2 2 ≢ 2 → WrongState pauses s
-  wrong-phase : 3 ≤ field s 4 2 → WrongState pauses s
+  not-26-bytes : length s ≢ 26 → WrongState pauses s
+  wrong-length : length-in s ≢ 26 → WrongState pauses s
+  wrong-kind : kind-in s ≢ 2 → WrongState pauses s
+  wrong-phase : 3 ≤ phase-in s → WrongState pauses s
   bit-beyond : (n : ℕ) → n < 128 → T (active-in s n) → pauses ≤ n → WrongState pauses s
-  bits-while-fresh : field s 4 2 ≡ 0 → none-active s ≡ false → WrongState pauses s
-  none-while-running : field s 4 2 ≡ 1 → none-active s ≡ true → WrongState pauses s
-  bits-while-finished : field s 4 2 ≡ 2 → none-active s ≡ false → WrongState pauses s
+  bits-while-fresh : phase-in s ≡ 0 → none-active s ≡ false → WrongState pauses s
+  none-while-running : phase-in s ≡ 1 → none-active s ≡ true → WrongState pauses s
+  bits-while-finished : phase-in s ≡ 2 → none-active s ≡ false → WrongState pauses s
 
 pub record NoState (b s : List ℕ) : Type 0 where
   pub block : Good
   pub is-good : reading b ≡ good block
   pub wrong : WrongState (block .pauses) s
+
+-- 17 OTHER BLOCK: the record has another version than the block, or another statement count.
+pub record OtherBlock (b s : List ℕ) : Type 0 where
+  pub block : Good
+  pub is-good : reading b ≡ good block
+  pub other : (version-in s ≢ block .header .version) ⊎ (statements-in s ≢ block .statements)
 
 -- 10 CLASH: two active pauses, of the 128, are not compatible.
 pub record Incompatible (g : Good) (A : Numbers) (m n : ℕ) : Type 0 where
@@ -66,7 +71,7 @@ pub record FirstPair (g : Good) (A : Numbers) (m n : ℕ) : Type 0 where
   pub lowest-first : (i j : ℕ) → Incompatible g A i j → m ≤ i
   pub then-lowest-second : (j : ℕ) → Incompatible g A m j → n ≤ j
 
--- A good block's record has 22 bytes that hold this state.
+-- A good block's record has 26 bytes that hold this state.
 pub record HeldBy (b s : List ℕ) (g : Good) (st : State) : Type 0 where
   pub is-good : reading b ≡ good g
   pub is-found : read-state (g .pauses) s ≡ state st
@@ -106,7 +111,7 @@ pub record NoStatement (b : List ℕ) (n : ℕ) : Type 0 where
   pub is-good : reading b ≡ good block
   pub at-or-above : block .statements ≤ n
 
--- The tests in the written order. Of a block, 1 to 8; of `fresh` then another size than 22 bytes; of an excerpt then 14;
+-- The tests in the written order. Of a block, 1 to 8; of `fresh` then another size than 26 bytes; of an excerpt then 14;
 abbrev pub of-block : List ℕ → List ℕ → List Test
 of-block b [] = []
 of-block b (n ∷ ns) = record { number = n; Applies = TurnedDown b n } ∷ of-block b ns
@@ -118,14 +123,17 @@ abbrev pub block-tests : List ℕ → List Test
 block-tests b = of-block b one-to-8
 
 abbrev pub fresh-tests : List ℕ → List ℕ → List Test
-fresh-tests b s = block-tests b ++ record { number = STATE; Applies = length s ≢ 22 } ∷ []
+fresh-tests b s = block-tests b ++ record { number = STATE; Applies = length s ≢ 26 } ∷ []
 
 abbrev pub excerpt-tests : List ℕ → ℕ → List Test
 excerpt-tests b n = block-tests b ++ record { number = INDEX; Applies = NoStatement b n } ∷ []
 
--- of an instant then 9, 10, 11, 12 (log call only), 13.
+-- of an instant then 9, 17, 10, 11, 12 (log call only), 13.
 abbrev pub state-test : List ℕ → List ℕ → Test
 state-test b s = record { number = STATE; Applies = NoState b s }
+
+abbrev pub names-test : List ℕ → List ℕ → Test
+names-test b s = record { number = OTHER-BLOCK; Applies = OtherBlock b s }
 
 abbrev pub clash-test : List ℕ → List ℕ → Test
 clash-test b s = record { number = CLASH; Applies = Clashing b s }
@@ -140,10 +148,10 @@ abbrev pub code-test : List ℕ → List ℕ → ℕ → Test
 code-test b s w = record { number = NOT-CONSTRUCTIVE; Applies = Unsettled b s w }
 
 abbrev pub instant-tests : List ℕ → List ℕ → ℕ → List Test
-instant-tests b s w = block-tests b ++ state-test b s ∷ clash-test b s ∷ input-test b w ∷ code-test b s w ∷ []
+instant-tests b s w = block-tests b ++ state-test b s ∷ names-test b s ∷ clash-test b s ∷ input-test b w ∷ code-test b s w ∷ []
 
 abbrev pub logged-tests : List ℕ → List ℕ → ℕ → List ℕ → ℕ → List Test
-logged-tests b s w log end = block-tests b ++ state-test b s ∷ clash-test b s ∷ input-test b w ∷ room-test log end ∷ code-test b s w ∷ []
+logged-tests b s w log end = block-tests b ++ state-test b s ∷ names-test b s ∷ clash-test b s ∷ input-test b w ∷ room-test log end ∷ code-test b s w ∷ []
 
 -- A function gets by with any arguments and returns: nothing is asked of a caller, and its own code meets its contract, which is to return with
 -- what the contract says. A function is given by its number of lifetimes, its parameters' kinds, its `Asked` and its `statement`.

@@ -1,13 +1,12 @@
 -- What is promised of one instant of a good block, on the caller's bytes. Assumes nothing.
 use mathlib.Core.Path.{_≡_}
-use mathlib.Core.Bool.{Bool}
+use mathlib.Core.Bool.{Bool, true}
 use mathlib.Core.List.{List, [], _∷_}
 use mathlib.Core.Option.{none}
 use Prim.Native.Nat.{ℕ, _<_}
 use lib.Dec.{T}
 use Rattle.sets.specs.Numbers.{Numbers, empty, count}
 use Rattle.sets.specs.Words.{bits}
-use Rattle.rules.specs.Statements.{Block}
 use Rattle.rules.specs.Events.{Status}
 use Rattle.rules.specs.States.{State, active-of}
 use Rattle.rules.specs.Rounds.{Answer, answered, not-constructive, react}
@@ -20,7 +19,7 @@ use Rattle.block.specs.Format.{Good, good, reading}
 use Rattle.block.specs.Told.{summary-of}
 use Rattle.block.specs.declared.whole.Summary.{Summary}
 use Rattle.records.specs.Numerals.{Bytes}
-use Rattle.records.specs.StateRecord.{state, state-record, read-state, first-clash}
+use Rattle.records.specs.StateRecord.{state, state-record, read-state, names-block, first-clash}
 use Rattle.reaction.specs.Instants.{NOT-CONSTRUCTIVE, block-of, reacted, Told, told, state-after, log-by, end-by, instant-verdict, heard-of}
 use Rattle.reaction.specs.declared.Instant.{Instant}
 use Rattle.foldheron.specs.declared.Logged.{Logged}
@@ -32,10 +31,11 @@ pub record ReadAs (b : List ℕ) (said : Summary) : Type 0 where
   pub its-reading : reading b ≡ good block
   pub its-summary : said ≡ summary-of block
 
--- The state record of a good block is found legal: its bytes hold a state, and no two active pauses clash.
+-- The state record of a good block is found legal: its bytes hold a state, it names the block, and no two active pauses clash.
 pub record Holds (g : Good) (s : List ℕ) (st : State) : Type 0 where
   pub bytes : Bytes s
   pub found : read-state (g .pauses) s ≡ state st
+  pub names-it : names-block (g .header .version) (g .statements) s ≡ true
   pub no-clash : first-clash (g .body) (active-of st) ≡ none
 
 -- A declared input set: a number with no bit at or above the number of inputs. A good block has at most 64, so it is a 64-bit number.
@@ -50,18 +50,19 @@ input-set {g} w = all-inputs (block-of g) (bits (w .number)) (w .declared)
 abbrev pub rules-answer : (g : Good) → State → Inputs g → Answer
 rules-answer g st w = react (block-of g) st (heard-of g (w .number))
 
--- A reaction as an answer tells it and as the state's bytes hold it. Bit n is set exactly when signal n is an output and present.
-pub record Says (b : Block) (t : Told) (s : List ℕ) (outs : List Bool) (c : ℕ) (st : State) : Type 0 where
-  pub outputs-are : (n : ℕ) → bits (t .present-outputs) n ≡ world b empty outs n
+-- A reaction as an answer tells it and as the state's bytes hold it, which name the block. Bit n is set exactly when signal n is an output and
+-- present.
+pub record Says (g : Good) (t : Told) (s : List ℕ) (outs : List Bool) (c : ℕ) (st : State) : Type 0 where
+  pub outputs-are : (n : ℕ) → bits (t .present-outputs) n ≡ world (block-of g) empty outs n
   pub code-is : t .code ≡ c
   pub active-are : t .active ≡ count 128 (active-of st)
-  pub state-is : s ≡ state-record st
+  pub state-is : s ≡ state-record (g .header .version) (g .statements) st
 
 -- Answered: there is one coherent reaction and no other, and every coherent reaction is what is told and written.
-pub record TellsTheOnly (b : Block) (st : State) (given : Numbers) (vs : List Status) (c : ℕ) (st′ : State) (t : Told) (s′ : List ℕ) : Type 0 where
+pub record TellsTheOnly (g : Good) (st : State) (given : Numbers) (vs : List Status) (c : ℕ) (st′ : State) (t : Told) (s′ : List ℕ) : Type 0 where
   pub is-answered : t .number ≡ 0
-  pub only-reaction : OnlyReaction b st given vs c st′
-  pub says-it : (outs : List Bool) (d : ℕ) (st″ : State) → Coherent b st given outs d st″ → Says b t s′ outs d st″
+  pub only-reaction : OnlyReaction (block-of g) st given vs c st′
+  pub says-it : (outs : List Bool) (d : ℕ) (st″ : State) → Coherent (block-of g) st given outs d st″ → Says g t s′ outs d st″
 
 -- Not constructive: number 13, and the state's bytes are as they were.
 pub record Unchanged (s : List ℕ) (t : Told) (s′ : List ℕ) : Type 0 where
@@ -69,14 +70,14 @@ pub record Unchanged (s : List ℕ) (t : Told) (s′ : List ℕ) : Type 0 where
   pub unchanged : s′ ≡ s
 
 -- What is told and written, by the rules' answer; s and s′ are the state's bytes before and after.
-abbrev pub Tells : Block → State → Numbers → List ℕ → Answer → Told → List ℕ → Type 0
-Tells b st given s (answered vs c st′ n) t s′ = TellsTheOnly b st given vs c st′ t s′
-Tells b st given s (not-constructive vs n) t s′ = Unchanged s t s′
+abbrev pub Tells : Good → State → Numbers → List ℕ → Answer → Told → List ℕ → Type 0
+Tells g st given s (answered vs c st′ n) t s′ = TellsTheOnly g st given vs c st′ t s′
+Tells g st given s (not-constructive vs n) t s′ = Unchanged s t s′
 
 -- What is promised of an answer and of the state's bytes after it, where the bytes before held st:
 pub record PromisedAnswer (g : Good) (s : List ℕ) (st : State) (w : Inputs g) (t : Told) (s′ : List ℕ) : Type 0 where
   -- the only coherent reaction is told and written, or 13 is told and every byte kept,
-  pub tells : Tells (block-of g) st (bits (w .number)) s (rules-answer g st w) t s′
+  pub tells : Tells g st (bits (w .number)) s (rules-answer g st w) t s′
   -- and the bytes after it are found legal again: they hold the state that the rules go on from.
   pub holds-after : Holds g s′ (after st (rules-answer g st w))
 

@@ -21,7 +21,7 @@ use Rattle.block.specs.declared.whole.Summary.{Summary}
 use Rattle.block.proofs.Answered.{was-good, was-turned-down, has-body}
 use Rattle.block.proofs.GoodReadings.{Sound, sound}
 use Rattle.records.specs.Numerals.{Bytes}
-use Rattle.records.specs.StateRecord.{Found, not-a-state, state, read-state, Pair as Pairing, first-clash, undeclared-input}
+use Rattle.records.specs.StateRecord.{Found, not-a-state, state, read-state, names-block, Pair as Pairing, first-clash, undeclared-input}
 use Rattle.records.specs.Held.{held-of}
 use Rattle.records.specs.declared.state.Held.{Held}
 use Rattle.records.proofs.Answers.{held-fresh, held-running, held-finished, held-set, held-in-block}
@@ -34,7 +34,7 @@ use Rattle.evaluate.specs.declared.rounds.Phase.{Phase}
 use Rattle.evaluate.specs.declared.rounds.Phase.the-variants.{Fresh, Running, Finished}
 use Rattle.reaction.specs.declared.Grounds.{Grounds}
 use Rattle.reaction.specs.declared.Met.the-variants.{Refused, Clash, Ready}
-use Rattle.reaction.specs.Fronts.{Front, stopped, ready, try-inputs, try-clash, clash-tried, try-state, try-block, front}
+use Rattle.reaction.specs.Fronts.{Front, stopped, ready, try-inputs, try-clash, clash-tried, try-names, try-state, try-block, front}
 use Rattle.reaction.specs.Instants.{block-of}
 use Rattle.reaction.specs.Outcomes.{Opened, Begins, Means, Meets}
 
@@ -109,6 +109,21 @@ module _ {tab : Table} {s : Summary} {g : Good} (o : Opened tab s g) where
     unfolding pair-of try-clash
     clear-way {x} {r} d e h = subst (λ (x : Option Pairing). Meets (try-clash g st given x) tab r) (ap pair-of (sym d) ∙ e ∙ its-clash) h
 
+  -- the block that the record names
+  module _ (st : State) (bs : List ℕ) (given : ℕ) {x : Bool} (d : x ≡ names-block (s .version) (s .statements) bs) where
+    its-names : x ≡ names-block (g .header .version) (g .statements) bs
+    its-names = d ∙ ap (λ (y : Summary). names-block (y .version) (y .statements) bs) (o .summed)
+
+    pub named-way : {r : Grounds} → x ≡ true → Meets (clash-tried g st given) tab r → Meets (try-names g st bs given) tab r
+    unfolding try-names
+    named-way {r} t m = subst (λ (y : Bool). Meets (cond y (clash-tried g st given) (stopped 17 0)) tab r) (sym t ∙ its-names) m
+
+    pub other-way : {r : Grounds} → x ≡ false → r .met ≡ Refused Why.OtherBlock 0 → Meets (try-names g st bs given) tab r
+    unfolding try-names Means number
+    other-way {r} f e =
+        subst (λ (y : Bool). Meets (cond y (clash-tried g st given) (stopped 17 0)) tab r) (sym f ∙ its-names)
+        (record { means = record { why = Why.OtherBlock; is-refused = e; its-number = refl } })
+
   -- a state was looked for in the lent bytes
   module _ (bs : List ℕ) (bytes : Bytes bs) (h : Held) (held : h ≡ held-of (read-state (s .pauses) bs)) where
     found : h ≡ held-of (read-state (g .pauses) bs)
@@ -151,10 +166,10 @@ module _ {tab : Table} {s : Summary} {g : Good} (o : Opened tab s g) where
     pub took-finished : h .phase ≡ 2 → Took Finished
     took-finished e = took Finished finished (held-finished _ (its-phase 2 e)) (λ d. refl)
 
-    pub state-way : (given : ℕ) {phase : Phase} {r : Grounds} (t : Took phase) → Meets (clash-tried g (t .st) given) tab r
-        → Meets (try-state g given (read-state (g .pauses) bs)) tab r
+    pub state-way : (given : ℕ) {phase : Phase} {r : Grounds} (t : Took phase) → Meets (try-names g (t .st) bs given) tab r
+        → Meets (try-state g bs given (read-state (g .pauses) bs)) tab r
     unfolding try-state
-    state-way given {phase} {r} t m = subst (λ (f : Found). Meets (try-state g given f) tab r) (sym (t .its-state)) m
+    state-way given {phase} {r} t m = subst (λ (f : Found). Meets (try-state g bs given f) tab r) (sym (t .its-state)) m
 
     no-phase : (f : Found) → (held-of f .phase ≡ 0 → ⊥) → (held-of f .phase ≡ 1 → ⊥) → (held-of f .phase ≡ 2 → ⊥) → f ≡ not-a-state
     unfolding held-of phase-of
@@ -164,10 +179,10 @@ module _ {tab : Table} {s : Summary} {g : Good} (o : Opened tab s g) where
     no-phase (state finished) a b c = absurd (c refl)
 
     pub no-state-way : (given : ℕ) {r : Grounds} → (h .phase ≡ 0 → ⊥) → (h .phase ≡ 1 → ⊥) → (h .phase ≡ 2 → ⊥) → r .met ≡ Refused Why.State 0
-        → Meets (try-state g given (read-state (g .pauses) bs)) tab r
+        → Meets (try-state g bs given (read-state (g .pauses) bs)) tab r
     unfolding try-state Means number
     no-state-way given {r} a b c e =
-        subst (λ (f : Found). Meets (try-state g given f) tab r) (sym (no-phase _ (λ d. a (other d)) (λ d. b (other d)) (λ d. c (other d))))
+        subst (λ (f : Found). Meets (try-state g bs given f) tab r) (sym (no-phase _ (λ d. a (other d)) (λ d. b (other d)) (λ d. c (other d))))
         (record { means = record { why = Why.State; is-refused = e; its-number = refl } })
       where
         other : {n : ℕ} → held-of (read-state (g .pauses) bs) .phase ≡ n → h .phase ≡ n
@@ -186,7 +201,7 @@ module _ (b : List ℕ) {tab : Table} {x : Checked} (w : ReadWhole (reading b) t
       let r = was-good w e in
       (r .0, record { bytes = b; its-reading = r .1; stands = has-body w (r .1); summed = sym (r .2) }, r .1)
 
-  pub block-way : (s : List ℕ) (given : ℕ) {g : Good} {r : Grounds} → reading b ≡ good g → Meets (try-state g given (read-state (g .pauses) s)) tab r
+  pub block-way : (s : List ℕ) (given : ℕ) {g : Good} {r : Grounds} → reading b ≡ good g → Meets (try-state g s given (read-state (g .pauses) s)) tab r
       → Meets (front b s given) tab r
   unfolding front try-block
   block-way s given {g} {r} e m = subst (λ (y : Reading). Meets (try-block s given y) tab r) (sym e) m

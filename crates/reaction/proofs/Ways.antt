@@ -73,7 +73,7 @@ module _ (b : Block) (r : Reacted) (fits : Fitting r) (o : Outcome) where
   answered-comes outs c st n a e ph k = record {
     same-case = ap case-of e;
     told-is = ap instant-told e ∙ fields;
-    writes = ap (state-bytes (o .phase)) k ∙ written-state st (o .phase) (r .kept) (fits .low-fits .fits) (fits .high-fits .fits) its-phase its-set;
+    writes = λ v n. ap (state-bytes v n (o .phase)) k ∙ written-state v n st (o .phase) (r .kept) (fits .low-fits .fits) (fits .high-fits .fits) its-phase its-set;
   }
     where
       its-set : set-of (r .kept) ≡ active-of st

@@ -1,14 +1,17 @@
--- The tests before the rules, in their written order, on the caller's bytes: the block's 1 to 8, then 9, 10 and 11. Assumes nothing.
+-- The tests before the rules, in their written order, on the caller's bytes: the block's 1 to 8, then 9, 17, 10 and 11. Assumes nothing.
 use mathlib.Core.Bool.{cond}
 use mathlib.Core.List.{List}
 use mathlib.Core.Option.{Option, none, some}
 use Prim.Native.Nat.{ℕ}
 use Rattle.rules.specs.States.{State, active-of}
 use Rattle.block.specs.Format.{Good, Reading, good, turned-down, reading}
-use Rattle.records.specs.StateRecord.{Found, not-a-state, state, read-state, Pair, first-clash, undeclared-input}
+use Rattle.records.specs.StateRecord.{Found, not-a-state, state, read-state, names-block, Pair, first-clash, undeclared-input}
 
 abbrev pub STATE : ℕ
 STATE = 9
+
+abbrev pub OTHER-BLOCK : ℕ
+OTHER-BLOCK = 17
 
 abbrev pub INPUT : ℕ
 INPUT = 11
@@ -31,14 +34,18 @@ try-clash g st given none = try-inputs g st given
 abbrev pub clash-tried : Good → State → ℕ → Front
 clash-tried g st given = try-clash g st given (first-clash (g .body) (active-of st))
 
+-- OTHER BLOCK, for a state that was found: the record names this block by its version and its statement count, or it is another's.
+unfoldable pub try-names : Good → State → List ℕ → ℕ → Front
+try-names g st s given = cond (names-block (g .header .version) (g .statements) s) (clash-tried g st given) (stopped OTHER-BLOCK 0)
+
 -- STATE, for a block that was read.
-unfoldable pub try-state : Good → ℕ → Found → Front
-try-state g given not-a-state = stopped STATE 0
-try-state g given (state st) = clash-tried g st given
+unfoldable pub try-state : Good → List ℕ → ℕ → Found → Front
+try-state g s given not-a-state = stopped STATE 0
+try-state g s given (state st) = try-names g st s given
 
 unfoldable pub try-block : List ℕ → ℕ → Reading → Front
 try-block s given (turned-down n at) = stopped n at
-try-block s given (good g) = try-state g given (read-state (g .pauses) s)
+try-block s given (good g) = try-state g s given (read-state (g .pauses) s)
 
 -- All of them, for a block's bytes, a state's bytes and an input set.
 unfoldable pub front : List ℕ → List ℕ → ℕ → Front

@@ -9,7 +9,7 @@ use Rattle.rules.specs.Events.{present, absent, Hearing, all-heard}
 use Rattle.rules.specs.States.{State, active-of}
 use Rattle.rules.specs.Rounds.{outputs-with, undecided, Answer, answered, not-constructive, react}
 use Rattle.block.specs.Format.{Good}
-use Rattle.records.specs.StateRecord.{state-record, Pair}
+use Rattle.records.specs.StateRecord.{version-in, statements-in, state-record, Pair}
 use Rattle.records.specs.LogRecord.{no-room, logged-at}
 use Rattle.reaction.specs.Fronts.{Front, stopped, clashing, ready, front}
 
@@ -43,7 +43,7 @@ goes-on given roomless (stopped n at) = refused n at
 goes-on given roomless (clashing pair) = clash pair
 goes-on given roomless (ready g st) = cond roomless (refused ROOM 0) (reacted (block-of g) (react (block-of g) st (heard-of g given)))
 
--- All in their order: the block's 1 to 8, then 9, 10, 11, and 12; then the reaction.
+-- All in their order: the block's 1 to 8, then 9, 17, 10, 11, and 12; then the reaction.
 unfoldable pub verdict : List ℕ → List ℕ → ℕ → Bool → Verdict
 verdict b s given roomless = goes-on given roomless (front b s given)
 
@@ -105,9 +105,9 @@ told (refused n at) = told-refusal n at 0 0
 told (clash pair) = told-refusal CLASH 0 (pair .first) (pair .second)
 told (reacted b a) = told-reaction b a
 
--- The state's bytes afterwards: an answered instant writes the next state, anything else leaves every byte.
+-- The state's bytes afterwards: an answered instant writes the next state, which names the same block; anything else leaves every byte.
 abbrev pub state-by : List ℕ → Answer → List ℕ
-state-by s (answered outs c st r) = state-record st
+state-by s (answered outs c st r) = state-record (version-in s) (statements-in s) st
 state-by s (not-constructive outs r) = s
 
 unfoldable pub state-after : List ℕ → Verdict → List ℕ

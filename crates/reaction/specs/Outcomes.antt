@@ -24,11 +24,11 @@ use Rattle.reaction.specs.Answers.{instant-told}
 use Rattle.reaction.specs.Fronts.{Front, stopped, clashing, ready}
 use Rattle.reaction.specs.Instants.{Verdict, refused, clash, reacted, told}
 
--- Where the instant is answered, the phase and the two words make the next state's record.
+-- Where the instant is answered, the phase and the two words make the next state's record, whatever block it names.
 unfoldable pub Writes : Verdict → Outcome → Type 0
 Writes (refused n at) o = Unit {0}
 Writes (clash pair) o = Unit {0}
-Writes (reacted b (answered outs c st r)) o = state-bytes (o .phase) (o .kept) ≡ state-record st
+Writes (reacted b (answered outs c st r)) o = (v n : ℕ) → state-bytes v n (o .phase) (o .kept) ≡ state-record v n st
 Writes (reacted b (not-constructive outs r)) o = Unit {0}
 
 -- Which of the four cases it is.

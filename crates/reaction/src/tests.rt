@@ -1,4 +1,4 @@
-// The tests before the rules, in their written order: the block's 1 to 8, then STATE, CLASH with its pair, and INPUT. The table is the caller's, and stands
+// The tests before the rules, in their written order: the block's 1 to 8, then STATE, OTHER BLOCK, CLASH with its pair, and INPUT. The table is the caller's, and stands
 // for the block where all are passed.
 use crate::Grounds;
 use crate::Met;
@@ -10,6 +10,7 @@ use records::bits::input_over;
 use records::clash::Clash;
 use records::clash::first_clash;
 use records::state::Held;
+use records::state::names_block;
 use records::state::read_state;
 use refusals::Why;
 ghost use mathlib.Core.Path.{_≡_};
@@ -68,18 +69,37 @@ fn at_clash(
     }
 }
 
+// OTHER BLOCK, for a state that was found.
+fn at_names(
+    kinds: &[u16; 512],
+    sizes: &[u16; 512],
+    s: Summary,
+    state: &[u8],
+    phase: Phase,
+    set: [u64; 2],
+    given: u64,
+) -> Grounds
+    requires { ⌜ ((xs : List ℕ) × (g : Good) × Opened (table-of (now kinds) xs (now sizes)) s g × ((k : ℕ) → T (set-of set k) → k < g .pauses)) ⌝ }
+    ensures { λ r. ⌜ ((xs : List ℕ) (g : Good) → Opened (table-of (now (kinds .entry)) xs (now (sizes .entry))) s g → ((k : ℕ) → T (set-of set k) → k < g .pauses) → (st : State) → Begins st phase set → Meets (fronts.try-names g st (now (state .entry)) given) (table-of (now (kinds .entry)) xs (now (sizes .entry))) r) ⌝ }
+{
+    if names_block(state, s.version, s.statements) {
+        return at_clash(kinds, sizes, s, phase, set, given);
+    }
+    stopped(Met::Refused(Why::OtherBlock, 0))
+}
+
 // STATE, for a block that was read.
 fn at_state(kinds: &[u16; 512], sizes: &[u16; 512], s: Summary, state: &[u8], given: u64) -> Grounds
     requires { ⌜ ((xs : List ℕ) × (g : Good) × Opened (table-of (now kinds) xs (now sizes)) s g) ⌝ }
-    ensures { λ r. ⌜ ((xs : List ℕ) (g : Good) → Opened (table-of (now (kinds .entry)) xs (now (sizes .entry))) s g → Meets (fronts.try-state g given (read-state (g .pauses) (now (state .entry)))) (table-of (now (kinds .entry)) xs (now (sizes .entry))) r) ⌝ }
+    ensures { λ r. ⌜ ((xs : List ℕ) (g : Good) → Opened (table-of (now (kinds .entry)) xs (now (sizes .entry))) s g → Meets (fronts.try-state g (now (state .entry)) given (read-state (g .pauses) (now (state .entry)))) (table-of (now (kinds .entry)) xs (now (sizes .entry))) r) ⌝ }
 {
     let held = read_state(state, s.pauses);
     let phase = held.phase;
     let set = held.active;
     match phase {
-        0 => at_clash(kinds, sizes, s, Phase::Fresh, set, given),
-        1 => at_clash(kinds, sizes, s, Phase::Running, set, given),
-        2 => at_clash(kinds, sizes, s, Phase::Finished, set, given),
+        0 => at_names(kinds, sizes, s, state, Phase::Fresh, set, given),
+        1 => at_names(kinds, sizes, s, state, Phase::Running, set, given),
+        2 => at_names(kinds, sizes, s, state, Phase::Finished, set, given),
         _ => stopped(Met::Refused(Why::State, 0)),
     }
 }

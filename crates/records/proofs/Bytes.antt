@@ -7,16 +7,16 @@ use native.Mathlib.Nat.{pow-suc, pow-le-pow-right, zero-lt-suc, add-zero, zero-a
 use native.Mathlib.Omega.{arith}
 use lib.ListN.{length, getD, take, drop, set}
 use lib.Seq.{drop-cons, sets, sets-eq}
-use Rattle.records.specs.Numerals.{Bytes, in-bytes, number-in, field}
+use Rattle.records.specs.Numerals.{Bytes, in-bytes, as-number, field}
 
 -- A field, from its first byte on.
 pub field-none : (s : List ℕ) (at : ℕ) → field s at 0 ≡ 0
-unfolding field number-in
+unfolding field as-number
 field-none s at = refl
 
 pub field-cons : (s : List ℕ) (at n : ℕ) → at < length s → field s at (suc n) ≡ getD s at 0 + 256 * field s (suc at) n
-unfolding field number-in
-field-cons s at n h = ap (λ (l : List ℕ). number-in (take (suc n) l)) (drop-cons s at 0 h)
+unfolding field as-number
+field-cons s at n h = ap (λ (l : List ℕ). as-number (take (suc n) l)) (drop-cons s at 0 h)
 
 -- One more byte below what was read.
 pub field-more : (s : List ℕ) (at n : ℕ) {a i x : ℕ} → at < length s → a ≡ suc at → i ≡ suc n → x ≡ field s a n
@@ -38,20 +38,20 @@ unfolding in-bytes
 length-in-bytes zero x = refl
 length-in-bytes (suc n) x = ap suc (length-in-bytes n (x / 256))
 
-pub number-in-bytes : (n : ℕ) {x : ℕ} → x < 256 ^ n → number-in (in-bytes n x) ≡ x
-unfolding number-in in-bytes
+pub number-in-bytes : (n : ℕ) {x : ℕ} → x < 256 ^ n → as-number (in-bytes n x) ≡ x
+unfolding as-number in-bytes
 number-in-bytes zero h = omega arith
 number-in-bytes (suc n) {x} h = omega (arith, number-in-bytes n {x = x / 256} (omega (arith, pow-suc 256 n)))
 
 -- And so many bytes are those of their number.
-pub bytes-of-number : (n : ℕ) (bs : List ℕ) → Bytes bs → n ≤ length bs → in-bytes n (number-in (take n bs)) ≡ take n bs
-unfolding number-in in-bytes
+pub bytes-of-number : (n : ℕ) (bs : List ℕ) → Bytes bs → n ≤ length bs → in-bytes n (as-number (take n bs)) ≡ take n bs
+unfolding as-number in-bytes
 bytes-of-number zero bs b h = refl
 bytes-of-number (suc n) [] b h = absurd (omega arith)
 bytes-of-number (suc n) (x ∷ bs) b h =
     let l : x < 256 = b .byte 0 in
-    let q : (x + 256 * number-in (take n bs)) / 256 ≡ number-in (take n bs) = omega arith in
-    let r : (x + 256 * number-in (take n bs)) % 256 ≡ x = omega arith in
+    let q : (x + 256 * as-number (take n bs)) / 256 ≡ as-number (take n bs) = omega arith in
+    let r : (x + 256 * as-number (take n bs)) % 256 ≡ x = omega arith in
     ap₂ _∷_ r (ap (in-bytes n) q ∙ bytes-of-number n bs (record { byte = λ i. b .byte (suc i) }) (omega arith))
 
 -- Stores one after the other.

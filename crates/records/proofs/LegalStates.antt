@@ -19,7 +19,7 @@ use Rattle.sets.proofs.Maxima.{some-to-in, some-to-out}
 use Rattle.sets.proofs.Counts.{lowest-is, Lowest}
 use Rattle.rules.specs.Statements.{Stmt, pauses}
 use Rattle.rules.specs.States.{State, fresh, running, finished, compatible, Legal, active-of}
-use Rattle.records.specs.Numerals.{Bytes, number-in, field}
+use Rattle.records.specs.Numerals.{Bytes, as-number, field}
 use Rattle.records.specs.Fields.{place}
 use Rattle.records.specs.StateRecord.{state-widths, state-size, length-in, kind-in, phase-in, low-in, high-in, Found, not-a-state, state, state-record, beyond, active-in, in-phase, read-state, clashes, first-clash, with-second, paired}
 use Rattle.records.proofs.TwoWords.{beyond-in, some-bit, in-low, in-high, below-128, below-width}
@@ -27,8 +27,8 @@ use Rattle.records.proofs.Pairs.{Clear-first, none-found, clash-first, 
 use Rattle.records.proofs.Back.{fresh-back, finished-back, running-back, compatible-sym}
 
 -- A field of so many bytes is below that power of 256.
-number-lt : (n : ℕ) (xs : List ℕ) → ((i : ℕ) → getD xs i 0 < 256) → number-in (take n xs) < 256 ^ n
-unfolding number-in
+number-lt : (n : ℕ) (xs : List ℕ) → ((i : ℕ) → getD xs i 0 < 256) → as-number (take n xs) < 256 ^ n
+unfolding as-number
 number-lt zero xs f = omega arith
 number-lt (suc n) [] f = omega (arith, pow-suc 256 n, number-lt n [] f)
 number-lt (suc n) (x ∷ xs) f =
@@ -100,7 +100,7 @@ module _ (n : ℕ) (bs : List ℕ) (b : Bytes bs) (A : Numbers) (e : read-state 
 
   pub found-below : (k : ℕ) → T (A k) → k < 128
   found-below k t =
-      below-128 (low-in bs) (high-in bs) (field-lt bs b (place state-widths 3) 8) (field-lt bs b (place state-widths 4) 8)
+      below-128 (low-in bs) (high-in bs) (field-lt bs b (place state-widths 5) 8) (field-lt bs b (place state-widths 6) 8)
       (subst⁻¹ (λ (B : Numbers). T (B k)) (ran .its-set) t)
 
   pub found-in-block : (k : ℕ) → T (A k) → k < n
@@ -116,7 +116,7 @@ module _ (n : ℕ) (bs : List ℕ) (b : Bytes bs) (A : Numbers) (e : read-state 
     where
       high : T (eqb (low-in bs) 0) → (k : ℕ) × T (A k)
       high z =
-          let r = some-bit (high-in bs) (field-lt bs b (place state-widths 4) 8) (λ y. ran .not-clear (eqb→eq (low-in bs) 0 z, y)) in
+          let r = some-bit (high-in bs) (field-lt bs b (place state-widths 6) 8) (λ y. ran .not-clear (eqb→eq (low-in bs) 0 z, y)) in
           let s : 64 + r .0 - 64 ≡ r .0 = omega arith in (
             64 + r .0,
             subst (λ (B : Numbers). T (B (64 + r .0))) (ran .its-set)
@@ -125,10 +125,10 @@ module _ (n : ℕ) (bs : List ℕ) (b : Bytes bs) (A : Numbers) (e : read-state 
 
       low : eqb (low-in bs) 0 ≡ false → (k : ℕ) × T (A k)
       low z =
-          let r = some-bit (low-in bs) (field-lt bs b (place state-widths 3) 8) (λ y. of-false z (eqb-in y)) in (
+          let r = some-bit (low-in bs) (field-lt bs b (place state-widths 5) 8) (λ y. of-false z (eqb-in y)) in (
             r .0,
             subst (λ (B : Numbers). T (B (r .0))) (ran .its-set)
-                (subst⁻¹ T (in-low (low-in bs) (high-in bs) (below-width (low-in bs) (field-lt bs b (place state-widths 3) 8) (r .1))) (r .1)),
+                (subst⁻¹ T (in-low (low-in bs) (high-in bs) (below-width (low-in bs) (field-lt bs b (place state-widths 5) 8) (r .1))) (r .1)),
           )
 
       go : T (eqb (low-in bs) 0) ⊎ (eqb (low-in bs) 0 ≡ false) → (k : ℕ) × T (A k)
@@ -188,11 +188,12 @@ found-legal t bs b (running A) e c = record {
 found-legal t bs b finished e c = tt
 
 -- A legal state of a block with at most 128 pauses is found in its record, and has no clash.
-pub legal-found : (t : Stmt) → length (pauses t) ≤ 128 → (st : State) → Legal t st → read-state (length (pauses t)) (state-record st) ≡ state st
+pub legal-found : (v n : ℕ) (t : Stmt) → length (pauses t) ≤ 128 → (st : State) → Legal t st
+    → read-state (length (pauses t)) (state-record v n st) ≡ state st
 unfolding Legal
-legal-found t h fresh g = fresh-back (length (pauses t))
-legal-found t h (running A) g = running-back (length (pauses t)) A h (g .in-block) (g .some-active)
-legal-found t h finished g = finished-back (length (pauses t))
+legal-found v n t h fresh g = fresh-back v n (length (pauses t))
+legal-found v n t h (running A) g = running-back v n (length (pauses t)) A h (g .in-block) (g .some-active)
+legal-found v n t h finished g = finished-back v n (length (pauses t))
 
 empty-clear : (t : Stmt) → Clear-first t empty 128
 empty-clear t = record { none-below = λ i j h l c. clash-first t empty i j c }

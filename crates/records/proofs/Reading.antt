@@ -1,16 +1,20 @@
 -- Reading a state record: each way through the code has one law, from the tests on the way to what the record holds. Assumes nothing.
 use mathlib.Core.Path.{_≡_, refl, sym, ap, ap₂, _∙_}
-use mathlib.Core.Bool.{Bool, true, false, not, cond, _&&_}
+use mathlib.Core.Logic.{_⊎_, inl, inr, _≢_}
+use mathlib.Core.Bool.{Bool, true, false, not, cond, _&&_, true≢false}
 use mathlib.Core.List.{List, [], _∷_}
 use Prim.Native.Nat.{ℕ, _<_, _^_}
-use lib.Dec.{eqb}
+use native.Mathlib.Omega.{arith}
+use native.Mathlib.Decide.{ℕ-discrete}
+use lib.Dec.{eqb, eqb→eq}
 use lib.ListN.{length, getD}
-use borrow.Author.Tests.{ne-eqb}
+use borrow.Author.Tests.{eq-eqb, ne-eqb, eqb-false}
 use Rattle.sets.specs.Numbers.{Numbers}
 use Rattle.sets.specs.Words.{two-words}
+use Rattle.sets.proofs.Members.{of-true, and-left, and-right}
 use Rattle.sets.proofs.Words.{word-empty}
-use Rattle.rules.specs.States.{fresh, running, finished}
-use Rattle.records.specs.StateRecord.{state-size, length-in, kind-in, phase-in, low-in, high-in, Found, not-a-state, state, beyond, in-phase, read-state}
+use Rattle.rules.specs.States.{State, fresh, running, finished}
+use Rattle.records.specs.StateRecord.{state-size, length-in, kind-in, version-in, statements-in, phase-in, low-in, high-in, Found, not-a-state, state, beyond, in-phase, read-state, names-block}
 use Rattle.records.specs.Held.{words-in, held-of}
 use Rattle.records.proofs.TwoWords.{words-low, words-high}
 
@@ -149,3 +153,60 @@ module _ (pauses : ℕ) (bs : List ℕ) where
   read-whole l h k =
       sym (ap (λ (n : ℕ). headed (eqb n state-size) (eqb (length-in bs) state-size) (eqb (kind-in bs) 2) (in-phase (phase-in bs) pauses bs)) l
       ∙ ap₂ (λ (x y : ℕ). headed true (eqb x state-size) (eqb y 2) (in-phase (phase-in bs) pauses bs)) h k)
+
+-- A record that holds a state has its size.
+pub found-sized : (pauses : ℕ) (bs : List ℕ) (st : State) → read-state pauses bs ≡ state st → length bs ≡ state-size
+found-sized pauses bs st e = go (ℕ-discrete (length bs) state-size)
+  where
+    go : Dec (length bs ≡ state-size) → length bs ≡ state-size
+    go (yes h) = h
+    go (no h) = let d : not-a-state ≡ state st = read-sized pauses bs h ∙ e in let z : _≡_ {A = ℕ} 0 1 = cc in absurd (omega arith)
+
+-- The block that a record names, by the tests of its two fields.
+module _ (version statements : ℕ) (bs : List ℕ) where
+  pub named-unsized : (length bs ≡ state-size → ⊥) → false ≡ names-block version statements bs
+  unfolding names-block
+  named-unsized h = sym (ap (λ (x : Bool). x && eqb (version-in bs) version && eqb (statements-in bs) statements) (ne-eqb (length bs) state-size h))
+
+  pub named-other : {x : ℕ} → x ≡ version-in bs → length bs ≡ state-size → (x ≡ version → ⊥) → false ≡ names-block version statements bs
+  unfolding names-block
+  named-other e l h =
+      sym (ap₂ (λ (x y : Bool). x && y && eqb (statements-in bs) statements) (eq-eqb (length bs) state-size l)
+      (ne-eqb (version-in bs) version (λ z. h (e ∙ z))))
+
+  pub named-by : {x y : ℕ} → x ≡ version-in bs → y ≡ statements-in bs → length bs ≡ state-size → x ≡ version
+      → eqb y statements ≡ names-block version statements bs
+  unfolding names-block
+  named-by {x} {y} e f l h =
+      ap (λ (k : ℕ). eqb k statements) f
+      ∙ sym (ap₂ (λ (a b : Bool). a && b && eqb (statements-in bs) statements) (eq-eqb (length bs) state-size l) (eq-eqb (version-in bs) version (sym e ∙ h)))
+
+  -- what the test says of the two fields
+  pub named-version : names-block version statements bs ≡ true → version-in bs ≡ version
+  unfolding names-block
+  named-version e =
+      eqb→eq (version-in bs) version
+      (and-right (eqb (length bs) state-size) (eqb (version-in bs) version)
+      (and-left (eqb (length bs) state-size && eqb (version-in bs) version) (eqb (statements-in bs) statements) (of-true e)))
+
+  pub named-statements : names-block version statements bs ≡ true → statements-in bs ≡ statements
+  unfolding names-block
+  named-statements e =
+      eqb→eq (statements-in bs) statements
+      (and-right (eqb (length bs) state-size && eqb (version-in bs) version) (eqb (statements-in bs) statements) (of-true e))
+
+  pub named-not : length bs ≡ state-size → names-block version statements bs ≡ false → (version-in bs ≢ version) ⊎ (statements-in bs ≢ statements)
+  unfolding names-block
+  named-not l e = go (eqb (version-in bs) version) (eqb (statements-in bs) statements) refl refl (sym (ap (λ (b : Bool). b && its-version && its-count) (eq-eqb (length bs) state-size l)) ∙ e)
+    where
+      its-version : Bool
+      its-version = eqb (version-in bs) version
+
+      its-count : Bool
+      its-count = eqb (statements-in bs) statements
+
+      go : (x y : Bool) → eqb (version-in bs) version ≡ x → eqb (statements-in bs) statements ≡ y → (its-version && its-count) ≡ false
+          → (version-in bs ≢ version) ⊎ (statements-in bs ≢ statements)
+      go false y p q f = inl (eqb-false (version-in bs) version p)
+      go true false p q f = inr (eqb-false (statements-in bs) statements q)
+      go true true p q f = absurd (true≢false (sym (ap₂ (λ (x y : Bool). x && y) p q) ∙ f))

@@ -7,7 +7,7 @@ use native.Mathlib.Omega.{arith}
 use native.Mathlib.Nat.{add-assoc}
 use lib.ListN.{length, getD, take, drop, length-append, length-drop, drop-of-length-le, take-append-drop}
 use lib.Seq.{sets, drop-cons, drop-drop, drop-length, take-at, drop-append-add, getD-drop}
-use Rattle.records.specs.Numerals.{Bytes, in-bytes, number-in, field}
+use Rattle.records.specs.Numerals.{Bytes, in-bytes, as-number, field}
 use Rattle.records.specs.Fields.{size, place, laid, value, values, Fit}
 use Rattle.records.proofs.Bytes.{length-in-bytes, number-in-bytes, bytes-of-number, sets-append, sets-front}
 
@@ -70,7 +70,7 @@ place-within (w ∷ ws) (suc i) = omega (arith, place-within ws i)
 value-behind : (w : ℕ) (ws front rest : List ℕ) (i : ℕ) → length front ≡ w → value (w ∷ ws) (suc i) (front ++ rest) ≡ value ws i rest
 unfolding field
 value-behind w ws front rest i e =
-    ap (λ (l : List ℕ). number-in (take (getD ws i 0) l))
+    ap (λ (l : List ℕ). as-number (take (getD ws i 0) l))
     (ap (λ (n : ℕ). drop (n + place ws i) (front ++ rest)) (sym e) ∙ drop-append-add front rest (place ws i))
 
 -- Written and read back: a value that fits its field, whatever lies behind the fields.
@@ -78,11 +78,11 @@ pub read-laid : (ws xs rest : List ℕ) (i : ℕ) → i < length ws → getD xs 
 unfolding laid field
 read-laid [] xs rest i h f = absurd (omega arith)
 read-laid (w ∷ ws) [] rest zero h f =
-    ap (λ (l : List ℕ). number-in (take w l)) (append-assoc (in-bytes w 0) (laid ws []) rest)
-    ∙ ap number-in (take-at (in-bytes w 0) (laid ws [] ++ rest) w (length-in-bytes w 0)) ∙ number-in-bytes w f
+    ap (λ (l : List ℕ). as-number (take w l)) (append-assoc (in-bytes w 0) (laid ws []) rest)
+    ∙ ap as-number (take-at (in-bytes w 0) (laid ws [] ++ rest) w (length-in-bytes w 0)) ∙ number-in-bytes w f
 read-laid (w ∷ ws) (x ∷ xs) rest zero h f =
-    ap (λ (l : List ℕ). number-in (take w l)) (append-assoc (in-bytes w x) (laid ws xs) rest)
-    ∙ ap number-in (take-at (in-bytes w x) (laid ws xs ++ rest) w (length-in-bytes w x)) ∙ number-in-bytes w f
+    ap (λ (l : List ℕ). as-number (take w l)) (append-assoc (in-bytes w x) (laid ws xs) rest)
+    ∙ ap as-number (take-at (in-bytes w x) (laid ws xs ++ rest) w (length-in-bytes w x)) ∙ number-in-bytes w f
 read-laid (w ∷ ws) [] rest (suc i) h f =
     ap (value (w ∷ ws) (suc i)) (append-assoc (in-bytes w 0) (laid ws []) rest)
     ∙ value-behind w ws (in-bytes w 0) (laid ws [] ++ rest) i (length-in-bytes w 0) ∙ read-laid ws [] rest i (omega arith) f
@@ -103,7 +103,7 @@ values-laid (w ∷ ws) (x ∷ xs) rest f =
     let behind : Fit ws xs = record { as-many = omega (arith, f .as-many); fits = λ i h. f .fits (suc i) (omega arith) } in
     ap (values (w ∷ ws)) (append-assoc (in-bytes w x) (laid ws xs) rest)
     ∙ ap₂ _∷_
-    (ap number-in (take-at (in-bytes w x) (laid ws xs ++ rest) w (length-in-bytes w x)) ∙ number-in-bytes w (f .fits 0 (omega arith)))
+    (ap as-number (take-at (in-bytes w x) (laid ws xs ++ rest) w (length-in-bytes w x)) ∙ number-in-bytes w (f .fits 0 (omega arith)))
     (ap (values ws) (lib.Seq.drop-at (in-bytes w x) (laid ws xs ++ rest) w (length-in-bytes w x)) ∙ values-laid ws xs rest behind)
 
 -- The values are those of the fields.
@@ -112,7 +112,7 @@ unfolding values field
 value-of [] bs i h = absurd (omega arith)
 value-of (w ∷ ws) bs zero h = refl
 value-of (w ∷ ws) bs (suc i) h =
-    value-of ws (drop w bs) i (omega arith) ∙ ap (λ (l : List ℕ). number-in (take (getD ws i 0) l)) (drop-drop (place ws i) w bs)
+    value-of ws (drop w bs) i (omega arith) ∙ ap (λ (l : List ℕ). as-number (take (getD ws i 0) l)) (drop-drop (place ws i) w bs)
 
 -- Read and written back: bytes of that size are those of their own values.
 pub laid-only : (ws bs : List ℕ) → Bytes bs → length bs ≡ size ws → laid ws (values ws bs) ≡ bs

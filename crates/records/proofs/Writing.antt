@@ -21,32 +21,34 @@ use Rattle.records.proofs.Widths.{laid-front, laid-whole}
 use Rattle.records.proofs.TwoWords.{words-low, words-high, set-of-none}
 
 -- The state's fields over all the lent bytes.
-pub state-stored : (s : List ℕ) (phase : ℕ) (ws : List ℕ) {s' : List ℕ} → length s ≡ state-size
-    → s' ≡ sets s 0 (laid state-widths (state-values phase (getD ws 0 0) (getD ws 1 0))) → s' ≡ state-bytes phase ws
+pub state-stored : (s : List ℕ) (version statements phase : ℕ) (ws : List ℕ) {s' : List ℕ} → length s ≡ state-size
+    → s' ≡ sets s 0 (laid state-widths (state-values version statements phase (getD ws 0 0) (getD ws 1 0))) → s' ≡ state-bytes version statements phase ws
 unfolding state-bytes
-state-stored s phase ws l e = e ∙ laid-whole state-widths (state-values phase (getD ws 0 0) (getD ws 1 0)) s l
+state-stored s version statements phase ws l e =
+    e ∙ laid-whole state-widths (state-values version statements phase (getD ws 0 0) (getD ws 1 0)) s l
 
--- The bytes of a state's own phase and words are the state's record.
-pub state-written : (st : State) → state-bytes (phase-of st) (words-of (active-of st)) ≡ state-record st
-unfolding state-bytes state-record
-state-written st = refl
+-- The bytes of a state's own phase and words are the state's record, whatever block it names.
+module _ (version statements : ℕ) where
+  pub state-written : (st : State) → state-bytes version statements (phase-of st) (words-of (active-of st)) ≡ state-record version statements st
+  unfolding state-bytes state-record
+  state-written st = refl
 
-pub written-state : (st : State) (phase : ℕ) (ws : List ℕ) → getD ws 0 0 < 2 ^ 64 → getD ws 1 0 < 2 ^ 64
-    → phase ≡ phase-of st → set-of ws ≡ active-of st → state-bytes phase ws ≡ state-record st
-unfolding state-bytes state-record
-written-state st phase ws l h p a =
-    let low : getD ws 0 0 ≡ word 64 (active-of st) = sym (words-low (getD ws 0 0) (getD ws 1 0) l h) ∙ ap (word 64) a in
-    let high : getD ws 1 0 ≡ word 64 (upper (active-of st)) = sym (words-high (getD ws 0 0) (getD ws 1 0) l h) ∙ ap (λ A. word 64 (upper A)) a in
-    ap₂ (λ (x y : ℕ). laid state-widths (state-values phase x y)) low high
-    ∙ ap (λ (n : ℕ). laid state-widths (state-values n (word 64 (active-of st)) (word 64 (upper (active-of st))))) p
+  pub written-state : (st : State) (phase : ℕ) (ws : List ℕ) → getD ws 0 0 < 2 ^ 64 → getD ws 1 0 < 2 ^ 64
+      → phase ≡ phase-of st → set-of ws ≡ active-of st → state-bytes version statements phase ws ≡ state-record version statements st
+  unfolding state-bytes state-record
+  written-state st phase ws l h p a =
+      let low : getD ws 0 0 ≡ word 64 (active-of st) = sym (words-low (getD ws 0 0) (getD ws 1 0) l h) ∙ ap (word 64) a in
+      let high : getD ws 1 0 ≡ word 64 (upper (active-of st)) = sym (words-high (getD ws 0 0) (getD ws 1 0) l h) ∙ ap (λ A. word 64 (upper A)) a in
+      ap₂ (λ (x y : ℕ). laid state-widths (state-values version statements phase x y)) low high
+      ∙ ap (λ (n : ℕ). laid state-widths (state-values version statements n (word 64 (active-of st)) (word 64 (upper (active-of st))))) p
 
-pub fresh-written : state-bytes 0 (0 ∷ 0 ∷ []) ≡ state-record fresh
-unfolding phase-of active-of
-fresh-written = written-state fresh 0 (0 ∷ 0 ∷ []) (omega arith) (omega arith) refl (ext set-of-none)
+  pub fresh-written : state-bytes version statements 0 (0 ∷ 0 ∷ []) ≡ state-record version statements fresh
+  unfolding phase-of active-of
+  fresh-written = written-state fresh 0 (0 ∷ 0 ∷ []) (omega arith) (omega arith) refl (ext set-of-none)
 
-pub finished-written : state-bytes 2 (0 ∷ 0 ∷ []) ≡ state-record finished
-unfolding phase-of active-of
-finished-written = written-state finished 2 (0 ∷ 0 ∷ []) (omega arith) (omega arith) refl (ext set-of-none)
+  pub finished-written : state-bytes version statements 2 (0 ∷ 0 ∷ []) ≡ state-record version statements finished
+  unfolding phase-of active-of
+  finished-written = written-state finished 2 (0 ∷ 0 ∷ []) (omega arith) (omega arith) refl (ext set-of-none)
 
 -- The log record's fields, in front of what lies behind them.
 pub log-stored : (s : List ℕ) (l : Logged) {s' : List ℕ} → log-size ≤ length s → s' ≡ sets s 0 (laid log-widths (log-values l))

@@ -3,7 +3,7 @@ use mathlib.Core.Path.{_≡_}
 use mathlib.Core.List.{List, [], _∷_, _++_}
 use Prim.Native.Nat.{ℕ, _+_, _^_, _<_}
 use lib.ListN.{length, getD, take, drop}
-use Rattle.records.specs.Numerals.{in-bytes, number-in, field}
+use Rattle.records.specs.Numerals.{in-bytes, as-number, field}
 
 -- How many bytes fields of these widths have.
 abbrev pub size : List ℕ → ℕ
@@ -27,9 +27,9 @@ value ws i bs = field bs (place ws i) (getD ws i 0)
 
 -- The values of all fields.
 unfoldable pub values : List ℕ → List ℕ → List ℕ
-unfolding number-in
+unfolding as-number
 values [] bs = []
-values (w ∷ ws) bs = number-in (take w bs) ∷ values ws (drop w bs)
+values (w ∷ ws) bs = as-number (take w bs) ∷ values ws (drop w bs)
 
 -- Each value is a number of as many bytes as its field has.
 pub record Fit (ws xs : List ℕ) : Type 0 where

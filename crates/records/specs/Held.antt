@@ -23,7 +23,7 @@ unfolding word phase-of active-of
 held-of not-a-state = record { phase = 3; active = 0 ∷ 0 ∷ [] }
 held-of (state st) = record { phase = phase-of st; active = words-of (active-of st) }
 
--- The bytes of a state record, from the phase's number and the two words.
-unfoldable pub state-bytes : ℕ → List ℕ → List ℕ
+-- The bytes of a state record, from the block's version and statement count, the phase's number and the two words.
+unfoldable pub state-bytes : ℕ → ℕ → ℕ → List ℕ → List ℕ
 unfolding laid
-state-bytes phase ws = laid state-widths (state-values phase (getD ws 0 0) (getD ws 1 0))
+state-bytes version statements phase ws = laid state-widths (state-values version statements phase (getD ws 0 0) (getD ws 1 0))

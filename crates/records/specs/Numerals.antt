@@ -13,11 +13,11 @@ in-bytes zero x = []
 in-bytes (suc n) x = x % 256 ∷ in-bytes n (x / 256)
 
 -- The number of some bytes.
-unfoldable pub number-in : List ℕ → ℕ
-number-in [] = 0
-number-in (b ∷ bs) = b + 256 * number-in bs
+unfoldable pub as-number : List ℕ → ℕ
+as-number [] = 0
+as-number (b ∷ bs) = b + 256 * as-number bs
 
 -- The number in n bytes from a place on.
 unfoldable pub field : List ℕ → ℕ → ℕ → ℕ
-unfolding number-in
-field bs at n = number-in (take n (drop at bs))
+unfolding as-number
+field bs at n = as-number (take n (drop at bs))

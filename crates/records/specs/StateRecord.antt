@@ -1,4 +1,4 @@
--- The state record: its fields, the refusals 9 and 10, and the input set's 11. Assumes nothing.
+-- The state record: its fields, the refusals 9, 17 and 10, and the input set's 11. Assumes nothing.
 use mathlib.Core.Bool.{Bool, not, cond, _&&_}
 use mathlib.Core.List.{List, [], _∷_}
 use mathlib.Core.Option.{Option, none, some}
@@ -15,20 +15,22 @@ use Rattle.records.specs.Fields.{size, laid, value}
 abbrev pub upper : Numbers → Numbers
 upper A n = A (64 + n)
 
--- The fields and how many bytes each has: length, kind, phase, then two 64-bit words.
+-- The fields and how many bytes each has: length, kind, the block's version and its statement count, phase, then two 64-bit words.
 abbrev pub state-widths : List ℕ
-state-widths = 2 ∷ 2 ∷ 2 ∷ 8 ∷ 8 ∷ []
+state-widths = 2 ∷ 2 ∷ 2 ∷ 2 ∷ 2 ∷ 8 ∷ 8 ∷ []
 
 abbrev pub state-size : ℕ
 state-size = size state-widths
 
 -- Their values: the kind is 2, and bit n of the 128 is for pause n.
-abbrev pub state-values : ℕ → ℕ → ℕ → List ℕ
-state-values phase low high = state-size ∷ 2 ∷ phase ∷ low ∷ high ∷ []
+abbrev pub state-values : ℕ → ℕ → ℕ → ℕ → ℕ → List ℕ
+state-values version statements phase low high = state-size ∷ 2 ∷ version ∷ statements ∷ phase ∷ low ∷ high ∷ []
 
-unfoldable pub state-record : State → List ℕ
+-- The record of a state of a block with this version and so many statements.
+unfoldable pub state-record : ℕ → ℕ → State → List ℕ
 unfolding laid word phase-of active-of
-state-record st = laid state-widths (state-values (phase-of st) (word 64 (active-of st)) (word 64 (upper (active-of st))))
+state-record version statements st =
+    laid state-widths (state-values version statements (phase-of st) (word 64 (active-of st)) (word 64 (upper (active-of st))))
 
 -- The values in some bytes.
 abbrev pub length-in : List ℕ → ℕ
@@ -37,14 +39,20 @@ length-in bs = value state-widths 0 bs
 abbrev pub kind-in : List ℕ → ℕ
 kind-in bs = value state-widths 1 bs
 
+abbrev pub version-in : List ℕ → ℕ
+version-in bs = value state-widths 2 bs
+
+abbrev pub statements-in : List ℕ → ℕ
+statements-in bs = value state-widths 3 bs
+
 abbrev pub phase-in : List ℕ → ℕ
-phase-in bs = value state-widths 2 bs
+phase-in bs = value state-widths 4 bs
 
 abbrev pub low-in : List ℕ → ℕ
-low-in bs = value state-widths 3 bs
+low-in bs = value state-widths 5 bs
 
 abbrev pub high-in : List ℕ → ℕ
-high-in bs = value state-widths 4 bs
+high-in bs = value state-widths 6 bs
 
 -- A record that holds a state, or none: STATE.
 pub data Found : Type 0 where
@@ -74,6 +82,10 @@ in-phase phase pauses bs =
 unfoldable pub read-state : ℕ → List ℕ → Found
 read-state pauses bs =
     cond (eqb (length bs) state-size && eqb (length-in bs) state-size && eqb (kind-in bs) 2) (in-phase (phase-in bs) pauses bs) not-a-state
+
+-- The record names a block of this version and so many statements; one that does not is OTHER BLOCK's.
+unfoldable pub names-block : ℕ → ℕ → List ℕ → Bool
+names-block version statements bs = eqb (length bs) state-size && eqb (version-in bs) version && eqb (statements-in bs) statements
 
 -- Two active pauses are not compatible; the first is the lower.
 unfoldable pub clashes : Stmt → Numbers → ℕ → ℕ → Bool

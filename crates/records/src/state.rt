@@ -8,13 +8,13 @@ ghost use mathlib.Core.List.{List};
 ghost use Prim.Native.Nat.{ℕ};
 ghost use lib.Dec.{eqb};
 ghost use lib.ListN.{length, getD};
-ghost use Rattle.records.specs.StateRecord.{state-size, not-a-state, in-phase, read-state};
+ghost use Rattle.records.specs.StateRecord.{state-size, version-in, statements-in, names-block, not-a-state, in-phase, read-state};
 ghost use Rattle.records.specs.Held.{words-in, held-of, state-bytes};
 
-// The record's fields: length, kind, phase, the two words.
-const WIDTHS: [usize; 5] = [2, 2, 2, 8, 8];
+// The record's fields: length, kind, the block's version and statement count, phase, the two words.
+const WIDTHS: [usize; 7] = [2, 2, 2, 2, 2, 8, 8];
 
-const SIZE: usize = 22;
+const SIZE: usize = 26;
 
 const KIND: u64 = 2;
 
@@ -86,16 +86,55 @@ pub fn read_state(state: &[u8], pauses: u16) -> Held
     if field_at(state, &WIDTHS, 1) != KIND {
         return no_state();
     }
-    let phase = field_at(state, &WIDTHS, 2);
-    let active = [field_at(state, &WIDTHS, 3), field_at(state, &WIDTHS, 4)];
+    let phase = field_at(state, &WIDTHS, 4);
+    let active = [field_at(state, &WIDTHS, 5), field_at(state, &WIDTHS, 6)];
     by_phase(phase, pauses, active)
 }
 
-// A state's record over the lent bytes.
-pub fn write_state(state: &mut [u8], phase: u16, active: [u64; 2])
-    requires { ⌜ length (now state) ≡ state-size ⌝ }
-    ensures { λ _. ⌜ now (state .exit) ≡ state-bytes phase active ⌝ }
+// Not OTHER BLOCK: the record names a block of this version and so many statements.
+pub fn names_block(state: &[u8], version: u16, statements: usize) -> bool
+    ensures { λ r. ⌜ r ≡ names-block version statements (now (state .entry)) ⌝ }
 {
-    let values = [SIZE as u64, KIND, phase as u64, active[0], active[1]];
+    if state.len() != SIZE {
+        return false;
+    }
+    if field_at(state, &WIDTHS, 2) != version as u64 {
+        return false;
+    }
+    field_at(state, &WIDTHS, 3) == statements as u64
+}
+
+// A state's record over the lent bytes.
+fn put_state(state: &mut [u8], version: u64, statements: u64, phase: u16, active: [u64; 2])
+    requires { ⌜ length (now state) ≡ state-size ⌝ }
+    ensures { λ _. ⌜ now (state .exit) ≡ state-bytes version statements phase active ⌝ }
+{
+    let values = [
+        SIZE as u64,
+        KIND,
+        version,
+        statements,
+        phase as u64,
+        active[0],
+        active[1],
+    ];
     put_fields(state, 0, &WIDTHS, &values);
+}
+
+// The record of a state of the block with this version and so many statements.
+pub fn write_state(state: &mut [u8], version: u16, statements: usize, phase: u16, active: [u64; 2])
+    requires { ⌜ length (now state) ≡ state-size ⌝ }
+    ensures { λ _. ⌜ now (state .exit) ≡ state-bytes version statements phase active ⌝ }
+{
+    put_state(state, version as u64, statements as u64, phase, active);
+}
+
+// The next state's record over that of the state before it: it names the same block.
+pub fn write_next(state: &mut [u8], phase: u16, active: [u64; 2])
+    requires { ⌜ length (now state) ≡ state-size ⌝ }
+    ensures { λ _. ⌜ now (state .exit) ≡ state-bytes (version-in (now (state .entry))) (statements-in (now (state .entry))) phase active ⌝ }
+{
+    let version = field_at(state, &WIDTHS, 2);
+    let statements = field_at(state, &WIDTHS, 3);
+    put_state(state, version, statements, phase, active);
 }

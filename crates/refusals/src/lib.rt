@@ -1,4 +1,4 @@
-// Why a call is turned down: the refusals by name, and document 01's numbers of them.
+// Why a call is turned down: the refusals by name, and their numbers.
 ghost use mathlib.Core.Path.{_≡_};
 ghost use Rattle.refusals.specs.Refusals.{number, why-of};
 
@@ -18,6 +18,7 @@ pub enum Why {
     Room,
     NotConstructive,
     Index,
+    OtherBlock,
 }
 
 // The refusal of a number.
@@ -39,6 +40,7 @@ pub fn refusal(n: u16) -> Why
         12 => Why::Room,
         13 => Why::NotConstructive,
         14 => Why::Index,
+        17 => Why::OtherBlock,
         _ => Why::Index,
     }
 }
@@ -62,5 +64,6 @@ pub fn number_of(why: Why) -> u16
         Why::Room => 12,
         Why::NotConstructive => 13,
         Why::Index => 14,
+        Why::OtherBlock => 17,
     }
 }

@@ -35,7 +35,7 @@ pub fn run(block_file: &[u8], inputs_file: &[u8]) {
 }
 
 fn run_block(block: &[u8], inputs_file: &[u8]) {
-    let mut state = [0u8; 22];
+    let mut state = [0u8; 26];
     let begun = line::begin(block, &mut state);
     match begun {
         Begun::TurnedDown(number, place) => print_block(number, place),

@@ -28,14 +28,26 @@ pub struct Refusal {
     pub place: usize,
 }
 
-/// The names of the refusals, from 1 on.
-const NAMES: [&str; 14] = [
-    "BROKEN", "KIND", "EDITION", "LIMIT", "SIGNAL", "EXIT", "SHAPE", "LOOP", "STATE", "CLASH", "INPUT", "ROOM", "NOT CONSTRUCTIVE", "INDEX",
-];
-
 /// The name of a refusal's number; none of a number that no call gives back.
 pub fn name_of(number: u16) -> Option<&'static str> {
-    usize::from(number).checked_sub(1).and_then(|at| NAMES.get(at)).copied()
+    Some(match number {
+        1 => "BROKEN",
+        2 => "KIND",
+        3 => "EDITION",
+        4 => "LIMIT",
+        5 => "SIGNAL",
+        6 => "EXIT",
+        7 => "SHAPE",
+        8 => "LOOP",
+        9 => "STATE",
+        10 => "CLASH",
+        11 => "INPUT",
+        12 => "ROOM",
+        13 => "NOT CONSTRUCTIVE",
+        14 => "INDEX",
+        17 => "OTHER BLOCK",
+        _ => return None,
+    })
 }
 
 impl fmt::Display for Refusal {
@@ -99,11 +111,11 @@ pub struct Logged {
 }
 
 /// The version of the library's calls and records, as FOLDHERON_VERSION in `include/foldheron.h`.
-pub const VERSION: &str = "1.1.0";
+pub const VERSION: &str = "2.0.0";
 /// How many bytes a block has at most.
 pub const BLOCK_MOST: usize = 3086;
 /// How many bytes a state has.
-pub const STATE: usize = 22;
+pub const STATE: usize = 26;
 /// How many bytes a log record has.
 pub const RECORD: usize = 24;
 
@@ -121,7 +133,7 @@ pub fn check(block: &[u8]) -> Result<Summary, Refusal> {
     })
 }
 
-/// Writes the fresh state of a block into 22 lent bytes.
+/// Writes the fresh state of a block, with the block's version and statement count, into 26 lent bytes.
 pub fn fresh(block: &[u8], state: &mut [u8]) -> Result<(), Refusal> {
     refusal(&raw::fresh(block, state))
 }

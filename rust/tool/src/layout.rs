@@ -2,6 +2,8 @@
 
 pub use foldheron::{BLOCK_MOST, RECORD, STATE};
 
+/// A state of the versions before 2.0.0, which does not name its block.
+pub const OLD_STATE: usize = 22;
 /// A record's head: its length and its kind.
 pub const HEAD: usize = 4;
 /// The header of a block.
@@ -105,25 +107,39 @@ impl Header {
     }
 }
 
-/// A state record's phase and its active pauses, bit n for pause n.
+/// A state record: the version and the statement count of its block, its phase and its active pauses, bit n for pause n.
 #[derive(Clone, Copy, PartialEq, Eq, Debug)]
 pub struct State {
+    pub version: u16,
+    pub statements: u16,
     pub phase: u16,
     pub active: u128,
 }
 
-/// Where a state has its phase and its two words of pauses.
-const PHASE_AT: usize = HEAD;
-const WORDS_AT: usize = PHASE_AT + 2;
+/// Where a state has its block's version and statement count, and its phase; its two words of pauses follow the phase.
+const VERSION_AT: usize = HEAD;
+const COUNT_AT: usize = VERSION_AT + 2;
+const PHASE_AT: usize = COUNT_AT + 2;
 
 impl State {
     /// The fields, where the bytes are a record of a state's length and kind.
     pub fn of(bytes: &[u8]) -> Option<State> {
-        if bytes.len() != STATE || two(bytes, 0)? != STATE as u16 || two(bytes, 2)? != STATE_KIND {
+        let state = State::from(bytes, STATE, PHASE_AT)?;
+        Some(State { version: two(bytes, VERSION_AT)?, statements: two(bytes, COUNT_AT)?, ..state })
+    }
+
+    /// The same of an old record, which names no block: its version and its count are 0 here.
+    pub fn of_old(bytes: &[u8]) -> Option<State> {
+        State::from(bytes, OLD_STATE, HEAD)
+    }
+
+    /// The phase, which begins at this byte, and the pauses of a record of so many bytes.
+    fn from(bytes: &[u8], length: usize, at: usize) -> Option<State> {
+        if bytes.len() != length || !begins_state(bytes, length as u64) {
             return None;
         }
-        let (low, high) = (eight(bytes, WORDS_AT)?, eight(bytes, WORDS_AT + 8)?);
-        Some(State { phase: two(bytes, PHASE_AT)?, active: u128::from(low) | u128::from(high) << 64 })
+        let (low, high) = (eight(bytes, at + 2)?, eight(bytes, at + 10)?);
+        Some(State { version: 0, statements: 0, phase: two(bytes, at)?, active: u128::from(low) | u128::from(high) << 64 })
     }
 
     pub fn phase_name(&self) -> Option<&'static str> {
@@ -178,10 +194,19 @@ mod tests {
 
     #[test]
     fn a_state() {
-        let mut bytes = [22, 0, 2, 0, 1, 0, 5, 0, 0, 0, 0, 0, 0, 0, 0, 0, 0, 0, 0, 0, 0, 128];
-        assert_eq!(State::of(&bytes).map(|state| state.pauses()), Some(vec![0, 2, 127]));
+        let mut bytes = [26, 0, 2, 0, 7, 1, 4, 2, 1, 0, 5, 0, 0, 0, 0, 0, 0, 0, 0, 0, 0, 0, 0, 0, 0, 128];
+        let state = State::of(&bytes).unwrap();
+        assert_eq!((state.version, state.statements, state.phase, state.pauses()), (263, 516, 1, vec![0, 2, 127]));
         bytes[0] = 23;
         assert_eq!(State::of(&bytes), None);
+    }
+
+    #[test]
+    fn an_old_state() {
+        let bytes = [22, 0, 2, 0, 1, 0, 5, 0, 0, 0, 0, 0, 0, 0, 0, 0, 0, 0, 0, 0, 0, 128];
+        assert_eq!(State::of(&bytes), None);
+        assert_eq!(State::of_old(&bytes).map(|state| (state.phase, state.pauses())), Some((1, vec![0, 2, 127])));
+        assert_eq!(State::of_old(&bytes[..21]), None);
     }
 
     #[test]

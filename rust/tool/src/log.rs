@@ -1,7 +1,7 @@
 //! A log: records one after the other. Read one at a time, or appended to.
 
 use crate::files::{self, shown};
-use crate::layout::{begins_log_record, begins_state, Header, HEAD, LOG_KIND, RECORD, STATE};
+use crate::layout::{begins_log_record, begins_state, Header, HEAD, LOG_KIND, OLD_STATE, RECORD, STATE};
 use crate::replace::flush_folder;
 use crate::status::Status;
 use crate::trouble::{reason, Outcome, Trouble};
@@ -142,7 +142,7 @@ pub fn other_file(number: u64, bytes: &[u8]) -> Option<(&'static str, &'static s
         None
     } else if Header::of(bytes).is_some() {
         Some(("a block", "show"))
-    } else if begins_state(bytes, STATE as u64) {
+    } else if begins_state(bytes, STATE as u64) || begins_state(bytes, OLD_STATE as u64) {
         Some(("a state", "state"))
     } else {
         None

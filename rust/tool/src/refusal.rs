@@ -22,6 +22,7 @@ pub fn advice(number: u16) -> &'static str {
         5 | 6 => "tell the maker the number and the offset: the tool that wrote the file has a fault",
         8 => "the maker puts a pause on every way through the loop's body",
         9 | 10 => "use the state that was saved for this very block, or start afresh (without --from)",
+        17 => "run the block that the state was saved from, or start afresh (without --from)",
         11 => "compare the wiring table with the block's inputs: foldheron show lists them",
         12 => "lend a longer log, or begin a new one",
         13 => "the remedy is in the block: a pause between the test and the emit, or an input that decides",
@@ -39,6 +40,7 @@ pub fn meaning(number: u16) -> String {
         12 => format!("fewer than {} bytes are left in the log", RECORD),
         13 => "the rules leave the code unknown: a signal waits for itself, perhaps by way of others".to_string(),
         14 => "there is no statement of that number".to_string(),
+        17 => "the state names another version, or another statement count, than this block has".to_string(),
         _ => "it was turned down".to_string(),
     }
 }

@@ -19,7 +19,7 @@ const MEANINGS: [(Status, u8, &str); 8] = [
     (Good, 0, "all good"),
     (BlockRefused, 1, "a block was refused (1 to 8)"),
     (WrongCall, 2, "wrong call; nothing was written"),
-    (InstantRefused, 3, "some instant, or a state, was refused (9 to 13)"),
+    (InstantRefused, 3, "some instant, or a state, was refused (9 to 13, 17)"),
     (Short, 4, "the inputs end within a set; every whole set was run"),
     (File, 5, "a file, or standard output, could not be read or written"),
     (Refused, 8, "something else asked was refused (14; a log that is none; names that do not fit)"),
@@ -36,7 +36,7 @@ impl Status {
         match refusal {
             0 => Good,
             1..=8 => BlockRefused,
-            9..=13 => InstantRefused,
+            9..=13 | 17 => InstantRefused,
             _ => Refused,
         }
     }
@@ -77,6 +77,6 @@ mod tests {
     #[test]
     fn numbers_of_refusals() {
         let of = |number| Status::of(number).number();
-        assert_eq!([of(0), of(1), of(8), of(9), of(13), of(14)], [0, 1, 1, 3, 3, 8]);
+        assert_eq!([of(0), of(1), of(8), of(9), of(13), of(14), of(17)], [0, 1, 1, 3, 3, 8, 3]);
     }
 }

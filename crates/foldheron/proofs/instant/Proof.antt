@@ -8,7 +8,7 @@ use Rattle.foldheron.proofs.instant.Tie as tie
 use Rattle.foldheron.proofs.instant.Reads as reads
 use Rattle.foldheron.proofs.instant.Lts as lts
 use Rattle.reaction.proofs.comes_to.Reads as comes-to-reads
-use Rattle.records.proofs.state.write_state.Reads as write-state-reads
+use Rattle.records.proofs.state.write_next.Reads as write-next-reads
 
 comes-to-requires : tie.Need-comes-to-requires
 comes-to-requires c κs = search needs
@@ -22,14 +22,14 @@ same-length c = search needs
 returns : tie.Need-returns
 returns c = (c .before .before .comes-to .ensures .told-is, sym (was-not _ _ _ _ (c .before .before .comes-to .ensures) (c .match .keys2) .state-stays _))
 
-write-state-requires : tie.Need-write-state-requires
-write-state-requires c κs = was-answered _ _ _ _ (c .before .before .before .before .comes-to .ensures) (c .before .enum-told .given .1) .sized
+write-next-requires : tie.Need-write-next-requires
+write-next-requires c κs = was-answered _ _ _ _ (c .before .before .before .before .comes-to .ensures) (c .before .enum-told .given .1) .sized
 
 same-length-2 : tie.Need-same-length-2
 same-length-2 c = search needs
 
 returns-2 : tie.Need-returns-2
-returns-2 c = (c .before .before .before .before .before .before .before .comes-to .ensures .told-is, c .before .before .write-state .ensures ∙ sym (was-answered _ _ _ _ (c .before .before .before .before .before .before .before .comes-to .ensures) (c .before .before .before .before .enum-told .given .1) .state-is))
+returns-2 c = (c .before .before .before .before .before .before .before .comes-to .ensures .told-is, c .before .before .write-next .ensures ∙ sym (was-answered _ _ _ _ (c .before .before .before .before .before .before .before .comes-to .ensures) (c .before .before .before .before .enum-told .given .1) .state-is))
 
 pub instant-spec : {M : Type 1} → statement M
 instant-spec =
@@ -39,6 +39,6 @@ instant-spec =
     enum-told
     same-length
     returns
-    write-state-requires
+    write-next-requires
     same-length-2
     returns-2)

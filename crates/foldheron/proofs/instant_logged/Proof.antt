@@ -12,7 +12,7 @@ use Rattle.foldheron.proofs.instant_logged.Lts as lts
 use Rattle.reaction.proofs.comes_to.Reads as comes-to-reads
 use Rattle.records.proofs.log.no_room.Reads as no-room-reads
 use Rattle.records.proofs.log.write_at_end.Reads as write-at-end-reads
-use Rattle.records.proofs.state.write_state.Reads as write-state-reads
+use Rattle.records.proofs.state.write_next.Reads as write-next-reads
 
 no-room-requires : tie.Need-no-room-requires
 no-room-requires c κs = search needs
@@ -32,8 +32,8 @@ returns c =
     let q = was-not _ _ _ _ k (c .match .keys2) in
     (k .told-is, (sym (q .no-end _), (sym (q .state-stays _), sym (q .log-stays _ _ _))))
 
-write-state-requires : tie.Need-write-state-requires
-write-state-requires c κs = was-answered _ _ _ _ (with-log _ _ _ (c .before .before .before .before .before .before .before .before .before .before .before .args .log .now) _ (c .before .before .before .before .before .before .before .no-room .ensures (c .before .before .before .before .before .before .before .before .before .before .before .args .log .now) refl) (c .before .before .before .before .before .comes-to .ensures)) (c .before .before .answer .given .1) .sized
+write-next-requires : tie.Need-write-next-requires
+write-next-requires c κs = was-answered _ _ _ _ (with-log _ _ _ (c .before .before .before .before .before .before .before .before .before .before .before .args .log .now) _ (c .before .before .before .before .before .before .before .no-room .ensures (c .before .before .before .before .before .before .before .before .before .before .before .args .log .now) refl) (c .before .before .before .before .before .comes-to .ensures)) (c .before .before .answer .given .1) .sized
 
 write-at-end-requires : tie.Need-write-at-end-requires
 write-at-end-requires c κs = has-room _ _ (was-answered _ _ _ _ (with-log _ _ _ (c .before .before .before .before .before .before .before .before .before .before .before .before .before .before .before .args .log .now) _ (c .before .before .before .before .before .before .before .before .before .before .before .no-room .ensures (c .before .before .before .before .before .before .before .before .before .before .before .before .before .before .before .args .log .now) refl) (c .before .before .before .before .before .before .before .before .before .comes-to .ensures)) (c .before .before .before .before .before .before .answer .given .1) .room)
@@ -48,7 +48,7 @@ returns-2 : tie.Need-returns-2
 returns-2 c =
     let k = with-log _ _ _ (c .before .before .before .before .before .before .before .before .before .before .before .before .before .before .before .before .before .before .args .log .now) _ (c .before .before .before .before .before .before .before .before .before .before .before .before .before .before .no-room .ensures (c .before .before .before .before .before .before .before .before .before .before .before .before .before .before .before .before .before .before .args .log .now) refl) (c .before .before .before .before .before .before .before .before .before .before .before .before .comes-to .ensures) in
     let a = was-answered _ _ _ _ k (c .before .before .before .before .before .before .before .before .before .answer .given .1) in
-    (ap instant-told (sym (c .before .before .before .before .before .before .before .before .before .answer .given .1)) ∙ k .told-is, (c .before .before .write-at-end .ensures .0 ∙ sym (a .end-is _), (c .before .before .before .before .before .before .write-state .ensures ∙ sym (a .state-is), c .before .before .write-at-end .ensures .1 ∙ sym (a .log-is _ _ _))))
+    (ap instant-told (sym (c .before .before .before .before .before .before .before .before .before .answer .given .1)) ∙ k .told-is, (c .before .before .write-at-end .ensures .0 ∙ sym (a .end-is _), (c .before .before .before .before .before .before .write-next .ensures ∙ sym (a .state-is), c .before .before .write-at-end .ensures .1 ∙ sym (a .log-is _ _ _))))
 
 pub instant-logged-spec : {M : Type 1} → statement M
 instant-logged-spec =
@@ -59,7 +59,7 @@ instant-logged-spec =
     enum-known-answer
     same-length
     returns
-    write-state-requires
+    write-next-requires
     write-at-end-requires
     same-length-2
     same-length-3

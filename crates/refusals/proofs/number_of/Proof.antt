@@ -50,6 +50,9 @@ enum-told-13 c = search needs
 enum-told-14 : tie.Need-enum-told-14
 enum-told-14 c = search needs
 
+enum-told-15 : tie.Need-enum-told-15
+enum-told-15 c = search needs
+
 returns : tie.Need-returns
 unfolding number
 returns c = ap number (sym (c .enum-told .given .1))
@@ -106,6 +109,10 @@ returns-14 : tie.Need-returns-14
 unfolding number
 returns-14 c = ap number (sym (c .enum-told14 .given .1))
 
+returns-15 : tie.Need-returns-15
+unfolding number
+returns-15 c = ap number (sym (c .enum-told15 .given .1))
+
 pub number-of-spec : {M : Type 1} → statement M
 number-of-spec =
     tie.close
@@ -124,6 +131,7 @@ number-of-spec =
     enum-told-12
     enum-told-13
     enum-told-14
+    enum-told-15
     returns
     returns-2
     returns-3
@@ -137,4 +145,5 @@ number-of-spec =
     returns-11
     returns-12
     returns-13
-    returns-14)
+    returns-14
+    returns-15)

@@ -65,8 +65,12 @@ unfolding number first-with
 returns-14 c = ap why-of (sym (c .match .keys14))
 
 returns-15 : tie.Need-returns-15
+unfolding number first-with
+returns-15 c = ap why-of (sym (c .match .keys15))
+
+returns-16 : tie.Need-returns-16
 unfolding number NoneOf
-returns-15 c = none-of _ refusals _ (c .match .rest) .1
+returns-16 c = none-of _ refusals _ (c .match .rest) .1
 
 pub refusal-spec : {M : Type 1} → statement M
 refusal-spec =
@@ -86,4 +90,5 @@ refusal-spec =
     returns-12
     returns-13
     returns-14
-    returns-15)
+    returns-15
+    returns-16)

@@ -1,10 +1,10 @@
-//! foldheron state: a state record in words, and with its block where it waits and whether the block takes it.
+//! foldheron state: a state record in words with the block that it names, and with a block where it waits and whether that block takes it.
 
 use super::Command;
 use crate::args::{with, Words};
 use crate::block::{self, Block};
 use crate::files;
-use crate::layout::{begins_log_record, two, Header, State, HEAD, PAUSES, STATE, STATE_KIND};
+use crate::layout::{begins_log_record, two, Header, State, HEAD, OLD_STATE, PAUSES, STATE, STATE_KIND};
 use crate::names;
 use crate::output::Out;
 use crate::refusal;
@@ -21,7 +21,9 @@ pub static COMMAND: Command = Command {
     does: "prints a saved state",
     call: "[--block FILE] FILE",
     options: &[with("--block", "FILE", "the block that it is a state of: where it waits, and whether the block takes it"), names::OPTION, names::NO_OPTION],
-    more: "A state does not name its block: a state of another block may be taken as well. Keep the block's file beside it.\n",
+    more: "A state names its block by version and statement count: where one of them differs the block refuses it with 17. Two blocks\n\
+           with the same version and as many statements are not told apart, so keep the block's file beside the state. A state\n\
+           of 22 bytes is from before version 2.0.0: it names no block, and is refused with 9.\n",
     run,
 };
 
@@ -32,6 +34,7 @@ fn run(words: &Words, out: &mut Out) -> Outcome<Status> {
     let block = words.value("--block").map(|file| block::load(words, file)).transpose()?;
     let state = read(path, &bytes)?;
     out.line(&format!("{}: {}", files::shown(path), in_words(&state)))?;
+    out.line(&format!("it was written for {}", named(state.version, state.statements)))?;
     match block {
         Some(block) => with_block(&bytes, &state, &block, out),
         None => Ok(Status::Good),
@@ -66,6 +69,11 @@ fn no_state(bytes: &[u8], pauses: usize) -> Option<String> {
     }
 }
 
+/// What a state says of its block, or a block of itself.
+fn named(version: u16, statements: u16) -> String {
+    format!("version {} with {}", version, counted(statements.into(), "statement"))
+}
+
 /// Why some bytes are no state record.
 fn no_record(bytes: &[u8]) -> String {
     if bytes.is_empty() {
@@ -76,6 +84,9 @@ fn no_record(bytes: &[u8]) -> String {
     }
     if begins_log_record(bytes) {
         return "this is a log".to_string();
+    }
+    if let Some(old) = State::of_old(bytes) {
+        return format!("this is an old record of {} bytes ({}), which does not name its block; since version 2.0.0 a state has {}", OLD_STATE, in_words(&old), STATE);
     }
     if bytes.len() > STATE {
         return format!("it has more than {} bytes", STATE);
@@ -104,8 +115,18 @@ pub fn turned_down(block: &Block, bytes: &[u8]) -> Option<(u16, String)> {
         Instant::Refused(why) if why.number == 9 => {
             Some((9, no_state(bytes, block.summary.pauses.into()).unwrap_or_else(|| refusal::meaning(9))))
         }
+        Instant::Refused(why) if why.number == 17 => Some((17, other_block(block, bytes))),
         Instant::Refused(why) => Some((why.number, refusal::meaning(why.number))),
         _ => None,
+    }
+}
+
+/// The block that a state names, and the one at hand.
+fn other_block(block: &Block, bytes: &[u8]) -> String {
+    let ours = named(block.summary.version, block.summary.statements);
+    match State::of(bytes) {
+        Some(state) => format!("it was written for {}, and this block is {}", named(state.version, state.statements), ours),
+        None => refusal::meaning(17),
     }
 }
 

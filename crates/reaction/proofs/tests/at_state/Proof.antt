@@ -6,33 +6,33 @@ use Rattle.reaction.proofs.tests.at_state.Statement.{statement}
 use Rattle.reaction.proofs.tests.at_state.Tie as tie
 use Rattle.reaction.proofs.tests.at_state.Reads as reads
 use Rattle.reaction.proofs.tests.at_state.Lts as lts
-use Rattle.reaction.proofs.tests.at_clash.Reads as at-clash-reads
+use Rattle.reaction.proofs.tests.at_names.Reads as at-names-reads
 use Rattle.reaction.proofs.tests.stopped.Reads as stopped-reads
 use Rattle.records.proofs.state.read_state.Reads as read-state-reads
 
 read-state-requires : tie.Need-read-state-requires
 read-state-requires c κs = search needs
 
-at-clash-requires : tie.Need-at-clash-requires
-at-clash-requires c κs = (c .before .before .before .before .pre .0, c .before .before .before .before .pre .1, c .before .before .before .before .pre .2, took-fresh (c .before .before .before .before .pre .2) (c .before .before .before .before .args .state .now) (record { byte = λ i. c .before .before .before .shared-slice-known .given i .fits }) _ (c .before .before .read-state .ensures) (c .match .keys1) .in-block)
+at-names-requires : tie.Need-at-names-requires
+at-names-requires c κs = (c .before .before .before .before .pre .0, c .before .before .before .before .pre .1, c .before .before .before .before .pre .2, took-fresh (c .before .before .before .before .pre .2) (c .before .before .before .before .args .state .now) (record { byte = λ i. c .before .before .before .shared-slice-known .given i .fits }) _ (c .before .before .read-state .ensures) (c .match .keys1) .in-block)
 
-at-clash-requires-2 : tie.Need-at-clash-requires-2
-at-clash-requires-2 c κs = (c .before .before .before .before .pre .0, c .before .before .before .before .pre .1, c .before .before .before .before .pre .2, took-running (c .before .before .before .before .pre .2) (c .before .before .before .before .args .state .now) (record { byte = λ i. c .before .before .before .shared-slice-known .given i .fits }) _ (c .before .before .read-state .ensures) (c .match .keys2) .in-block)
+at-names-requires-2 : tie.Need-at-names-requires-2
+at-names-requires-2 c κs = (c .before .before .before .before .pre .0, c .before .before .before .before .pre .1, c .before .before .before .before .pre .2, took-running (c .before .before .before .before .pre .2) (c .before .before .before .before .args .state .now) (record { byte = λ i. c .before .before .before .shared-slice-known .given i .fits }) _ (c .before .before .read-state .ensures) (c .match .keys2) .in-block)
 
-at-clash-requires-3 : tie.Need-at-clash-requires-3
-at-clash-requires-3 c κs = (c .before .before .before .before .pre .0, c .before .before .before .before .pre .1, c .before .before .before .before .pre .2, took-finished (c .before .before .before .before .pre .2) (c .before .before .before .before .args .state .now) (record { byte = λ i. c .before .before .before .shared-slice-known .given i .fits }) _ (c .before .before .read-state .ensures) (c .match .keys3) .in-block)
+at-names-requires-3 : tie.Need-at-names-requires-3
+at-names-requires-3 c κs = (c .before .before .before .before .pre .0, c .before .before .before .before .pre .1, c .before .before .before .before .pre .2, took-finished (c .before .before .before .before .pre .2) (c .before .before .before .before .args .state .now) (record { byte = λ i. c .before .before .before .shared-slice-known .given i .fits }) _ (c .before .before .read-state .ensures) (c .match .keys3) .in-block)
 
 stopped-requires : tie.Need-stopped-requires
 stopped-requires c κs = search needs
 
 returns : tie.Need-returns
-returns c = λ xs g o. let t = took-fresh o (c .before .before .before .before .before .args .state .now) (record { byte = λ i. c .before .before .before .before .shared-slice-known .given i .fits }) _ (c .before .before .before .read-state .ensures) (c .before .match .keys1) in state-way o (c .before .before .before .before .before .args .state .now) (record { byte = λ i. c .before .before .before .before .shared-slice-known .given i .fits }) _ (c .before .before .before .read-state .ensures) _ t (c .at-clash .ensures xs g o (t .in-block) (t .st) (t .begins))
+returns c = λ xs g o. let t = took-fresh o (c .before .before .before .before .before .args .state .now) (record { byte = λ i. c .before .before .before .before .shared-slice-known .given i .fits }) _ (c .before .before .before .read-state .ensures) (c .before .match .keys1) in state-way o (c .before .before .before .before .before .args .state .now) (record { byte = λ i. c .before .before .before .before .shared-slice-known .given i .fits }) _ (c .before .before .before .read-state .ensures) _ t (c .at-names .ensures xs g o (t .in-block) (t .st) (t .begins))
 
 returns-2 : tie.Need-returns-2
-returns-2 c = λ xs g o. let t = took-running o (c .before .before .before .before .before .args .state .now) (record { byte = λ i. c .before .before .before .before .shared-slice-known .given i .fits }) _ (c .before .before .before .read-state .ensures) (c .before .match .keys2) in state-way o (c .before .before .before .before .before .args .state .now) (record { byte = λ i. c .before .before .before .before .shared-slice-known .given i .fits }) _ (c .before .before .before .read-state .ensures) _ t (c .at-clash2 .ensures xs g o (t .in-block) (t .st) (t .begins))
+returns-2 c = λ xs g o. let t = took-running o (c .before .before .before .before .before .args .state .now) (record { byte = λ i. c .before .before .before .before .shared-slice-known .given i .fits }) _ (c .before .before .before .read-state .ensures) (c .before .match .keys2) in state-way o (c .before .before .before .before .before .args .state .now) (record { byte = λ i. c .before .before .before .before .shared-slice-known .given i .fits }) _ (c .before .before .before .read-state .ensures) _ t (c .at-names2 .ensures xs g o (t .in-block) (t .st) (t .begins))
 
 returns-3 : tie.Need-returns-3
-returns-3 c = λ xs g o. let t = took-finished o (c .before .before .before .before .before .args .state .now) (record { byte = λ i. c .before .before .before .before .shared-slice-known .given i .fits }) _ (c .before .before .before .read-state .ensures) (c .before .match .keys3) in state-way o (c .before .before .before .before .before .args .state .now) (record { byte = λ i. c .before .before .before .before .shared-slice-known .given i .fits }) _ (c .before .before .before .read-state .ensures) _ t (c .at-clash3 .ensures xs g o (t .in-block) (t .st) (t .begins))
+returns-3 c = λ xs g o. let t = took-finished o (c .before .before .before .before .before .args .state .now) (record { byte = λ i. c .before .before .before .before .shared-slice-known .given i .fits }) _ (c .before .before .before .read-state .ensures) (c .before .match .keys3) in state-way o (c .before .before .before .before .before .args .state .now) (record { byte = λ i. c .before .before .before .before .shared-slice-known .given i .fits }) _ (c .before .before .before .read-state .ensures) _ t (c .at-names3 .ensures xs g o (t .in-block) (t .st) (t .begins))
 
 returns-4 : tie.Need-returns-4
 returns-4 c = λ xs g o. no-state-way o (c .before .before .before .before .before .args .state .now) (record { byte = λ i. c .before .before .before .before .shared-slice-known .given i .fits }) _ (c .before .before .before .read-state .ensures) _ (c .before .match .rest .0 .0 .1) (c .before .match .rest .0 .1) (c .before .match .rest .1) (c .stopped .ensures)
@@ -42,9 +42,9 @@ at-state-spec =
     tie.close
     (tie.spec
     read-state-requires
-    at-clash-requires
-    at-clash-requires-2
-    at-clash-requires-3
+    at-names-requires
+    at-names-requires-2
+    at-names-requires-3
     stopped-requires
     returns
     returns-2

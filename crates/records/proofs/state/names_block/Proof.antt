@@ -1,0 +1,40 @@
+-- `state::names_block`: the length and the two fields, one law of Reading for each way. Assumes nothing.
+use denote.Ref.{now}
+use borrow.Author.Needs.{needs}
+use Rattle.records.proofs.Reading.{named-unsized, named-other, named-by}
+use Rattle.records.proofs.state.names_block.Statement.{statement}
+use Rattle.records.proofs.state.names_block.Tie as tie
+
+returns : tie.Need-returns
+returns c = let a = c .before .before .args in named-unsized (a .version) (a .statements) (now (a .state)) (c .if1 .taken)
+
+slice-aggregate-field-at : tie.Need-slice-aggregate-field-at
+slice-aggregate-field-at c = search needs
+
+field-at-requires : tie.Need-field-at-requires
+field-at-requires c κs = search needs
+
+returns-2 : tie.Need-returns-2
+returns-2 c = let a = c .before .before .before .before .before .args in named-other (a .version) (a .statements) (now (a .state)) (c .before .field-at .ensures) (c .before .before .before .if1 .left) (c .if2 .taken)
+
+slice-aggregate-field-at-2 : tie.Need-slice-aggregate-field-at-2
+slice-aggregate-field-at-2 c = search needs
+
+field-at-requires-2 : tie.Need-field-at-requires-2
+field-at-requires-2 c κs = search needs
+
+returns-3 : tie.Need-returns-3
+returns-3 c = let a = c .before .before .before .before .before .before .before .args in
+    named-by (a .version) (a .statements) (now (a .state)) (c .before .before .before .field-at .ensures) (c .field-at2 .ensures) (c .before .before .before .before .before .if1 .left) (c .before .before .if2 .left)
+
+pub names-block-spec : {M : Type 1} → statement M
+names-block-spec =
+    tie.close
+    (tie.spec
+    returns
+    slice-aggregate-field-at
+    field-at-requires
+    returns-2
+    slice-aggregate-field-at-2
+    field-at-requires-2
+    returns-3)
