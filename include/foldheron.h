@@ -44,7 +44,7 @@ extern "C" {
 #define FOLDHERON_VERSION "2.0.0"
 
 /* The numbers of refusals, the first that applies in this order. 1 to 8, the block: every call; 9, the state: fresh and the instants; 17, then 10,
- * 11 and 13: the instants; 12: the one with a log, before 13; 14: an excerpt. 64, the answer's bytes, comes before all of them. */
+ * 11 and 13: the instants; 12: those with a log, before 13; 14: an excerpt. 64, the answer's bytes, comes before all of them. */
 #define FOLDHERON_GOOD 0
 #define FOLDHERON_BROKEN 1           /* a record is cut off, or has a length below 4 */
 #define FOLDHERON_KIND 2             /* a kind that is not allowed here, or not that kind's length */
@@ -57,8 +57,8 @@ extern "C" {
 #define FOLDHERON_STATE 9            /* not a state of this block */
 #define FOLDHERON_OTHER_BLOCK 17     /* a state that names another version or another statement count than the block has */
 #define FOLDHERON_CLASH 10           /* two active pauses that cannot be active together */
-#define FOLDHERON_INPUT 11           /* an input that the block does not have */
-#define FOLDHERON_ROOM 12            /* fewer than 24 bytes after the log's end, or no such end */
+#define FOLDHERON_INPUT 11           /* an input that the block does not have, or one that is in both sets */
+#define FOLDHERON_ROOM 12            /* fewer than 32 bytes after the log's end, or no such end */
 #define FOLDHERON_NOT_CONSTRUCTIVE 13 /* the instant does not settle its code */
 #define FOLDHERON_INDEX 14           /* no statement of that number */
 #define FOLDHERON_ANSWER 64          /* not as many bytes as this call's answer has */
@@ -66,7 +66,7 @@ extern "C" {
 /* A block has at most so many bytes, a state exactly so many, a log record exactly so many. */
 #define FOLDHERON_BLOCK_MOST 3086
 #define FOLDHERON_STATE_SIZE 26
-#define FOLDHERON_RECORD_SIZE 24
+#define FOLDHERON_RECORD_SIZE 32
 
 /* A call takes less stack than this, from its caller's frame down; 45,320 bytes were the most that was seen. */
 #define FOLDHERON_STACK_MOST 49152
@@ -112,14 +112,27 @@ uint16_t foldheron_fresh(const uint8_t *block, size_t block_size, uint8_t *state
 uint16_t foldheron_instant(const uint8_t *block, size_t block_size, uint8_t *state, size_t state_size, uint64_t inputs,
                            uint8_t *answer, size_t answer_size);
 
-/* Runs one instant and, where it is answered, writes its record of 24 bytes into the log from its end on: length 24, kind 3 (2 bytes
- * each), the inputs, the present outputs (8 each), code, rounds (2 each). Nothing before or after the record changes. The answer, 88
- * bytes: that of an instant, and the log's new end, which the caller lends with the next call. A refused instant writes no record and
- * changes no byte of log or state; the new end is 0 then, so the caller keeps the end it had. Refusals: 1 to 8, then 9, 17, 10 to 13. */
+/* Runs one instant and, where it is answered, writes its record of 32 bytes into the log from its end on: length 32, kind 3 (2 bytes
+ * each), the inputs present, the inputs absent, the present outputs (8 each), code, rounds (2 each). Nothing before or after the record
+ * changes. The answer, 88 bytes: that of an instant, and the log's new end, which the caller lends with the next call. A refused instant
+ * writes no record and changes no byte of log or state; the new end is 0 then, so the caller keeps the end it had. Refusals: 1 to 8, then 9,
+ * 17, 10 to 13. */
 #define FOLDHERON_LOGGED_SIZE 88
 #define FOLDHERON_AT_END 80
 uint16_t foldheron_instant_logged(const uint8_t *block, size_t block_size, uint8_t *state, size_t state_size, uint64_t inputs,
                                   uint8_t *log, size_t log_size, size_t end, uint8_t *answer, size_t answer_size);
+
+/* Runs one instant of which not every input is heard: bit n of present is set where input n is present, bit n of absent where it is absent, and
+ * an input in neither set is unknown. It is answered where the code is known even so, and then the outputs, the code and the next state are those that
+ * come with any statuses for the unknown inputs; the rounds may differ. Of a 13 undecided counts outputs alone. foldheron_instant is this call
+ * with every declared input that is not present in the absent set. State, answer and refusals are as there; 11 is also given for an input in both. */
+uint16_t foldheron_instant_heard(const uint8_t *block, size_t block_size, uint8_t *state, size_t state_size, uint64_t present,
+                                 uint64_t absent, uint8_t *answer, size_t answer_size);
+
+/* The same with a log, as foldheron_instant_logged: the record has both sets as they were given. */
+uint16_t foldheron_instant_heard_logged(const uint8_t *block, size_t block_size, uint8_t *state, size_t state_size, uint64_t present,
+                                        uint64_t absent, uint8_t *log, size_t log_size, size_t end, uint8_t *answer,
+                                        size_t answer_size);
 
 /* Finds statement n and all below it in the block, to show that part to its maker, to keep it or to compare it with the part of another
  * block: the answer, 32 bytes, has the offset and the count of these bytes, both 0 where it was refused. The part has no header, so it is no

@@ -8,11 +8,11 @@
 #include <stdio.h>
 #include <string.h>
 
-/* A case: which call, the bytes that are lent to it, and its two numbers; the second is a log's end or the number of an excerpt. */
+/* A case: which call, the bytes that are lent to it, and its numbers; other is a log's end or the number of an excerpt. */
 struct call {
     unsigned kind;
     size_t block_size, state_size, log_size;
-    uint64_t inputs, other;
+    uint64_t inputs, other, absent;
 };
 
 static uint8_t block[1 << 20], state[256], log_bytes[1 << 16], answer[FOLDHERON_LOGGED_SIZE];
@@ -28,11 +28,11 @@ static uint64_t number(const uint8_t *bytes, size_t count)
 /* The next case: 1 where there is one, 0 at the file's end, -1 where it ends within one. */
 static int next_call(FILE *file, struct call *call)
 {
-    uint8_t head[24];
-    size_t count = fread(head, 1, sizeof head, file);
+    uint8_t head[40] = {0};
+    size_t count = fread(head, 1, 24, file);
     if (count == 0 && !ferror(file))
         return 0;
-    if (count != sizeof head)
+    if (count != 24 || (head[0] >= 6 && fread(head + 24, 1, 16, file) != 16))
         return -1;
     call->kind = head[0];
     call->state_size = head[1];
@@ -40,6 +40,7 @@ static int next_call(FILE *file, struct call *call)
     call->block_size = (size_t)number(head + 4, 4);
     call->inputs = number(head + 8, 8);
     call->other = number(head + 16, 8);
+    call->absent = number(head + 24, 8);
     if (call->block_size > sizeof block)
         return -1;
     if (fread(block, 1, call->block_size, file) != call->block_size || fread(state, 1, call->state_size, file) != call->state_size)
@@ -111,9 +112,29 @@ static void answer_excerpt(const struct call *call)
     put_bytes(block + foldheron_number(answer, FOLDHERON_AT_OFFSET), (size_t)foldheron_number(answer, FOLDHERON_AT_COUNT));
 }
 
+static void answer_heard(const struct call *call)
+{
+    unsigned given = foldheron_instant_heard(block, call->block_size, state, call->state_size, call->inputs, call->absent, answer,
+                                             FOLDHERON_INSTANT_SIZE);
+    printf("heard");
+    put_numbers(given, at_instant, 10);
+    put_bytes(state, call->state_size);
+}
+
+static void answer_heard_logged(const struct call *call)
+{
+    unsigned given = foldheron_instant_heard_logged(block, call->block_size, state, call->state_size, call->inputs, call->absent, log_bytes,
+                                                    call->log_size, (size_t)call->other, answer, FOLDHERON_LOGGED_SIZE);
+    printf("heardlogged");
+    put_numbers(given, at_instant, 11);
+    put_bytes(state, call->state_size);
+    put_bytes(log_bytes, call->log_size);
+}
+
 int main(int argc, char **argv)
 {
-    static void (*const answers[])(const struct call *) = {answer_check, answer_fresh, answer_instant, answer_logged, answer_excerpt};
+    static void (*const answers[])(const struct call *) = {answer_check, answer_fresh, answer_instant, answer_logged, answer_excerpt,
+                                                             answer_heard, answer_heard_logged};
     struct call call;
     int more = -1;
     if (argc != 2) {
@@ -125,7 +146,7 @@ int main(int argc, char **argv)
         fprintf(stderr, "answer: %s: %s\n", argv[1], strerror(errno));
         return 1;
     }
-    while ((more = next_call(file, &call)) == 1 && call.kind >= 1 && call.kind <= 5) {
+    while ((more = next_call(file, &call)) == 1 && call.kind >= 1 && call.kind <= 7) {
         memset(answer, 0xA5, sizeof answer);
         answers[call.kind - 1](&call);
         putchar('\n');

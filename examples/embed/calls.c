@@ -69,7 +69,7 @@ static void try_layout(void)
     EXPECT(foldheron_number(bytes, FOLDHERON_AT_END) == (UINT64_C(1) << 56) + 10);
     EXPECT(foldheron_number(bytes, FOLDHERON_AT_OFFSET) == 2 && foldheron_number(bytes, FOLDHERON_AT_COUNT) == 3);
     EXPECT(FOLDHERON_CHECK_SIZE == 64 && FOLDHERON_FRESH_SIZE == 16 && FOLDHERON_INSTANT_SIZE == 80 && FOLDHERON_EXCERPT_SIZE == 32);
-    EXPECT(FOLDHERON_BLOCK_MOST == 3086 && FOLDHERON_STATE_SIZE == 26 && FOLDHERON_RECORD_SIZE == 24);
+    EXPECT(FOLDHERON_BLOCK_MOST == 3086 && FOLDHERON_STATE_SIZE == 26 && FOLDHERON_RECORD_SIZE == 32);
 }
 
 /* The structs, against an answer whose n-th number is n. */
@@ -178,19 +178,61 @@ static void try_other_block(void)
 
 static void try_logged(void)
 {
-    static const uint8_t record[24] = {24, 0, 3, 0, 1, 0, 0, 0, 0, 0, 0, 0, 0, 0, 0, 0, 0, 0, 0, 0, 1, 0, 2, 0};
-    static const uint64_t roomless[] = {12, 0, 0, 0, 0, 0, 0, 0, 0, 0, 0}, waits[] = {0, 0, 0, 0, 0, 0, 0, 2, 1, 1, 29};
+    static const uint8_t record[32] = {[0] = 32, [2] = 3, [4] = 1, [28] = 1, [30] = 2};
+    static const uint64_t roomless[] = {12, 0, 0, 0, 0, 0, 0, 0, 0, 0, 0}, waits[] = {0, 0, 0, 0, 0, 0, 0, 2, 1, 1, 37};
     uint8_t state[26] = {26, 0, 2, 0, 7, 0, 4};
     struct lent a = lend(), log = lend();
-    EXPECT(foldheron_instant_logged(block, sizeof block, state, 26, 1, log.bytes, 28, 5, a.bytes, FOLDHERON_LOGGED_SIZE) == FOLDHERON_ROOM);
+    EXPECT(foldheron_instant_logged(block, sizeof block, state, 26, 1, log.bytes, 36, 5, a.bytes, FOLDHERON_LOGGED_SIZE) == FOLDHERON_ROOM);
     EXPECT(told(&a, 88, roomless) && guarded(&log, 0) && state[8] == 0);
-    EXPECT(foldheron_instant_logged(block, sizeof block, state, 26, 1, log.bytes, 28, SIZE_MAX, a.bytes, 88) == FOLDHERON_ROOM);
+    EXPECT(foldheron_instant_logged(block, sizeof block, state, 26, 1, log.bytes, 36, SIZE_MAX, a.bytes, 88) == FOLDHERON_ROOM);
     EXPECT(told(&a, 88, roomless));
-    EXPECT(foldheron_instant_logged(block, sizeof block, state, 26, 1, log.bytes, 29, 5, a.bytes, 87) == FOLDHERON_ANSWER);
+    EXPECT(foldheron_instant_logged(block, sizeof block, state, 26, 1, log.bytes, 37, 5, a.bytes, 87) == FOLDHERON_ANSWER);
     EXPECT(told(&a, 88, roomless) && guarded(&log, 0) && state[8] == 0);
-    EXPECT(foldheron_instant_logged(block, sizeof block, state, 26, 1, log.bytes, 29, 5, a.bytes, FOLDHERON_LOGGED_SIZE) == 0);
+    EXPECT(foldheron_instant_logged(block, sizeof block, state, 26, 1, log.bytes, 37, 5, a.bytes, FOLDHERON_LOGGED_SIZE) == 0);
     EXPECT(told(&a, 88, waits) && state[8] == 1);
-    EXPECT(memcmp(log.bytes + 5, record, FOLDHERON_RECORD_SIZE) == 0 && log.bytes[4] == 0xA5 && guarded(&log, 29));
+    EXPECT(memcmp(log.bytes + 5, record, FOLDHERON_RECORD_SIZE) == 0 && log.bytes[4] == 0xA5 && guarded(&log, 37));
+}
+
+/* pause; present I then emit O else nothing: its first instant does not look at I, its second does. Version 0. */
+static const uint8_t late[] = {14, 0, 1, 0, 1, 0, 0, 0, 1, 0, 1, 0, 0, 0, 4, 0, 21, 0, 4, 0, 17, 0,
+                               6,  0, 19, 0, 0, 0, 6, 0, 18, 0, 1, 0, 4, 0, 16, 0};
+
+static void try_heard(void)
+{
+    static const uint64_t waits[] = {0, 0, 0, 0, 0, 0, 0, 2, 1, 1}, doubt[] = {13, 0, 0, 0, 0, 0, 1, 1, 0, 0};
+    static const uint64_t ends[] = {0, 0, 0, 0, 2, 0, 0, 2, 0, 0}, wrong_sets[] = {11, 0, 0, 0, 0, 0, 0, 0, 0, 0};
+    static const uint8_t running[26] = {26, 0, 2, 0, 0, 0, 5, 0, 1, 0, 1}, finished[26] = {26, 0, 2, 0, 0, 0, 5, 0, 2};
+    uint8_t state[26] = {26, 0, 2, 0, 0, 0, 5};
+    struct lent a = lend();
+    EXPECT(foldheron_instant_heard(late, sizeof late, state, 26, 0, 0, a.bytes, 81) == FOLDHERON_ANSWER && guarded(&a, 0) && state[8] == 0);
+    EXPECT(foldheron_instant_heard(late, sizeof late, state, 26, 0, 0, a.bytes, FOLDHERON_INSTANT_SIZE) == 0 && told(&a, 80, waits));
+    EXPECT(memcmp(state, running, 26) == 0);
+    EXPECT(foldheron_instant_heard(late, sizeof late, state, 26, 0, 0, a.bytes, 80) == FOLDHERON_NOT_CONSTRUCTIVE && told(&a, 80, doubt));
+    EXPECT(foldheron_instant_heard(late, sizeof late, state, 26, 1, 1, a.bytes, 80) == FOLDHERON_INPUT && told(&a, 80, wrong_sets));
+    EXPECT(foldheron_instant_heard(late, sizeof late, state, 26, 2, 0, a.bytes, 80) == FOLDHERON_INPUT && told(&a, 80, wrong_sets));
+    EXPECT(foldheron_instant_heard(late, sizeof late, state, 26, 0, 2, a.bytes, 80) == FOLDHERON_INPUT && told(&a, 80, wrong_sets));
+    EXPECT(memcmp(state, running, 26) == 0);
+    EXPECT(foldheron_instant_heard(late, sizeof late, state, 26, 1, 0, a.bytes, 80) == 0 && told(&a, 80, ends));
+    EXPECT(memcmp(state, finished, 26) == 0);
+}
+
+static void try_heard_logged(void)
+{
+    static const uint8_t unheard[32] = {[0] = 32, [2] = 3, [28] = 1, [30] = 2}, absent[32] = {[0] = 32, [2] = 3, [12] = 1, [30] = 2};
+    static const uint64_t waits[] = {0, 0, 0, 0, 0, 0, 0, 2, 1, 1, 37}, ends[] = {0, 0, 0, 0, 0, 0, 0, 2, 0, 0, 69};
+    static const uint64_t roomless[] = {12, 0, 0, 0, 0, 0, 0, 0, 0, 0, 0};
+    uint8_t state[26] = {26, 0, 2, 0, 0, 0, 5};
+    struct lent a = lend(), log = lend();
+    EXPECT(foldheron_instant_heard_logged(late, sizeof late, state, 26, 0, 0, log.bytes, 36, 5, a.bytes, 88) == FOLDHERON_ROOM);
+    EXPECT(told(&a, 88, roomless) && guarded(&log, 0) && state[8] == 0);
+    EXPECT(foldheron_instant_heard_logged(late, sizeof late, state, 26, 0, 2, log.bytes, 36, 5, a.bytes, 88) == FOLDHERON_INPUT);
+    EXPECT(foldheron_instant_heard_logged(late, sizeof late, state, 26, 0, 0, log.bytes, 69, 5, a.bytes, 80) == FOLDHERON_ANSWER);
+    EXPECT(guarded(&log, 0) && state[8] == 0);
+    EXPECT(foldheron_instant_heard_logged(late, sizeof late, state, 26, 0, 0, log.bytes, 69, 5, a.bytes, FOLDHERON_LOGGED_SIZE) == 0);
+    EXPECT(told(&a, 88, waits) && state[8] == 1 && memcmp(log.bytes + 5, unheard, 32) == 0);
+    EXPECT(foldheron_instant_heard_logged(late, sizeof late, state, 26, 0, 1, log.bytes, 69, 37, a.bytes, FOLDHERON_LOGGED_SIZE) == 0);
+    EXPECT(told(&a, 88, ends) && state[8] == 2 && memcmp(log.bytes + 37, absent, 32) == 0);
+    EXPECT(log.bytes[4] == 0xA5 && guarded(&log, 69));
 }
 
 static void try_excerpt(void)
@@ -215,6 +257,8 @@ int main(void)
     try_refusals();
     try_other_block();
     try_logged();
+    try_heard();
+    try_heard_logged();
     try_excerpt();
     printf("calls: %d wrong\n", wrong);
     return wrong != 0;

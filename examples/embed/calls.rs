@@ -1,7 +1,7 @@
 //! Each call of the wrapper as it should be and as it should not, with what document 01 says of it: the answer, and every byte that is lent
 //! and those around it. Prints a line for each thing that is not so; ends with 0 where all is.
 
-use foldheron::{check, excerpt, fresh, instant, instant_logged, name_of};
+use foldheron::{check, excerpt, fresh, instant, instant_heard, instant_heard_logged, instant_logged, name_of};
 use foldheron::{Doubt, Instant, Logged, Reaction, Refusal, Summary};
 use std::sync::atomic::{AtomicUsize, Ordering};
 
@@ -36,6 +36,15 @@ const fn state_of(version: u8, statements: u8, phase: u8, active: u8) -> [u8; 26
 /// A state of the first block.
 const fn state(phase: u8, active: u8) -> [u8; 26] {
     state_of(7, 4, phase, active)
+}
+
+/// A log record: the inputs present and absent, the outputs, the code, and two rounds.
+fn record(present: u8, absent: u8, outputs: u8, code: u8) -> [u8; 32] {
+    let mut bytes = [0; 32];
+    for (at, byte) in [(0, 32), (2, 3), (4, present), (12, absent), (20, outputs), (28, code), (30, 2)] {
+        bytes[at] = byte;
+    }
+    bytes
 }
 
 fn refused(number: u16, place: usize) -> Refusal {
@@ -101,20 +110,53 @@ fn try_other_block() {
 }
 
 fn try_logged() {
-    let record = [24, 0, 3, 0, 1, 0, 0, 0, 0, 0, 0, 0, 0, 0, 0, 0, 0, 0, 0, 0, 1, 0, 2, 0];
+    let record = record(1, 0, 0, 1);
     let none = Logged { answer: Instant::Refused(refused(12, 0)), end: 0 };
     let (mut log, mut lent, mut other) = ([0xA5; 64], state(0, 0), state_of(1, 5, 0, 0));
-    expect!(instant_logged(&BLOCK, &mut lent, 1, &mut log[..28], 5) == none);
-    expect!(instant_logged(&BLOCK, &mut lent, 1, &mut log[..28], 29) == none);
+    expect!(instant_logged(&BLOCK, &mut lent, 1, &mut log[..36], 5) == none);
+    expect!(instant_logged(&BLOCK, &mut lent, 1, &mut log[..36], 37) == none);
     expect!(instant_logged(&BLOCK, &mut lent, 1, &mut log, usize::MAX) == none);
     expect!(instant_logged(&BLOCK, &mut lent, 1, &mut [], 0) == none);
     let in_doubt = instant_logged(&CYCLE, &mut other, 0, &mut log, 5);
     expect!(in_doubt.answer.number() == 13 && in_doubt.end == 0);
     expect!(instant_logged(&CYCLE, &mut lent, 0, &mut log, 5) == Logged { answer: Instant::Refused(refused(17, 0)), end: 0 });
     expect!(log == [0xA5; 64] && lent == state(0, 0) && other == state_of(1, 5, 0, 0));
-    let good = Logged { answer: answered(0, 1, 2, 1), end: 29 };
-    expect!(instant_logged(&BLOCK, &mut lent, 1, &mut log[..29], 5) == good && lent == state(1, 1));
-    expect!(log[..5] == [0xA5; 5] && log[5..29] == record && log[29..] == [0xA5; 35]);
+    let good = Logged { answer: answered(0, 1, 2, 1), end: 37 };
+    expect!(instant_logged(&BLOCK, &mut lent, 1, &mut log[..37], 5) == good && lent == state(1, 1));
+    expect!(log[..5] == [0xA5; 5] && log[5..37] == record && log[37..] == [0xA5; 27]);
+}
+
+/// pause; present I then emit O else nothing: its first instant does not look at I, its second does.
+const LATE: [u8; 38] = [
+    14, 0, 1, 0, 1, 0, 0, 0, 1, 0, 1, 0, 0, 0, 4, 0, 21, 0, 4, 0, 17, 0, 6, 0, 19, 0, 0, 0, 6, 0, 18, 0, 1, 0, 4, 0, 16, 0,
+];
+
+/// The worked instants with inputs not heard, and the refusals of two sets.
+fn try_heard() {
+    let doubt = Instant::NotConstructive(Doubt { present: 0, absent: 0, undecided: 1, rounds: 1 });
+    let (begin, waits) = (state_of(0, 5, 0, 0), state_of(0, 5, 1, 1));
+    let mut lent = begin;
+    expect!(instant_heard(&LATE, &mut lent, 0, 0) == answered(0, 1, 2, 1) && lent == waits);
+    expect!(instant_heard(&LATE, &mut lent, 0, 0) == doubt && lent == waits);
+    for (present, absent) in [(1, 1), (2, 0), (0, 2), (0, 1 << 63), (3, 0)] {
+        expect!(instant_heard(&LATE, &mut lent, present, absent) == Instant::Refused(refused(11, 0)) && lent == waits);
+    }
+    expect!(instant_heard(&LATE, &mut lent, 1, 0) == answered(2, 0, 2, 0) && lent == state_of(0, 5, 2, 0));
+    lent = waits;
+    expect!(instant_heard(&LATE, &mut lent, 0, 1) == answered(0, 0, 2, 0) && lent == state_of(0, 5, 2, 0));
+}
+
+fn try_heard_logged() {
+    let (mut log, mut lent) = ([0xA5; 96], state_of(0, 5, 0, 0));
+    let none = |number| Logged { answer: Instant::Refused(refused(number, 0)), end: 0 };
+    expect!(instant_heard_logged(&LATE, &mut lent, 0, 0, &mut log[..36], 5) == none(12));
+    expect!(instant_heard_logged(&LATE, &mut lent, 1, 1, &mut log[..36], 5) == none(11));
+    expect!(log == [0xA5; 96] && lent == state_of(0, 5, 0, 0));
+    expect!(instant_heard_logged(&LATE, &mut lent, 0, 0, &mut log, 5) == Logged { answer: answered(0, 1, 2, 1), end: 37 });
+    expect!(instant_heard_logged(&LATE, &mut lent, 0, 0, &mut log, 37).answer.number() == 13);
+    expect!(log[5..37] == record(0, 0, 0, 1) && log[37..] == [0xA5; 59]);
+    expect!(instant_heard_logged(&LATE, &mut lent, 0, 1, &mut log, 37) == Logged { answer: answered(0, 0, 2, 0), end: 69 });
+    expect!(log[..5] == [0xA5; 5] && log[37..69] == record(0, 1, 0, 0) && log[69..] == [0xA5; 27]);
 }
 
 fn try_excerpt() {
@@ -146,6 +188,8 @@ fn main() {
     try_refusals();
     try_other_block();
     try_logged();
+    try_heard();
+    try_heard_logged();
     try_excerpt();
     try_names();
     let wrong = WRONG.load(Ordering::Relaxed);

@@ -8,13 +8,13 @@
 #include <string.h>
 #include <ucontext.h>
 
-enum { DEEPEST = 64, ROOM = 1 << 17, PAINT = 0xA5, CALLS = 5, SPINES = 1500 };
+enum { DEEPEST = 64, ROOM = 1 << 17, PAINT = 0xA5, CALLS = 7, SPINES = 1500 };
 enum { PRESENT = 19, SUSPEND, SEQUENCE, LOOP, PARALLEL, TRAP, EXIT, LOCAL };
 
-static const char *const names[CALLS] = {"check", "fresh", "instant", "instant_logged", "excerpt"};
+static const char *const names[CALLS] = {"check", "fresh", "instant", "instant_logged", "instant_heard", "instant_heard_logged", "excerpt"};
 static uint8_t block[FOLDHERON_BLOCK_MOST], state[FOLDHERON_STATE_SIZE], record[FOLDHERON_RECORD_SIZE], painted[ROOM];
 static size_t block_size, most[CALLS];
-static uint64_t inputs;
+static uint64_t inputs, absent;
 static int call, over;
 static uint16_t number;
 static const uint8_t *top;
@@ -77,6 +77,10 @@ static void run(void)
     case 3:
         number = foldheron_instant_logged(block, block_size, state, sizeof state, inputs, record, sizeof record, 0, a, sizeof a);
         break;
+    case 4: number = foldheron_instant_heard(block, block_size, state, sizeof state, inputs, absent, a, FOLDHERON_INSTANT_SIZE); break;
+    case 5:
+        number = foldheron_instant_heard_logged(block, block_size, state, sizeof state, inputs, absent, record, sizeof record, 0, a, sizeof a);
+        break;
     default: number = foldheron_excerpt(block, block_size, DEEPEST - 1, a, FOLDHERON_EXCERPT_SIZE);
     }
 }
@@ -102,17 +106,19 @@ static uint16_t measure(int which)
     return number;
 }
 
-/* Every call on the block: four instants from fresh, with or without a log by chance. Answers how many were answered. */
+/* Every call on the block: four instants from fresh, with or without a log and with every input heard or not by chance. Answers how many were
+ * answered. */
 static unsigned try_block(void)
 {
     unsigned answered = 0;
     if (measure(0) != 0)
         return 0;
-    measure(4);
+    measure(6);
     measure(1);
     for (int n = 0; n < 4; n++) {
         inputs = n == 0 ? 2 : any(4);
-        answered += measure(2 + (int)any(2)) == 0;
+        absent = any(4) & ~inputs;
+        answered += measure(2 + (int)any(4)) == 0;
     }
     return answered;
 }

@@ -2,13 +2,14 @@
 
 use crate::calls::told;
 use crate::cases::Case;
-use crate::fault::{all_faults, Fault};
+use crate::family::faults;
+use crate::fault::Fault;
 
 /// Prints for each fault how many cases it took; false if one is never told apart by what a program prints.
 pub fn print_bites(cases: &[Case], each: bool) -> bool {
     let truth: Vec<String> = cases.iter().map(|case| told(case, Fault::None)).collect();
     let (mut found, mut missed) = (0, 0);
-    for fault in all_faults() {
+    for fault in faults(cases) {
         let at = cases.iter().zip(&truth).position(|(case, truth)| told(case, fault) != *truth);
         match at {
             Some(n) => {

@@ -6,22 +6,28 @@ use std::io::{self, Write};
 
 use crate::block::decode;
 use crate::cases::{cases, Call, Case};
+use crate::family::Family;
 use crate::fault::Fault;
 use crate::text::write_statement;
+use crate::values::Heard;
 
-/// Without other words: so many cases in all, from these seeds. The gate compares these, and shows the faults by these.
-pub const COUNT: usize = 20_000;
+/// Without other words: the family's number of cases, from these seeds. The gate compares these, and shows the faults by these.
 pub const SEEDS: [u64; 4] = [1, 2, 3, 4];
 
+/// The head of the calls of the statement, and of those that came later.
 const HEAD: usize = 24;
+const LONG_HEAD: usize = 40;
 
-/// The cases that words name: the gate's, `N SEED..`, or a file of calls.
+/// The cases that words name: `[FAMILY] [N SEED..]`, or a file of calls.
 pub fn named(words: &[String]) -> Result<Vec<Case>, String> {
+    let family = words.first().and_then(|word| Family::named(word));
+    let words = if family.is_some() { &words[1..] } else { words };
+    let family = family.unwrap_or(Family::Base);
     let numbers: Result<Vec<u64>, _> = words.iter().map(|word| word.parse::<u64>()).collect();
     match (words, numbers) {
-        ([], _) => Ok(cases(COUNT, &SEEDS)),
-        (_, Ok(numbers)) if numbers.len() == 1 => Ok(cases(numbers[0] as usize, &SEEDS)),
-        (_, Ok(numbers)) => Ok(cases(numbers[0] as usize, &numbers[1..])),
+        ([], _) => Ok(cases(family, family.count(), &SEEDS)),
+        (_, Ok(numbers)) if numbers.len() == 1 => Ok(cases(family, numbers[0] as usize, &SEEDS)),
+        (_, Ok(numbers)) => Ok(cases(family, numbers[0] as usize, &numbers[1..])),
         ([file], _) => read(&fs::read(file).map_err(|error| format!("{file}: {error}"))?),
         _ => Err("cases are named by a count and seeds, or by one file of calls".to_string()),
     }
@@ -29,19 +35,22 @@ pub fn named(words: &[String]) -> Result<Vec<Case>, String> {
 
 /// A case as bytes: its head, the block, the state, the log.
 pub fn bytes(case: &Case) -> Vec<u8> {
-    let empty: &[u8] = &[];
-    let (kind, state, log, inputs, other) = match &case.call {
-        Call::Check => (1, empty, empty, 0, 0),
-        Call::Fresh { state } => (2, &state[..], empty, 0, 0),
-        Call::Instant { state, inputs } => (3, &state[..], empty, *inputs, 0),
-        Call::Logged { state, inputs, log, end } => (4, &state[..], &log[..], *inputs, *end),
-        Call::Excerpt { index } => (5, empty, empty, 0, *index),
+    let none: &[u8] = &[];
+    let (kind, state, log, numbers) = match &case.call {
+        Call::Check => (1, none, none, vec![0, 0]),
+        Call::Fresh { state } => (2, &state[..], none, vec![0, 0]),
+        Call::Instant { state, inputs } => (3, &state[..], none, vec![*inputs, 0]),
+        Call::Logged { state, inputs, log, end } => (4, &state[..], &log[..], vec![*inputs, *end]),
+        Call::Excerpt { index } => (5, none, none, vec![0, *index]),
+        Call::Heard { state, heard } => (6, &state[..], none, vec![heard.present, 0, heard.absent, 0]),
+        Call::HeardLogged { state, heard, log, end } => {
+            (7, &state[..], &log[..], vec![heard.present, *end, heard.absent, 0])
+        }
     };
     let mut all = vec![kind, state.len() as u8];
     all.extend((log.len() as u16).to_le_bytes());
     all.extend((case.block.len() as u32).to_le_bytes());
-    all.extend(u64::to_le_bytes(inputs));
-    all.extend(u64::to_le_bytes(other));
+    numbers.iter().for_each(|&number| all.extend(u64::to_le_bytes(number)));
     [&all[..], &case.block[..], state, log].concat()
 }
 
@@ -59,15 +68,20 @@ pub fn read(bytes: &[u8]) -> Result<Vec<Case>, String> {
 
 /// The first case and what comes after it.
 fn first(bytes: &[u8]) -> Option<(Case, &[u8])> {
-    let head = bytes.get(..HEAD)?;
-    let number = |at: usize| u64::from_le_bytes(head[at..at + 8].try_into().expect("eight bytes"));
-    let (inputs, other) = (number(8), number(16));
+    let size = if *bytes.first()? < 6 { HEAD } else { LONG_HEAD };
+    let head = bytes.get(..size)?;
+    let number = |at: usize| {
+        let eight = head.get(8 + 8 * at..16 + 8 * at).map(|bytes| bytes.try_into().expect("eight bytes"));
+        eight.map_or(0, u64::from_le_bytes)
+    };
+    let (inputs, other) = (number(0), number(1));
+    let heard = Heard { present: inputs, absent: number(2) };
     let log_size = u16::from_le_bytes([head[2], head[3]]) as usize;
     let block_size = u32::from_le_bytes([head[4], head[5], head[6], head[7]]) as usize;
-    let state_at = HEAD + block_size;
+    let state_at = size + block_size;
     let log_at = state_at + head[1] as usize;
     let end = log_at + log_size;
-    let block = bytes.get(HEAD..state_at)?.to_vec();
+    let block = bytes.get(size..state_at)?.to_vec();
     let state = bytes.get(state_at..log_at)?.to_vec();
     let log = bytes.get(log_at..end)?.to_vec();
     let call = match head[0] {
@@ -76,6 +90,8 @@ fn first(bytes: &[u8]) -> Option<(Case, &[u8])> {
         3 => Call::Instant { state, inputs },
         4 => Call::Logged { state, inputs, log, end: other },
         5 => Call::Excerpt { index: other },
+        6 => Call::Heard { state, heard },
+        7 => Call::HeardLogged { state, heard, log, end: other },
         _ => return None,
     };
     Some((Case { block, call }, &bytes[end..]))

@@ -2,13 +2,18 @@
 
 use crate::block::{decode, Block, Header};
 use crate::chance::Chance;
-use crate::edge_calls::edge_calls;
+use crate::edge_calls::{edge_calls, EdgeCall};
 use crate::edges::edge_blocks;
+use crate::family::Family;
 use crate::fault::Fault;
 use crate::generate::{some_active, some_block, some_inputs, some_phase, Wish};
+use crate::heard_cases::{heard_edges, some_heard_case};
 use crate::mutate::some_mixed_block;
 use crate::reaction::Phase;
-use crate::state::{check, excerpt, fresh, instant, instant_with_log, state_record, Answer};
+use crate::state::{
+    check, excerpt, fresh, instant, instant_heard, instant_heard_with_log, instant_with_log, state_record, Answer, Told,
+};
+use crate::values::Heard;
 
 #[derive(Clone, Debug)]
 pub enum Call {
@@ -16,6 +21,8 @@ pub enum Call {
     Fresh { state: Vec<u8> },
     Instant { state: Vec<u8>, inputs: u64 },
     Logged { state: Vec<u8>, inputs: u64, log: Vec<u8>, end: u64 },
+    Heard { state: Vec<u8>, heard: Heard },
+    HeardLogged { state: Vec<u8>, heard: Heard, log: Vec<u8>, end: u64 },
     Excerpt { index: u64 },
 }
 
@@ -48,6 +55,8 @@ impl Case {
             Call::Fresh { .. } => "fresh",
             Call::Instant { .. } => "instant",
             Call::Logged { .. } => "logged",
+            Call::Heard { .. } => "heard",
+            Call::HeardLogged { .. } => "heardlogged",
             Call::Excerpt { .. } => "excerpt",
         }
     }
@@ -61,6 +70,12 @@ impl Case {
             Call::Instant { state, inputs } => format!("{name} {block} {} {inputs:x}", hex(state)),
             Call::Logged { state, inputs, log, end } => {
                 format!("{name} {block} {} {inputs:x} {} {end:x}", hex(state), hex(log))
+            }
+            Call::Heard { state, heard } => {
+                format!("{name} {block} {} {:x} {:x}", hex(state), heard.present, heard.absent)
+            }
+            Call::HeardLogged { state, heard: Heard { present, absent }, log, end } => {
+                format!("{name} {block} {} {present:x} {absent:x} {} {end:x}", hex(state), hex(log))
             }
             Call::Excerpt { index } => format!("{name} {block} {index:x}"),
         }
@@ -80,15 +95,11 @@ impl Case {
                 let a = fresh(&self.block, &mut state, fault);
                 format!("{:x} {:x} {}", a.number, a.place, hex(&state))
             }
-            Call::Instant { state, inputs } => {
-                let mut state = state.clone();
-                let a = instant(&self.block, &mut state, *inputs, fault);
-                format!("{} {}", fields(&a), hex(&state))
-            }
-            Call::Logged { state, inputs, log, end } => {
-                let (mut state, mut log) = (state.clone(), log.clone());
-                let a = instant_with_log(&self.block, &mut state, *inputs, &mut log, *end, fault);
-                format!("{} {:x} {} {}", fields(&a), a.end, hex(&state), hex(&log))
+            Call::Instant { state, inputs } => self.ran(state, Told::One(*inputs), fault),
+            Call::Logged { state, inputs, log, end } => self.ran_logged(state, Told::One(*inputs), log, *end, fault),
+            Call::Heard { state, heard } => self.ran(state, Told::Two(*heard), fault),
+            Call::HeardLogged { state, heard, log, end } => {
+                self.ran_logged(state, Told::Two(*heard), log, *end, fault)
             }
             Call::Excerpt { index } => {
                 let (a, part) = excerpt(&self.block, *index, fault);
@@ -99,25 +110,57 @@ impl Case {
         }
     }
 
+    /// What an instant gives back, and the state after it.
+    fn ran(&self, state: &[u8], told: Told, fault: Fault) -> String {
+        let mut state = state.to_vec();
+        let a = match told {
+            Told::One(inputs) => instant(&self.block, &mut state, inputs, fault),
+            Told::Two(_) => instant_heard(&self.block, &mut state, told, fault),
+        };
+        format!("{} {}", fields(&a), hex(&state))
+    }
+
+    /// The same of one with a log, the new end, and the log after it.
+    fn ran_logged(&self, state: &[u8], told: Told, log: &[u8], end: u64, fault: Fault) -> String {
+        let (mut state, mut log) = (state.to_vec(), log.to_vec());
+        let a = match told {
+            Told::One(inputs) => instant_with_log(&self.block, &mut state, inputs, &mut log, end, fault),
+            Told::Two(_) => instant_heard_with_log(&self.block, &mut state, told, &mut log, end, fault),
+        };
+        format!("{} {:x} {} {}", fields(&a), a.end, hex(&state), hex(&log))
+    }
+
     pub fn line(&self) -> String {
         format!("{} = {}", self.given(), self.answer(Fault::None))
     }
 }
 
-/// So many cases: all edges first, then random ones, an equal share from each seed.
-pub fn cases(count: usize, seeds: &[u64]) -> Vec<Case> {
+/// So many cases of a family: all edges first, then random ones, an equal share from each seed.
+pub fn cases(family: Family, count: usize, seeds: &[u64]) -> Vec<Case> {
     let share = count / seeds.len() + 1;
     let random = seeds.iter().flat_map(|&seed| {
         let mut chance = Chance::new(seed);
-        (0..share).map(move |_| some_case(&mut chance))
+        (0..share).map(move |_| match family {
+            Family::Base => some_case(&mut chance),
+            Family::Heard => some_heard_case(&mut chance),
+        })
     });
-    edge_cases().into_iter().chain(random).take(count).collect()
+    edge_cases(family).into_iter().chain(random).take(count).collect()
 }
 
 /// Every refusal at its boundary.
-pub fn edge_cases() -> Vec<Case> {
+pub fn edge_cases(family: Family) -> Vec<Case> {
     let blocks = edge_blocks().into_iter().map(|edge| Case { block: edge.bytes, call: Call::Check });
-    blocks.chain(edge_calls().into_iter().map(|edge| edge.0)).collect()
+    let blocks = blocks.filter(|_| family == Family::Base);
+    blocks.chain(family_edges(family).into_iter().map(|edge| edge.0)).collect()
+}
+
+/// The calls at the boundaries of a family, with the first words of their answers.
+pub fn family_edges(family: Family) -> Vec<EdgeCall> {
+    match family {
+        Family::Base => edge_calls(),
+        Family::Heard => heard_edges(),
+    }
 }
 
 /// A random call on a good, a changed or an edge block.
@@ -147,7 +190,7 @@ pub fn some_case(chance: &mut Chance) -> Case {
 }
 
 /// Another version in the header, three times in four; a header cut short keeps its own.
-fn with_version(bytes: &mut [u8], block: Block, chance: &mut Chance) -> Block {
+pub fn with_version(bytes: &mut [u8], block: Block, chance: &mut Chance) -> Block {
     let any = chance.number() as u16;
     let version = chance.pick(&[0, 1, 2, 7, 255, 256, 65535, any]);
     if bytes.len() < 8 || chance.percent(25) {
@@ -158,7 +201,7 @@ fn with_version(bytes: &mut [u8], block: Block, chance: &mut Chance) -> Block {
 }
 
 /// A block at a boundary; where it is refused, a small block stands in for what else is lent.
-fn some_edge_block(chance: &mut Chance) -> (Vec<u8>, Block) {
+pub fn some_edge_block(chance: &mut Chance) -> (Vec<u8>, Block) {
     let mut edges = edge_blocks();
     let bytes = edges.swap_remove(chance.below(edges.len())).bytes;
     let block = decode(&bytes, Fault::None).unwrap_or_else(|_| some_mixed_block(chance, 1, 20).1);
@@ -171,17 +214,23 @@ fn some_call(block: &Block, chance: &mut Chance) -> Call {
         1 => Call::Fresh { state: some_bytes(chance.pick(&[26, 26, 26, 25, 27, 22, 0]), chance) },
         2 => Call::Instant { state: some_state(block, chance), inputs: maybe_bad_inputs(block, chance) },
         3 => {
-            let size = chance.pick(&[0, 24, 24, 24, 24]) + chance.below(60);
-            let last = (size as u64).saturating_sub(24);
-            let free = chance.below(size + 1) as u64;
-            let whole = size as u64;
-            let near = [last, last, last, last / 2, last / 3, 0, last + 1, free, whole, whole + 1, u64::MAX];
-            let end = chance.pick(&near);
+            let (log, end) = some_log(chance);
             let (state, inputs) = (some_state(block, chance), maybe_bad_inputs(block, chance));
-            Call::Logged { state, inputs, log: some_bytes(size, chance), end }
+            Call::Logged { state, inputs, log, end }
         }
         _ => Call::Excerpt { index: chance.below(block.statements + 2) as u64 },
     }
+}
+
+/// A log and its present end: mostly with room, else near it or far away.
+pub fn some_log(chance: &mut Chance) -> (Vec<u8>, u64) {
+    let size = chance.pick(&[0, 32, 32, 32, 32]) + chance.below(60);
+    let last = (size as u64).saturating_sub(32);
+    let free = chance.below(size + 1) as u64;
+    let whole = size as u64;
+    let near = [last, last, last, last / 2, last / 3, 0, last + 1, free, whole, whole + 1, u64::MAX];
+    let end = chance.pick(&near);
+    (some_bytes(size, chance), end)
 }
 
 fn some_bytes(count: usize, chance: &mut Chance) -> Vec<u8> {
@@ -199,7 +248,7 @@ fn maybe_bad_inputs(block: &Block, chance: &mut Chance) -> u64 {
 }
 
 /// A state record: mostly legal, else clashing or spoilt.
-fn some_state(block: &Block, chance: &mut Chance) -> Vec<u8> {
+pub fn some_state(block: &Block, chance: &mut Chance) -> Vec<u8> {
     let mut state = state_record(block, some_phase(block, chance));
     match chance.below(44) {
         0 | 1 => {
@@ -232,7 +281,7 @@ fn some_state(block: &Block, chance: &mut Chance) -> Vec<u8> {
 }
 
 /// Bytes flipped, cut, appended, a word set to something near, or pauses turned to nothing.
-fn spoil(bytes: &mut Vec<u8>, chance: &mut Chance) {
+pub fn spoil(bytes: &mut Vec<u8>, chance: &mut Chance) {
     let at = chance.below(bytes.len());
     match chance.below(7) {
         0 => bytes[at] ^= 1 << chance.below(8),

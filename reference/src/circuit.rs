@@ -5,7 +5,7 @@
 use crate::block::{Block, Form, Statement};
 use crate::net::{Net, Wire};
 use crate::reaction::Phase;
-use crate::values::signal_bit;
+use crate::values::{signal_bit, Heard};
 
 #[derive(Clone, Copy)]
 struct Ins {
@@ -187,11 +187,17 @@ impl Circuit {
         codes
     }
 
-    /// An instant from fresh or running, by the registers and inputs alone.
+    /// An instant from fresh or running, by the registers and inputs alone, all of them heard.
     pub fn settle(&self, phase: Phase, inputs: u64) -> Settled {
+        self.settle_heard(phase, Heard::all(inputs, self.inputs))
+    }
+
+    /// The same where the wire of an input that is in neither set is not known.
+    pub fn settle_heard(&self, phase: Phase, heard: Heard) -> Settled {
         let active = if let Phase::Running(active) = phase { active } else { 0 };
         let mut given = vec![(self.go, phase == Phase::Fresh), (self.res, active != 0)];
-        given.extend((0..self.inputs).map(|s| (self.signals[s as usize], inputs & signal_bit(s) != 0)));
+        let known = (0..self.inputs).filter(|&s| (heard.present | heard.absent) & signal_bit(s) != 0);
+        given.extend(known.map(|s| (self.signals[s as usize], heard.present & signal_bit(s) != 0)));
         given.extend(self.registers.iter().enumerate().map(|(n, register)| (register.now, active >> n & 1 == 1)));
         let values = self.net.settle(&given);
         let outputs = self.inputs..self.inputs + self.outputs;

@@ -31,7 +31,7 @@ struct Counts {
 }
 
 /// Whether outputs, code and next state are the same; a refusal has no code that must be given.
-fn agree(reaction: &Reaction, settled: &Settled) -> bool {
+pub fn agree(reaction: &Reaction, settled: &Settled) -> bool {
     let code = reaction.code.map_or(0, |code| 1 << code);
     let next = reaction.code.map_or(true, |_| settled.next == Some(active_of(reaction.next)));
     (reaction.present, reaction.absent, code) == (settled.present, settled.absent, settled.must) && next

@@ -5,6 +5,7 @@ use std::collections::HashMap;
 use crate::block::{decode, Block, Form, Statement};
 use crate::calls::told;
 use crate::cases::{Call, Case};
+use crate::family::{families, Family};
 use crate::fault::Fault;
 use crate::met::{holds, taken, Met};
 
@@ -21,6 +22,17 @@ struct Seen<'a> {
 const ROUNDS: usize = 8;
 
 type Sort = (&'static str, fn(&Seen) -> bool);
+
+/// The sorts of the calls with two input sets, of instants that were evaluated.
+const HEARD: [Sort; 7] = [
+    ("every input heard", |seen| seen.unheard() == Some(0)),
+    ("no input heard, of two or more", |seen| seen.unheard().map_or(false, |all| all > 1 && seen.heard() == 0)),
+    ("some heard, some not", |seen| seen.unheard().map_or(false, |all| all > 0 && seen.heard() > 0)),
+    ("answered with inputs not heard", |seen| seen.number() == 0 && seen.unheard() > Some(0)),
+    ("13 with inputs not heard", |seen| seen.number() == 13 && seen.unheard() > Some(0)),
+    ("running with inputs not heard", |seen| seen.phase() == Some(1) && seen.unheard() > Some(0)),
+    ("logged with inputs not heard", |seen| seen.logged() && seen.number() == 0 && seen.unheard() > Some(0)),
+];
 
 const SORTS: [Sort; 24] = [
     ("fresh states", |seen| seen.phase() == Some(0)),
@@ -67,6 +79,28 @@ impl<'a> Seen<'a> {
         matches!(self.case.call, Call::Instant { .. } | Call::Logged { .. }) && matches!(self.number(), 0 | 13)
     }
 
+    /// How many declared inputs are in neither set, of a call with two sets that was evaluated.
+    fn unheard(&self) -> Option<u32> {
+        let inputs = self.block.as_ref()?.header.inputs;
+        match &self.case.call {
+            Call::Heard { heard, .. } | Call::HeardLogged { heard, .. } if matches!(self.number(), 0 | 13) => {
+                Some(inputs as u32 - (heard.present | heard.absent).count_ones())
+            }
+            _ => None,
+        }
+    }
+
+    fn heard(&self) -> u32 {
+        match &self.case.call {
+            Call::Heard { heard, .. } | Call::HeardLogged { heard, .. } => (heard.present | heard.absent).count_ones(),
+            _ => 0,
+        }
+    }
+
+    fn logged(&self) -> bool {
+        matches!(self.case.call, Call::Logged { .. } | Call::HeardLogged { .. })
+    }
+
     fn has(&self, what: fn(&Block) -> bool) -> bool {
         self.ran() && self.block.as_ref().map_or(false, what)
     }
@@ -78,6 +112,7 @@ impl<'a> Seen<'a> {
     fn state(&self) -> &[u8] {
         match &self.case.call {
             Call::Instant { state, .. } | Call::Logged { state, .. } if self.ran() => state,
+            Call::Heard { state, .. } | Call::HeardLogged { state, .. } if self.unheard().is_some() => state,
             _ => &[],
         }
     }
@@ -101,15 +136,13 @@ fn exits_far(p: &Statement) -> bool {
     p.form == Form::Exit && p.operand >= 2 || p.parts.iter().any(exits_far)
 }
 
-const CALLS: [&str; 5] = ["check", "fresh", "instant", "logged", "excerpt"];
-
 /// Whether a call can give this number at all.
 fn possible(call: &str, number: usize) -> bool {
     match call {
         "check" => number <= 8,
         "fresh" => number <= 9,
-        "instant" => number <= 13 && number != 12 || number == 17,
-        "logged" => number <= 13 || number == 17,
+        "instant" | "heard" => number <= 13 && number != 12 || number == 17,
+        "logged" | "heardlogged" => number <= 13 || number == 17,
         _ => number <= 8 || number == 14,
     }
 }
@@ -125,14 +158,24 @@ fn numbered(call: &str, number: usize) -> String {
 pub fn sorts(case: &Case) -> Vec<String> {
     let seen = Seen::new(case);
     let mut sorts = vec![numbered(case.name(), seen.number())];
-    sorts.extend(SORTS.iter().filter(|sort| (sort.1)(&seen)).map(|sort| sort.0.to_string()));
+    let named = SORTS.iter().chain(&HEARD);
+    sorts.extend(named.filter(|sort| (sort.1)(&seen)).map(|sort| sort.0.to_string()));
     sorts
 }
 
-/// Every sort there is.
-pub fn all_sorts() -> Vec<String> {
-    let mut all: Vec<String> = SORTS.iter().map(|sort| sort.0.to_string()).collect();
-    for call in CALLS.iter() {
+/// The named sorts of some families.
+fn named_sorts(families: &[Family]) -> Vec<&'static str> {
+    let of = |family: &Family| match family {
+        Family::Base => &SORTS[..],
+        Family::Heard => &HEARD[..],
+    };
+    families.iter().flat_map(of).map(|sort| sort.0).collect()
+}
+
+/// Every sort there is of some families.
+pub fn all_sorts(families: &[Family]) -> Vec<String> {
+    let mut all: Vec<String> = named_sorts(families).iter().map(|sort| sort.to_string()).collect();
+    for call in families.iter().flat_map(|family| family.calls()) {
         all.extend((0..=LAST).filter(|&number| possible(call, number)).map(|number| numbered(call, number)));
     }
     all
@@ -143,16 +186,18 @@ pub fn print_counts(cases: &[Case]) -> bool {
     let mut counts: HashMap<String, usize> = HashMap::new();
     cases.iter().flat_map(sorts).for_each(|sort| *counts.entry(sort).or_insert(0) += 1);
     let count = |sort: &str| counts.get(sort).copied().unwrap_or(0);
-    println!("{:>8}{}", "number", CALLS.iter().map(|call| format!("{call:>9}")).collect::<String>());
-    for number in (0..=LAST).filter(|&number| CALLS.iter().any(|call| possible(call, number))) {
+    let families = families(cases);
+    let calls: Vec<&str> = families.iter().flat_map(|family| family.calls()).copied().collect();
+    println!("{:>8}{}", "number", calls.iter().map(|call| format!("{call:>12}")).collect::<String>());
+    for number in (0..=LAST).filter(|&number| calls.iter().any(|call| possible(call, number))) {
         let cell = |call: &&str| match possible(call, number) {
-            true => format!("{:9}", count(&numbered(call, number))),
-            false => format!("{:>9}", "."),
+            true => format!("{:12}", count(&numbered(call, number))),
+            false => format!("{:>12}", "."),
         };
-        println!("{number:8}{}", CALLS.iter().map(cell).collect::<String>());
+        println!("{number:8}{}", calls.iter().map(cell).collect::<String>());
     }
-    SORTS.iter().for_each(|sort| println!("{:8}  {}", count(sort.0), sort.0));
-    let missing = all_sorts().iter().filter(|sort| count(sort) == 0).count();
+    named_sorts(&families).iter().for_each(|sort| println!("{:8}  {sort}", count(sort)));
+    let missing = all_sorts(&families).iter().filter(|sort| count(sort) == 0).count();
     println!("{} cases, {missing} sorts without a case", cases.len());
     missing == 0
 }

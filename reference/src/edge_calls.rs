@@ -34,10 +34,10 @@ pub fn edge_calls() -> Vec<EdgeCall> {
     calls
 }
 
-/// Every call on a block that is refused, with all else as it should be: 1 to 8 come first.
-fn refused_blocks() -> Vec<EdgeCall> {
+/// A small block for each of 1 to 8, with its number and place.
+pub fn bad_blocks() -> Vec<(Vec<u8>, &'static str)> {
     let good = block_of(0, 0, "nothing");
-    let blocks = [
+    vec![
         (good[..17].to_vec(), "1 e"),
         (set(&good, 16, 27), "2 e"),
         (set(&good, 4, 2), "3 0"),
@@ -46,10 +46,14 @@ fn refused_blocks() -> Vec<EdgeCall> {
         (block_of(0, 0, "(exit 0)"), "6 e"),
         (with_more(&good, &[0]), "7 12"),
         (block_of(0, 0, "(loop nothing)"), "8 e"),
-    ];
+    ]
+}
+
+/// Every call on a block that is refused, with all else as it should be: 1 to 8 come first.
+fn refused_blocks() -> Vec<EdgeCall> {
     let mut calls = Vec::new();
-    for (block, wanted) in blocks {
-        let state = state_of(&good, Phase::Fresh);
+    for (block, wanted) in bad_blocks() {
+        let state = state_of(&block_of(0, 0, "nothing"), Phase::Fresh);
         for call in [
             Call::Check,
             Call::Fresh { state: state.clone() },
@@ -64,7 +68,7 @@ fn refused_blocks() -> Vec<EdgeCall> {
 }
 
 /// The state record of a good block.
-fn state_of(block: &[u8], phase: Phase) -> Vec<u8> {
+pub fn state_of(block: &[u8], phase: Phase) -> Vec<u8> {
     state_record(&decode(block, Fault::None).expect("a good block"), phase)
 }
 
@@ -98,7 +102,7 @@ fn worked_calls() -> Vec<EdgeCall> {
         let block = block_of(given, outputs, text);
         let state = state_of(&block, phase);
         calls.push((Case { block: block.clone(), call: Call::Instant { state: state.clone(), inputs } }, wanted));
-        let call = Call::Logged { state, inputs, log: vec![0xA5; 40], end: 8 };
+        let call = Call::Logged { state, inputs, log: vec![0xA5; 48], end: 8 };
         calls.push((Case { block, call }, wanted));
     }
     calls
@@ -196,25 +200,25 @@ fn log_calls(block: &[u8], stuck: &[u8]) -> Vec<EdgeCall> {
         call: Call::Logged { state: state.to_vec(), inputs, log: vec![0x5A; size], end },
     };
     let mut calls = Vec::new();
-    for (size, end) in [(24, 0), (25, 0), (25, 1), (48, 24), (60, 17)] {
+    for (size, end) in [(32, 0), (33, 0), (33, 1), (64, 32), (68, 17)] {
         calls.push((logged(block, &fresh, 1, size, end), "0 0"));
     }
     for (size, end) in [
-        (23, 0), (25, 2), (48, 25), (48, 48), (48, 49), (0, 0), (0, 1),
-        (48, 1 << 32), (48, u64::MAX - 23), (48, u64::MAX),
+        (31, 0), (24, 0), (33, 2), (64, 33), (64, 64), (64, 65), (0, 0), (0, 1),
+        (64, 1 << 32), (64, u64::MAX - 31), (64, u64::MAX),
     ] {
         calls.push((logged(block, &fresh, 1, size, end), "c 0"));
     }
     let (begun, going) = (state_of(stuck, Phase::Fresh), state_of(stuck, Phase::Running(1)));
-    calls.push((logged(block, &fresh, 2, 23, 0), "b 0"));
+    calls.push((logged(block, &fresh, 2, 31, 0), "b 0"));
     let clashing = state_of(block, Phase::Running(5));
-    calls.push((logged(block, &clashing, 2, 23, 0), "a 0 0 2"));
-    calls.push((logged(block, &set(&clashing, 4, 7), 2, 23, 0), "11 0 0 0"));
-    calls.push((logged(block, &set(&fresh, 6, 8), 0, 30, 3), "11 0 0 0 0 0 0 0 0 0 0"));
-    calls.push((logged(block, &fresh[..25], 2, 23, 0), "9 0"));
-    calls.push((logged(stuck, &going, 0, 30, 3), "d 0 0 0 0 0 1 0 1 0 0"));
-    calls.push((logged(stuck, &going, 0, 26, 3), "c 0 0 0 0 0 0 0 0 0 0"));
-    calls.push((logged(stuck, &begun, 1, 30, 3), "0 0 0 0 0 0 0 1 2 1 1b"));
+    calls.push((logged(block, &clashing, 2, 31, 0), "a 0 0 2"));
+    calls.push((logged(block, &set(&clashing, 4, 7), 2, 31, 0), "11 0 0 0"));
+    calls.push((logged(block, &set(&fresh, 6, 8), 0, 38, 3), "11 0 0 0 0 0 0 0 0 0 0"));
+    calls.push((logged(block, &fresh[..25], 2, 31, 0), "9 0"));
+    calls.push((logged(stuck, &going, 0, 38, 3), "d 0 0 0 0 0 1 0 1 0 0"));
+    calls.push((logged(stuck, &going, 0, 34, 3), "c 0 0 0 0 0 0 0 0 0 0"));
+    calls.push((logged(stuck, &begun, 1, 38, 3), "0 0 0 0 0 0 0 1 2 1 23"));
     calls.push((logged(&block[..20], &fresh[..25], 2, 0, 9), "1 12"));
     calls
 }

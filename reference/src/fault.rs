@@ -149,15 +149,20 @@ faults! {
         InputBeforeClash: "INPUT is tested before CLASH",
         InputBitAtCount: "the input bit at the number of inputs is good",
         RoomBeforeInput: "ROOM is tested before INPUT",
-        RoomOneLess: "23 bytes are room enough",
-        RoomOneMore: "25 bytes are needed",
+        RoomOneLess: "31 bytes are room enough",
+        RoomOneMore: "33 bytes are needed",
+        RoomOfOldRecord: "24 bytes are room enough, as for the older record",
         EndUnread: "an end beyond the log is taken as the log's end",
         FreshOfAnySize: "fresh writes into more than 26 bytes",
         StateWrittenOnRefusal: "a 13 writes a state",
         LogWrittenOnRefusal: "a 13 writes a log record",
         RecordAtFront: "the log record is written at the front",
         OutputsFromZero: "the log gives outputs from bit 0 on",
-        LogWithoutInputs: "the log record leaves out the input set",
+        LogWithoutInputs: "the log record leaves out the present inputs",
+        LogWithoutAbsent: "the log record leaves out the absent inputs",
+        LogAbsentFirst: "the log record has the absent inputs before the present ones",
+        OneSetLeavesUnknown: "an instant with one set leaves the other inputs unknown",
+        LogAbsentBeyond: "the log record has the bits beyond the inputs as absent too",
         EndNotMoved: "the end given back is the old one",
         AbsentGiven: "an answered instant gives the absent outputs",
         ActiveNotGiven: "the number of active pauses is not given",
@@ -169,6 +174,17 @@ faults! {
         IndexAtCount: "an excerpt of the statement one past the last is empty and good",
         ExcerptOneRecord: "an excerpt holds only the statement's own record",
         ExcerptByTail: "an excerpt runs to the end of the block",
+    }
+    HEARD {
+        UnknownInputAbsent: "an input not heard is taken for absent",
+        UnknownInputPresent: "an input not heard is taken for present",
+        UnknownInputRefuses: "an instant with an input not heard is always refused",
+        UnknownInputsCounted: "inputs not heard are counted as undecided outputs",
+        HeardTurnedRound: "the two input sets are taken for each other",
+        InBothSets: "an input may be in both sets",
+        AbsentBitsUnread: "any bit may be set in the absent set",
+        AbsentBitAtCount: "the bit at the number of inputs is good in the absent set",
+        LogUnknownAbsent: "the log has an input not heard as absent",
     }
     ORDERS {
         SettledByBeginning: "outputs are settled by the must and can of the beginning",
@@ -206,9 +222,4 @@ impl Limits {
             path: off(64, Fault::PathLow, Fault::PathHigh),
         }
     }
-}
-
-/// Every fault of a call; those of settling are no call's.
-pub fn all_faults() -> Vec<Fault> {
-    [RULES, CHECKS, LENT].concat()
 }

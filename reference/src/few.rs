@@ -3,7 +3,8 @@
 use crate::calls::{bytes, told};
 use crate::cases::{edge_cases, Case};
 use crate::counts::{all_sorts, sorts};
-use crate::fault::{all_faults, Fault};
+use crate::family::{families, faults};
+use crate::fault::Fault;
 
 /// As they come after the edges; the smallest of each sort.
 const PLAIN: usize = 200;
@@ -11,17 +12,18 @@ const EACH: usize = 3;
 
 /// All edges, some as they come, the smallest of each sort, and for each fault the smallest that tells it.
 pub fn few(cases: &[Case]) -> Vec<Case> {
-    let plain = edge_cases().len() + PLAIN;
+    let families = families(cases);
+    let plain = families.iter().map(|&family| edge_cases(family).len()).sum::<usize>() + PLAIN;
     let mut chosen: Vec<bool> = (0..cases.len()).map(|n| n < plain).collect();
     let mut order: Vec<usize> = (0..cases.len()).collect();
     order.sort_by_key(|&n| bytes(&cases[n]).len());
     let kinds: Vec<Vec<String>> = cases.iter().map(sorts).collect();
-    for sort in all_sorts() {
+    for sort in all_sorts(&families) {
         let smallest = order.iter().filter(|&&n| kinds[n].contains(&sort));
         smallest.take(EACH).for_each(|&n| chosen[n] = true);
     }
     let truth: Vec<String> = cases.iter().map(|case| told(case, Fault::None)).collect();
-    for fault in all_faults() {
+    for fault in faults(cases) {
         let tells = |n: usize| told(&cases[n], fault) != truth[n];
         if !(0..cases.len()).any(|n| chosen[n] && tells(n)) {
             order.iter().find(|&&n| tells(n)).into_iter().for_each(|&n| chosen[n] = true);

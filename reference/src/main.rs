@@ -16,11 +16,15 @@ mod double;
 mod edge_calls;
 mod edge_limits;
 mod edges;
+mod family;
 mod fault;
 mod few;
 mod generate;
+mod heard;
+mod heard_cases;
 mod known;
 mod loops;
+mod mesh;
 mod met;
 mod mutate;
 mod net;
@@ -56,6 +60,7 @@ const USAGE: &str = "subcommands:
   older-smallest SEED  the smallest block found for each way in which an instant was changed from that rule
   circuits [N SEED] N random blocks (4000, seed 1) and all of up to 5 statements as circuits
   states [SIZE N SEED]  states lent to other blocks: all blocks up to SIZE statements (3) and N random ones (4000, seed 1)
+  heard [SIZE N SEED]  inputs not heard: all blocks up to SIZE statements (4) and N random ones (2000, seed 1)
   bite [CASES]      a case for each fault
   run FOLDER        the run program
   cases [CASES]     lines of calls with their complete answers
@@ -69,7 +74,7 @@ const USAGE: &str = "subcommands:
   proof N SEED      the same as a module of the proof language
   antt-bite SEED    the smallest row for each wrong rule
   selftest          all of these that can fail
-CASES are N SEED.. (20000 1 2 3 4) or a file of calls";
+CASES are [FAMILY] N SEED.. (seeds 1 2 3 4) or a file of calls; families are base (20000 cases) and heard (8000)";
 
 fn main() {
     let words: Vec<String> = env::args().skip(1).collect();
@@ -91,6 +96,7 @@ fn main() {
         }
         Some("orders") => orders::print_orders(number(1, 5) as usize, number(2, 8000) as usize, number(3, 1)),
         Some("states") => states::print_states(number(1, 3) as usize, number(2, 4000) as usize, number(3, 1)),
+        Some("heard") => heard::print_heard(number(1, 4) as usize, number(2, 2000) as usize, number(3, 1)),
         Some("older") => older::print_older(number(1, 40_000) as usize, number(2, 1)),
         Some("older-smallest") => older::print_smallest(number(1, 1)),
         Some("circuits") => circuits::print_circuits(5, number(1, 4000) as usize, number(2, 1)),

@@ -3,7 +3,7 @@
 use crate::block::{pause_bit, Block, Form, Statement};
 use crate::fault::Fault;
 use crate::rules::Rules;
-use crate::values::{signal_bits, Event, Mark, Must, Part, Run, Status};
+use crate::values::{signal_bits, Event, Heard, Mark, Must, Part, Run, Status};
 
 #[derive(Clone, Copy, PartialEq, Eq, Debug)]
 pub enum Phase {
@@ -24,16 +24,31 @@ pub struct Reaction {
 }
 
 impl Rules {
-    /// One instant of a block from a legal state with legal inputs.
+    /// One instant of a block from a legal state with legal inputs, all of them heard.
     pub fn react(&self, block: &Block, phase: Phase, inputs: u64) -> Reaction {
+        self.react_heard(block, phase, Heard::all(inputs, block.header.inputs))
+    }
+
+    /// One instant in which an input that is in neither set is unknown.
+    pub fn react_heard(&self, block: &Block, phase: Phase, heard: Heard) -> Reaction {
         let nothing = Statement::lone_nothing();
         let root = self.root_of(block, phase, &nothing);
         let outputs = signal_bits(block.header.inputs, block.header.outputs);
-        let (mut e, rounds) = self.rounds(root, outputs, begin_of(block, inputs));
+        let inputs = signal_bits(0, block.header.inputs);
+        let heard = match self.fault {
+            Fault::UnknownInputAbsent => Heard::all(heard.present, block.header.inputs),
+            Fault::UnknownInputPresent => Heard { present: inputs & !heard.absent, ..heard },
+            Fault::HeardTurnedRound => Heard { present: heard.absent, absent: heard.present },
+            _ => heard,
+        };
+        let (mut e, rounds) = self.rounds(root, outputs, begin_heard(heard));
         let mut must = self.must(root, e);
         if must.code.is_none() && self.planted(Fault::BothStatusesTried) {
             e = self.fitting(root, outputs, e);
             must = self.must(root, e);
+        }
+        if self.planted(Fault::UnknownInputRefuses) && inputs & !heard.present & !heard.absent != 0 {
+            must.code = None;
         }
         let kept = self.kept(root, e) | if self.planted(Fault::OldPausesKept) { active_of(phase) } else { 0 };
         self.told(phase, outputs, e, rounds, must, kept)
@@ -165,7 +180,12 @@ impl Rules {
 
 /// All outputs begin unknown; an input not given is absent.
 pub fn begin_of(block: &Block, inputs: u64) -> Event {
-    Event { present: inputs, absent: signal_bits(0, block.header.inputs) & !inputs }
+    begin_heard(Heard::all(inputs, block.header.inputs))
+}
+
+/// All outputs begin unknown, and so does an input that is in neither set.
+pub fn begin_heard(heard: Heard) -> Event {
+    Event { present: heard.present, absent: heard.absent }
 }
 
 pub fn active_of(phase: Phase) -> u128 {

@@ -2,14 +2,15 @@
 
 use crate::bite::print_bites;
 use crate::block::{decode, encode};
-use crate::calls::{bytes, read, COUNT, SEEDS};
-use crate::cases::{cases, Case};
+use crate::calls::{bytes, read, SEEDS};
+use crate::cases::{cases, family_edges, Case};
 use crate::chance::Chance;
 use crate::circuits::print_circuits;
 use crate::counts::print_counts;
-use crate::edge_calls::edge_calls;
 use crate::edges::edge_blocks;
+use crate::family::{Family, FAMILIES};
 use crate::fault::Fault;
+use crate::heard::print_heard;
 use crate::generate::{some_inputs, some_phase};
 use crate::mutate::some_mixed_block;
 use crate::older::print_older;
@@ -19,7 +20,7 @@ use crate::sweep::{sweep, Counts};
 use crate::worked::print_worked;
 
 /// Worked cases, edges, coherence, orders of settling and circuits over all small and some random blocks, the older rule,
-/// states lent to other blocks, and the faults.
+/// states lent to other blocks, inputs not heard, and the faults.
 pub fn selftest() -> bool {
     let worked = print_worked();
     let edges = print_edges();
@@ -29,11 +30,17 @@ pub fn selftest() -> bool {
     let older = print_older(40_000, 1);
     let circuits = print_circuits(5, 4000, 1);
     let states = print_states(3, 4000, 1);
-    let cases = cases(COUNT, &SEEDS);
+    let heard = print_heard(4, 2000, 1);
+    let all = FAMILIES.iter().filter(|&&family| !print_family(family)).count() == 0;
+    worked && edges && coherent && random && orders && older && circuits && states && heard && all
+}
+
+/// The cases of a family: kept as bytes, of every sort, and such that they tell every fault.
+fn print_family(family: Family) -> bool {
+    let cases = cases(family, family.count(), &SEEDS);
     let kept = print_kept(&cases);
     let sorts = print_counts(&cases);
-    let bites = print_bites(&cases, false);
-    worked && edges && coherent && random && orders && older && circuits && states && kept && sorts && bites
+    print_bites(&cases, false) && kept && sorts
 }
 
 /// Whether cases written as bytes are read back as they were.
@@ -49,7 +56,8 @@ fn print_kept(cases: &[Case]) -> bool {
 /// Compares every edge with the number and place worked out by hand.
 pub fn print_edges() -> bool {
     let mut failures = Vec::new();
-    let (blocks, calls) = (edge_blocks(), edge_calls());
+    let blocks = edge_blocks();
+    let calls: Vec<_> = FAMILIES.iter().flat_map(|&family| family_edges(family)).collect();
     for edge in &blocks {
         let got = decode(&edge.bytes, Fault::None).map_or_else(|r| (r.number, r.place), |_| (0, 0));
         if got != (edge.number, edge.place) {

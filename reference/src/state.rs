@@ -6,7 +6,7 @@ use crate::block::{decode, Block, Form, Header, Refusal, Statement};
 use crate::fault::Fault;
 use crate::reaction::{active_of, Phase, Reaction};
 use crate::rules::Rules;
-use crate::values::signal_bits;
+use crate::values::{signal_bits, Heard};
 
 pub const STATE: u16 = 9;
 pub const CLASH: u16 = 10;
@@ -17,7 +17,7 @@ pub const INDEX: u16 = 14;
 pub const OTHER_BLOCK: u16 = 17;
 
 pub const STATE_SIZE: usize = 26;
-pub const LOG_SIZE: usize = 24;
+pub const LOG_SIZE: usize = 32;
 
 /// What a call gives back; number 0 is an answer, and every field not named is 0.
 #[derive(Clone, Copy, PartialEq, Eq, Debug, Default)]
@@ -119,33 +119,62 @@ pub fn excerpt(block: &[u8], number: u64, fault: Fault) -> (Answer, &[u8]) {
     (Answer::default(), &block[found.offset..end])
 }
 
-/// One instant over the lent state.
+/// One instant over the lent state: the call that hears of every input.
 pub fn instant(block: &[u8], state: &mut [u8], inputs: u64, fault: Fault) -> Answer {
-    match prepare(block, state, inputs, None, fault) {
-        Err(answer) => answer,
-        Ok((block, phase)) => {
-            let reaction = Rules { fault }.react(&block, phase, inputs);
-            settle(&block, state, reaction, fault)
-        }
-    }
+    instant_heard(block, state, Told::One(inputs), fault)
 }
 
 /// One instant that also writes its record into the log from its present end on.
 pub fn instant_with_log(
     block: &[u8], state: &mut [u8], inputs: u64, log: &mut [u8], end: u64, fault: Fault,
 ) -> Answer {
-    let (block, phase) = match prepare(block, state, inputs, Some((log.len(), end)), fault) {
+    instant_heard_with_log(block, state, Told::One(inputs), log, end, fault)
+}
+
+/// What an instant is told of the inputs: one set, which leaves none unknown, or two.
+#[derive(Clone, Copy)]
+pub enum Told {
+    One(u64),
+    Two(Heard),
+}
+
+impl Told {
+    /// With one set, every declared input that is not in it is absent.
+    fn heard(self, block: &Block, fault: Fault) -> Heard {
+        match self {
+            Told::One(present) if fault == Fault::OneSetLeavesUnknown => Heard { present, absent: 0 },
+            Told::One(present) => Heard::all(present, block.header.inputs),
+            Told::Two(heard) => heard,
+        }
+    }
+}
+
+/// One instant with inputs present, inputs absent and the rest unknown.
+pub fn instant_heard(block: &[u8], state: &mut [u8], told: Told, fault: Fault) -> Answer {
+    match prepare(block, state, told, None, fault) {
+        Err(answer) => answer,
+        Ok((block, phase, heard)) => {
+            let reaction = Rules { fault }.react_heard(&block, phase, heard);
+            settle(&block, state, heard, reaction, fault)
+        }
+    }
+}
+
+/// The same with a log.
+pub fn instant_heard_with_log(
+    block: &[u8], state: &mut [u8], told: Told, log: &mut [u8], end: u64, fault: Fault,
+) -> Answer {
+    let (block, phase, heard) = match prepare(block, state, told, Some((log.len(), end)), fault) {
         Err(answer) => return answer,
-        Ok(both) => both,
+        Ok(all) => all,
     };
-    let reaction = Rules { fault }.react(&block, phase, inputs);
-    let answer = settle(&block, state, reaction, fault);
+    let reaction = Rules { fault }.react_heard(&block, phase, heard);
+    let answer = settle(&block, state, heard, reaction, fault);
     if answer.number != 0 && fault != Fault::LogWrittenOnRefusal {
         return answer;
     }
     let shift = if fault == Fault::OutputsFromZero { block.header.inputs.min(63) } else { 0 };
-    let given = if fault == Fault::LogWithoutInputs { 0 } else { inputs };
-    let record = log_record(given, reaction.present >> shift, reaction);
+    let record = log_record(logged_sets(&block, heard, fault), reaction.present >> shift, reaction);
     let at = if fault == Fault::RecordAtFront { 0 } else { log.len().min(end as usize) };
     let room = LOG_SIZE.min(log.len() - at);
     log[at..at + room].copy_from_slice(&record[..room]);
@@ -153,11 +182,24 @@ pub fn instant_with_log(
     Answer { end: if moved { end.wrapping_add(LOG_SIZE as u64) } else { 0 }, ..answer }
 }
 
-/// The 24 bytes of a log record.
-fn log_record(inputs: u64, present: u64, reaction: Reaction) -> Vec<u8> {
+/// The two input sets as the log has them.
+fn logged_sets(block: &Block, heard: Heard, fault: Fault) -> Heard {
+    match fault {
+        Fault::LogWithoutInputs => Heard { present: 0, ..heard },
+        Fault::LogWithoutAbsent => Heard { absent: 0, ..heard },
+        Fault::LogAbsentBeyond => Heard { absent: heard.absent | !signal_bits(0, block.header.inputs), ..heard },
+        Fault::LogAbsentFirst => Heard { present: heard.absent, absent: heard.present },
+        Fault::LogUnknownAbsent => Heard::all(heard.present, block.header.inputs),
+        _ => heard,
+    }
+}
+
+/// The 32 bytes of a log record: the absent set stands after the present one.
+fn log_record(heard: Heard, present: u64, reaction: Reaction) -> Vec<u8> {
     let mut bytes = Vec::with_capacity(LOG_SIZE);
     [LOG_SIZE as u16, 3].iter().for_each(|word| bytes.extend(word.to_le_bytes()));
-    bytes.extend(inputs.to_le_bytes());
+    bytes.extend(heard.present.to_le_bytes());
+    bytes.extend(heard.absent.to_le_bytes());
     bytes.extend(present.to_le_bytes());
     bytes.extend((reaction.code.unwrap_or(0) as u16).to_le_bytes());
     bytes.extend((reaction.rounds as u16).to_le_bytes());
@@ -165,13 +207,18 @@ fn log_record(inputs: u64, present: u64, reaction: Reaction) -> Vec<u8> {
 }
 
 /// Gives the answer of a reaction and writes the next state over the lent one.
-fn settle(block: &Block, state: &mut [u8], reaction: Reaction, fault: Fault) -> Answer {
+fn settle(block: &Block, state: &mut [u8], heard: Heard, reaction: Reaction, fault: Fault) -> Answer {
     let answer = Answer { present: reaction.present, rounds: reaction.rounds, ..Answer::default() };
     if reaction.code.is_none() {
         if fault == Fault::StateWrittenOnRefusal {
             state.copy_from_slice(&state_record(block, Phase::Finished));
         }
-        let undecided = if fault == Fault::UndecidedNotGiven { 0 } else { reaction.undecided };
+        let unknown = signal_bits(0, block.header.inputs) & !heard.present & !heard.absent;
+        let undecided = match fault {
+            Fault::UndecidedNotGiven => 0,
+            Fault::UnknownInputsCounted => reaction.undecided + unknown.count_ones(),
+            _ => reaction.undecided,
+        };
         return Answer { number: NOT_CONSTRUCTIVE, absent: reaction.absent, undecided, ..answer };
     }
     state[..STATE_SIZE].copy_from_slice(&state_record(block, reaction.next));
@@ -192,10 +239,11 @@ fn settle(block: &Block, state: &mut [u8], reaction: Reaction, fault: Fault) -> 
 
 /// The block and the state of an instant, tested in order: 1 to 8, then 9, 17, 10, 11 and, with a log, 12.
 fn prepare(
-    block: &[u8], state: &[u8], inputs: u64, log: Option<(usize, u64)>, fault: Fault,
-) -> Result<(Block, Phase), Answer> {
+    block: &[u8], state: &[u8], told: Told, log: Option<(usize, u64)>, fault: Fault,
+) -> Result<(Block, Phase, Heard), Answer> {
     let block = decode(block, fault).map_err(Answer::of_block)?;
-    let input_bad = inputs & !signal_bits(0, input_count(&block, fault)) != 0;
+    let heard = told.heard(&block, fault);
+    let input_bad = bad_inputs(&block, heard, fault);
     let room_bad = log.map_or(false, |(size, end)| no_room(size, end, fault));
     let phase = read_state(state, &block, fault);
     let clash = first_clash(state, &block, fault);
@@ -228,7 +276,7 @@ fn prepare(
     if room_bad {
         return Err(Answer::refused(ROOM));
     }
-    Ok((block, phase))
+    Ok((block, phase, heard))
 }
 
 fn clash_answer(clash: Option<(usize, usize)>) -> Answer {
@@ -236,15 +284,28 @@ fn clash_answer(clash: Option<(usize, usize)>) -> Answer {
     Answer { first, second, ..Answer::refused(CLASH) }
 }
 
+/// INPUT: a bit at or above the number of inputs in either set, or a signal in both.
+fn bad_inputs(block: &Block, heard: Heard, fault: Fault) -> bool {
+    let beyond = !signal_bits(0, input_count(block, fault));
+    let absent = match fault {
+        Fault::AbsentBitsUnread => 0,
+        Fault::AbsentBitAtCount => heard.absent & !signal_bits(0, block.header.inputs + 1),
+        _ => heard.absent,
+    };
+    let both = heard.present & heard.absent != 0 && fault != Fault::InBothSets;
+    heard.present & beyond != 0 || absent & beyond != 0 || both
+}
+
 fn input_count(block: &Block, fault: Fault) -> u16 {
     block.header.inputs + (fault == Fault::InputBitAtCount) as u16
 }
 
-/// ROOM: the end beyond the log, or fewer than 24 bytes after it.
+/// ROOM: the end beyond the log, or fewer than 32 bytes after it.
 fn no_room(size: usize, end: u64, fault: Fault) -> bool {
     let needed = match fault {
         Fault::RoomOneLess => LOG_SIZE - 1,
         Fault::RoomOneMore => LOG_SIZE + 1,
+        Fault::RoomOfOldRecord => 24,
         _ => LOG_SIZE,
     };
     match (size as u64).checked_sub(end) {

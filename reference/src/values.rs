@@ -36,6 +36,20 @@ pub fn signal_bits(first: u16, count: u16) -> u64 {
     (0..64).filter(|&s| s >= first as u32 && s < first as u32 + count as u32).fold(0, |all, s| all | 1 << s)
 }
 
+/// What is heard of the inputs: some present, some absent, the rest unknown.
+#[derive(Clone, Copy, PartialEq, Eq, Debug)]
+pub struct Heard {
+    pub present: u64,
+    pub absent: u64,
+}
+
+impl Heard {
+    /// No unknowns: of so many inputs, all that are not in the set are absent.
+    pub fn all(inputs: u64, count: u16) -> Heard {
+        Heard { present: inputs, absent: signal_bits(0, count) & !inputs }
+    }
+}
+
 /// Gives each signal present, absent or unknown.
 #[derive(Clone, Copy, PartialEq, Eq, Debug)]
 pub struct Event {

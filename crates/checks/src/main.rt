@@ -1,4 +1,4 @@
-// Checks blocks, fresh states, states of other blocks and excerpts at the boundaries of each refusal, with the numbers of document 01 written by hand, and says
+// Checks blocks, fresh states, states of other blocks, inputs, logs and excerpts at the boundaries of each refusal, with the numbers of document 01 written by hand, and says
 // of each case what came and whether it is what was expected. The blocks stand in the file stdin, a line for each: the name of the case, a
 // bar, the number and the place expected, and how the block is made (see pages::block).
 mod lines;
@@ -157,17 +157,22 @@ fn changed(bytes: &mut [u8], at: usize, other: u8) {
     }
 }
 
-// An instant on a fresh state of which one byte is another.
-fn on_state(name: &[u8], good: &[u8], at: usize, other: u8, expected: u64) {
-    let mut state = [0u8; 26];
-    begun(b"fresh ", good, &mut state, 26, 0, 0);
-    changed(&mut state, at, other);
-    match foldheron::instant(good, &mut state, 0) {
+// The number of an instant.
+fn told(name: &[u8], answer: Instant, expected: u64) {
+    match answer {
         Instant::Answered(r) => say(name, 0, 0, expected, 0),
         Instant::NotConstructive(d) => say(name, 13, 0, expected, 0),
         Instant::Clash(m, n) => say(name, 10, 0, expected, 0),
         Instant::Refused(w, place) => say(name, number(w), place, expected, 0),
     }
+}
+
+// An instant on a fresh state of which one byte is another.
+fn on_state(name: &[u8], good: &[u8], at: usize, other: u8, expected: u64) {
+    let mut state = [0u8; 26];
+    begun(b"fresh ", good, &mut state, 26, 0, 0);
+    changed(&mut state, at, other);
+    told(name, foldheron::instant(good, &mut state, 0), expected);
 }
 
 // OTHER BLOCK comes after STATE; the right names go through.
@@ -179,6 +184,49 @@ fn named_states() {
     on_state(b"another statement count ", &good, 6, 2, 17);
     on_state(b"a bit at or above the pause count ", &good, 10, 1, 9);
     on_state(b"another phase ", &good, 8, 3, 9);
+}
+
+// A block with an input 0 and an output 1: present 0 then emit 1 else nothing.
+fn tested() -> [u8; 30] {
+    [
+        14, 0, 1, 0, 1, 0, 5, 0, 1, 0, 1, 0, 0, 0, 6, 0, 19, 0, 0, 0, 6, 0, 18, 0, 1, 0, 4, 0, 16, 0,
+    ]
+}
+
+// An instant from a fresh state with the inputs present and the inputs absent.
+fn on_inputs(name: &[u8], good: &[u8], present: u64, absent: u64, expected: u64) {
+    let mut state = [0u8; 26];
+    begun(b"fresh ", good, &mut state, 26, 0, 0);
+    told(name, foldheron::instant_heard(good, &mut state, present, absent), expected);
+}
+
+// INPUT of two sets; with the input not heard the code is not known.
+fn heard_inputs() {
+    let good = tested();
+    on_inputs(b"the input present ", &good, 1, 0, 0);
+    on_inputs(b"the input absent ", &good, 0, 1, 0);
+    on_inputs(b"the input not heard ", &good, 0, 0, 13);
+    on_inputs(b"the input in both sets ", &good, 1, 1, 11);
+    on_inputs(b"no such input present ", &good, 2, 0, 11);
+    on_inputs(b"no such input absent ", &good, 0, 2, 11);
+}
+
+// An instant with so many bytes of log after the end.
+fn on_log(name: &[u8], log: &mut [u8], expected: u64) {
+    let good = tested();
+    let mut state = [0u8; 26];
+    begun(b"fresh ", &good, &mut state, 26, 0, 0);
+    let logged = foldheron::instant_logged(&good, &mut state, 1, log, 8);
+    let answer = logged.answer;
+    told(name, answer, expected);
+}
+
+// ROOM is counted against a record of 32 bytes.
+fn rooms() {
+    let mut short = [0u8; 39];
+    on_log(b"31 bytes after the end ", &mut short, 12);
+    let mut enough = [0u8; 40];
+    on_log(b"32 bytes after the end ", &mut enough, 0);
 }
 
 // The excerpt of a statement of a block: number and place, then first byte of its kind and its length.
@@ -207,5 +255,7 @@ fn main() {
     cases(part(&text, n));
     fresh_states();
     named_states();
+    heard_inputs();
+    rooms();
     excerpts();
 }

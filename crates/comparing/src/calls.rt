@@ -85,6 +85,25 @@ pub fn logged(block: &[u8], state: &mut [u8], inputs: u64, log: &mut [u8], end: 
     numbers(answer, logged.end as u64)
 }
 
+// As `instant`, for the inputs present and the inputs absent.
+pub fn heard(block: &[u8], state: &mut [u8], present: u64, absent: u64) -> [u64; 11] {
+    numbers(foldheron::instant_heard(block, state, present, absent), 0)
+}
+
+// As `logged`.
+pub fn heard_logged(
+    block: &[u8],
+    state: &mut [u8],
+    present: u64,
+    absent: u64,
+    log: &mut [u8],
+    end: u64,
+) -> [u64; 11] {
+    let logged = foldheron::instant_heard_logged(block, state, present, absent, log, end as usize);
+    let answer = logged.answer;
+    numbers(answer, logged.end as u64)
+}
+
 // The part; of the numbers it sets NUMBER and PLACE. What the call writes them into holds something else before.
 pub fn excerpt<'a>(block: &'a [u8], n: u64, numbers: &mut [u64; 11]) -> &'a [u8] {
     let mut number = u16::MAX;

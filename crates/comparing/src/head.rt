@@ -1,4 +1,4 @@
-// The head of a case: which call, how many bytes are lent to it, and its two numbers.
+// The head of a case: which call, how many bytes are lent to it, and its numbers.
 pub struct Head {
     pub kind: u8,
     pub state: usize,
@@ -7,6 +7,9 @@ pub struct Head {
     pub inputs: u64,
     // The end of a log, or the number of an excerpt.
     pub other: u64,
+    // From call 6 on; of calls 6 and 7 the inputs absent, and nothing.
+    pub third: u64,
+    pub fourth: u64,
 }
 
 // Reads a head: kind, size of the state, of the log (2 bytes) and of the block (4), then the two numbers of 8 bytes each.
@@ -23,6 +26,25 @@ pub fn read(b: &[u8; 24]) -> Head {
         other: eight(
             four(b[16], b[17], b[18], b[19]),
             four(b[20], b[21], b[22], b[23]),
+        ),
+        third: 0,
+        fourth: 0,
+    }
+}
+
+// The same head with its two numbers more.
+pub fn with_more(head: Head, b: &[u8; 16]) -> Head {
+    Head {
+        kind: head.kind,
+        state: head.state,
+        log: head.log,
+        block: head.block,
+        inputs: head.inputs,
+        other: head.other,
+        third: eight(four(b[0], b[1], b[2], b[3]), four(b[4], b[5], b[6], b[7])),
+        fourth: eight(
+            four(b[8], b[9], b[10], b[11]),
+            four(b[12], b[13], b[14], b[15]),
         ),
     }
 }

@@ -45,9 +45,23 @@ fn answer_next(fd: i32, block: &mut [u8], out: &mut [u8]) -> bool {
     if count < 24 {
         return cut();
     }
+    let head = head::read(&bytes);
+    let mut more = [0u8; 16];
+    if !read_more(fd, head.kind, &mut more) {
+        return cut();
+    }
     let mut state = [0u8; 64];
     let mut log = [0u8; 512];
-    answer_case(fd, head::read(&bytes), block, &mut state, &mut log, out)
+    let whole = head::with_more(head, &more);
+    answer_case(fd, whole, block, &mut state, &mut log, out)
+}
+
+// From call 6 on a head has two numbers more; answers whether they came.
+fn read_more(fd: i32, kind: u8, more: &mut [u8]) -> bool {
+    if kind < 6 {
+        return true;
+    }
+    io::read_full(fd, more) == more.len()
 }
 
 // Takes of the room that there is what the case says.

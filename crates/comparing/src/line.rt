@@ -24,6 +24,16 @@ fn put_call(out: &mut [u8], head: Head, block: &[u8], state: &mut [u8], log: &mu
         3 => put_instant(out, block, state, head.inputs),
         4 => put_logged(out, block, state, head.inputs, log, head.other),
         5 => put_excerpt(out, block, head.other),
+        6 => put_heard(out, block, state, head.inputs, head.third),
+        7 => put_heard_logged(
+            out,
+            block,
+            state,
+            head.inputs,
+            head.third,
+            log,
+            head.other,
+        ),
         _ => text::put(out, 0, b"no such call"),
     }
 }
@@ -66,6 +76,33 @@ fn put_logged(
 {
     let numbers = calls::logged(block, state, inputs, log, end);
     let name = text::put(out, 0, b"logged");
+    let fields = text::put_numbers(out, name, &numbers, 11);
+    let states = text::put_bytes(out, fields, state);
+    text::put_bytes(out, states, log)
+}
+
+fn put_heard(out: &mut [u8], block: &[u8], state: &mut [u8], present: u64, absent: u64) -> usize
+    ensures { λ r. ⌜ r ≤ length (now (out .entry)) ⌝ }
+{
+    let numbers = calls::heard(block, state, present, absent);
+    let name = text::put(out, 0, b"heard");
+    let end = text::put_numbers(out, name, &numbers, 10);
+    text::put_bytes(out, end, state)
+}
+
+fn put_heard_logged(
+    out: &mut [u8],
+    block: &[u8],
+    state: &mut [u8],
+    present: u64,
+    absent: u64,
+    log: &mut [u8],
+    end: u64,
+) -> usize
+    ensures { λ r. ⌜ r ≤ length (now (out .entry)) ⌝ }
+{
+    let numbers = calls::heard_logged(block, state, present, absent, log, end);
+    let name = text::put(out, 0, b"heardlogged");
     let fields = text::put_numbers(out, name, &numbers, 11);
     let states = text::put_bytes(out, fields, state);
     text::put_bytes(out, states, log)

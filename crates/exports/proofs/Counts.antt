@@ -17,6 +17,7 @@ use Rattle.rules.specs.Rounds.{answered, not-constructive}
 use Rattle.block.specs.Format.{Reading, good, turned-down, reading}
 use Rattle.block.proofs.GoodReadings.{numbers}
 use Rattle.reaction.specs.Instants.{Verdict, refused, clash, reacted, Told, told, verdict}
+use Rattle.reaction.specs.declared.Given.{Given}
 use Rattle.foldheron.specs.declared.Part.{Part}
 use Rattle.foldheron.specs.Answers.{check-owed, begun-owed, part-owed, part-values, absent-part}
 use Rattle.foldheron.proofs.Calls.{Leaves, leaves}
@@ -81,7 +82,7 @@ number-small (clash pair) s roomless l = lit≤ tt
 number-small (reacted b (answered outs c st r)) s roomless l = lit≤ tt
 number-small (reacted b (not-constructive outs r)) s roomless l = lit≤ tt
 
-pub instant-counted : (b s : List ℕ) (given : ℕ) (roomless : Bool) (end : ℕ) → Counted 11 (logged-values (told (verdict b s given roomless)) end)
+pub instant-counted : (b s : List ℕ) (given : Given) (roomless : Bool) (end : ℕ) → Counted 11 (logged-values (told (verdict b s given roomless)) end)
 instant-counted b s given roomless end = record { counted = refl; small = number-small (verdict b s given roomless) s roomless (leaves b s given roomless) }
 
 -- An instant's values without the end.

@@ -7,12 +7,18 @@ mod values;
 use crate::layout::put_values;
 ghost use mathlib.Core.Path.{_≡_};
 ghost use Rattle.block.specs.Format.{reading};
-ghost use Rattle.reaction.specs.Instants.{told, state-after, log-after, end-after, instant-verdict, logged-verdict};
+ghost use Rattle.reaction.specs.Instants.{told, state-after, log-after, end-after, instant-verdict, logged-verdict, heard-verdict, heard-logged-verdict};
+ghost use Rattle.reaction.specs.declared.Given.the-variants.{All, Two};
 ghost use Rattle.foldheron.specs.Answers.{check-owed, begun-owed, state-owed, part-owed, part-values};
 ghost use Rattle.exports.specs.Layout.{lent, Answers};
 ghost use Rattle.exports.specs.Calls.{told-values, logged-values};
 
 const ANSWER: u16 = 64;
+
+// How many bytes an instant's answer has, without a log and with one.
+const INSTANT: usize = 80;
+
+const LOGGED: usize = 88;
 
 // 64 bytes: the number, the place, and of a good block its version and counts.
 #[no_mangle]
@@ -52,7 +58,7 @@ pub extern "C" fn foldheron_instant(
     ensures { λ r. ⌜ Answers 10 (told-values (told (instant-verdict (now (block .entry)) (now (state .entry)) inputs))) (now (answer .entry)) (now (answer .exit)) r ⌝ }
     ensures { λ _. ⌜ now (state .exit) ≡ lent 10 (now (answer .entry)) (state-after (now (state .entry)) (instant-verdict (now (block .entry)) (now (state .entry)) inputs)) (now (state .entry)) ⌝ }
 {
-    if answer.len() != 80 {
+    if answer.len() != INSTANT {
         return ANSWER;
     }
     let values = values::instant(block, state, inputs);
@@ -72,12 +78,55 @@ pub extern "C" fn foldheron_instant_logged(
 ) -> u16
     ensures { λ r. ⌜ Answers 11 (logged-values (told (logged-verdict (now (block .entry)) (now (state .entry)) inputs (now (log .entry)) end)) (end-after end (logged-verdict (now (block .entry)) (now (state .entry)) inputs (now (log .entry)) end))) (now (answer .entry)) (now (answer .exit)) r ⌝ }
     ensures { λ _. ⌜ now (state .exit) ≡ lent 11 (now (answer .entry)) (state-after (now (state .entry)) (logged-verdict (now (block .entry)) (now (state .entry)) inputs (now (log .entry)) end)) (now (state .entry)) ⌝ }
-    ensures { λ _. ⌜ now (log .exit) ≡ lent 11 (now (answer .entry)) (log-after (now (log .entry)) end inputs (logged-verdict (now (block .entry)) (now (state .entry)) inputs (now (log .entry)) end)) (now (log .entry)) ⌝ }
+    ensures { λ _. ⌜ now (log .exit) ≡ lent 11 (now (answer .entry)) (log-after (now (log .entry)) end (All inputs) (logged-verdict (now (block .entry)) (now (state .entry)) inputs (now (log .entry)) end)) (now (log .entry)) ⌝ }
 {
-    if answer.len() != 88 {
+    if answer.len() != LOGGED {
         return ANSWER;
     }
     let values = values::instant_logged(block, state, inputs, log, end);
+    put_values(answer, &values);
+    values[0] as u16
+}
+
+// The same for the inputs present and the inputs absent, the rest being unknown.
+#[no_mangle]
+pub extern "C" fn foldheron_instant_heard(
+    block: &[u8],
+    state: &mut [u8],
+    present: u64,
+    absent: u64,
+    answer: &mut [u8],
+) -> u16
+    ensures { λ r. ⌜ Answers 10 (told-values (told (heard-verdict (now (block .entry)) (now (state .entry)) present absent))) (now (answer .entry)) (now (answer .exit)) r ⌝ }
+    ensures { λ _. ⌜ now (state .exit) ≡ lent 10 (now (answer .entry)) (state-after (now (state .entry)) (heard-verdict (now (block .entry)) (now (state .entry)) present absent)) (now (state .entry)) ⌝ }
+{
+    if answer.len() != INSTANT {
+        return ANSWER;
+    }
+    let values = values::instant_heard(block, state, present, absent);
+    put_values(answer, &values[..10]);
+    values[0] as u16
+}
+
+// The same with a log, 88 bytes.
+#[no_mangle]
+pub extern "C" fn foldheron_instant_heard_logged(
+    block: &[u8],
+    state: &mut [u8],
+    present: u64,
+    absent: u64,
+    log: &mut [u8],
+    end: usize,
+    answer: &mut [u8],
+) -> u16
+    ensures { λ r. ⌜ Answers 11 (logged-values (told (heard-logged-verdict (now (block .entry)) (now (state .entry)) present absent (now (log .entry)) end)) (end-after end (heard-logged-verdict (now (block .entry)) (now (state .entry)) present absent (now (log .entry)) end))) (now (answer .entry)) (now (answer .exit)) r ⌝ }
+    ensures { λ _. ⌜ now (state .exit) ≡ lent 11 (now (answer .entry)) (state-after (now (state .entry)) (heard-logged-verdict (now (block .entry)) (now (state .entry)) present absent (now (log .entry)) end)) (now (state .entry)) ⌝ }
+    ensures { λ _. ⌜ now (log .exit) ≡ lent 11 (now (answer .entry)) (log-after (now (log .entry)) end (Two present absent) (heard-logged-verdict (now (block .entry)) (now (state .entry)) present absent (now (log .entry)) end)) (now (log .entry)) ⌝ }
+{
+    if answer.len() != LOGGED {
+        return ANSWER;
+    }
+    let values = values::instant_heard_logged(block, state, present, absent, log, end);
     put_values(answer, &values);
     values[0] as u16
 }

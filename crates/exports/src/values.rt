@@ -6,7 +6,8 @@ use foldheron::Instant;
 use foldheron::number_of;
 ghost use mathlib.Core.Path.{_≡_};
 ghost use Rattle.block.specs.Format.{reading};
-ghost use Rattle.reaction.specs.Instants.{told, state-after, log-after, end-after, instant-verdict, logged-verdict};
+ghost use Rattle.reaction.specs.Instants.{told, state-after, log-after, end-after, instant-verdict, logged-verdict, heard-verdict, heard-logged-verdict};
+ghost use Rattle.reaction.specs.declared.Given.the-variants.{All, Two};
 ghost use Rattle.foldheron.specs.Answers.{check-owed, begun-owed, state-owed, part-owed, part-values};
 ghost use Rattle.reaction.specs.Answers.{instant-told};
 ghost use Rattle.exports.specs.Calls.{logged-values};
@@ -121,9 +122,34 @@ pub(crate) fn instant_logged(
 ) -> [u64; 11]
     ensures { λ r. ⌜ r ≡ logged-values (told (logged-verdict (now (block .entry)) (now (state .entry)) inputs (now (log .entry)) end)) (end-after end (logged-verdict (now (block .entry)) (now (state .entry)) inputs (now (log .entry)) end)) ⌝ }
     ensures { λ _. ⌜ now (state .exit) ≡ state-after (now (state .entry)) (logged-verdict (now (block .entry)) (now (state .entry)) inputs (now (log .entry)) end) ⌝ }
-    ensures { λ _. ⌜ now (log .exit) ≡ log-after (now (log .entry)) end inputs (logged-verdict (now (block .entry)) (now (state .entry)) inputs (now (log .entry)) end) ⌝ }
+    ensures { λ _. ⌜ now (log .exit) ≡ log-after (now (log .entry)) end (All inputs) (logged-verdict (now (block .entry)) (now (state .entry)) inputs (now (log .entry)) end) ⌝ }
 {
     let logged = foldheron::instant_logged(block, state, inputs, log, end);
+    let answer = logged.answer;
+    told_values(answer, logged.end)
+}
+
+// The same for two sets of inputs.
+pub(crate) fn instant_heard(block: &[u8], state: &mut [u8], present: u64, absent: u64) -> [u64; 11]
+    ensures { λ r. ⌜ r ≡ logged-values (told (heard-verdict (now (block .entry)) (now (state .entry)) present absent)) 0 ⌝ }
+    ensures { λ _. ⌜ now (state .exit) ≡ state-after (now (state .entry)) (heard-verdict (now (block .entry)) (now (state .entry)) present absent) ⌝ }
+{
+    told_values(foldheron::instant_heard(block, state, present, absent), 0)
+}
+
+pub(crate) fn instant_heard_logged(
+    block: &[u8],
+    state: &mut [u8],
+    present: u64,
+    absent: u64,
+    log: &mut [u8],
+    end: usize,
+) -> [u64; 11]
+    ensures { λ r. ⌜ r ≡ logged-values (told (heard-logged-verdict (now (block .entry)) (now (state .entry)) present absent (now (log .entry)) end)) (end-after end (heard-logged-verdict (now (block .entry)) (now (state .entry)) present absent (now (log .entry)) end)) ⌝ }
+    ensures { λ _. ⌜ now (state .exit) ≡ state-after (now (state .entry)) (heard-logged-verdict (now (block .entry)) (now (state .entry)) present absent (now (log .entry)) end) ⌝ }
+    ensures { λ _. ⌜ now (log .exit) ≡ log-after (now (log .entry)) end (Two present absent) (heard-logged-verdict (now (block .entry)) (now (state .entry)) present absent (now (log .entry)) end) ⌝ }
+{
+    let logged = foldheron::instant_heard_logged(block, state, present, absent, log, end);
     let answer = logged.answer;
     told_values(answer, logged.end)
 }

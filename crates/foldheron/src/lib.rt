@@ -6,6 +6,7 @@ pub use block::whole::Summary;
 use block::whole::offset_of;
 use block::whole::read_block;
 pub use reaction::Doubt;
+use reaction::Given;
 pub use reaction::Instant;
 pub use reaction::Reaction;
 use reaction::comes_to;
@@ -16,10 +17,13 @@ use records::state::write_state;
 pub use refusals::Why;
 pub use refusals::number_of;
 ghost use mathlib.Core.Path.{_≡_};
+ghost use mathlib.Core.Bool.{false};
 ghost use Prim.Native.Nat.{_+_, _-_, _≤_, _<_};
 ghost use lib.ListN.{length, getD};
 ghost use Rattle.block.specs.Format.{reading};
-ghost use Rattle.reaction.specs.Instants.{told, state-after, log-after, end-after, instant-verdict, logged-verdict};
+ghost use Rattle.records.specs.LogRecord.{no-room};
+ghost use Rattle.reaction.specs.declared.Given.the-variants.{All, Two};
+ghost use Rattle.reaction.specs.Instants.{told, state-after, log-after, end-after, verdict, instant-verdict, logged-verdict, heard-verdict, heard-logged-verdict};
 ghost use Rattle.reaction.specs.Answers.{instant-told};
 ghost use Rattle.foldheron.specs.Answers.{check-values, check-owed, begun-values, begun-owed, state-owed, absent-part, part-owed, part-lies};
 ghost use Rattle.foldheron.specs.Parts.{LiesAt};
@@ -144,13 +148,12 @@ pub fn excerpt<'a>(block: &'a [u8], n: usize, number: &mut u16, place: &mut usiz
     cut(block, start, end)
 }
 
-// Runs one instant: numbers 1 to 8, then 9, 17, 10 with the pair, 11, 13. An answered one writes the next state over the lent state; a
-// refusal changes no byte.
-pub fn instant(block: &[u8], state: &mut [u8], inputs: u64) -> Instant
-    ensures { λ r. ⌜ instant-told r ≡ told (instant-verdict (now (block .entry)) (now (state .entry)) inputs) ⌝ }
-    ensures { λ _. ⌜ now (state .exit) ≡ state-after (now (state .entry)) (instant-verdict (now (block .entry)) (now (state .entry)) inputs) ⌝ }
+// Runs one instant with the inputs as they are given, and writes the next state where it is answered.
+fn run(block: &[u8], state: &mut [u8], given: Given) -> Instant
+    ensures { λ r. ⌜ instant-told r ≡ told (verdict (now (block .entry)) (now (state .entry)) given false) ⌝ }
+    ensures { λ _. ⌜ now (state .exit) ≡ state-after (now (state .entry)) (verdict (now (block .entry)) (now (state .entry)) given false) ⌝ }
 {
-    let came = comes_to(block, state, inputs, false);
+    let came = comes_to(block, state, given, false);
     let answer = came.answer;
     let phase = came.phase;
     let kept = came.kept;
@@ -159,6 +162,52 @@ pub fn instant(block: &[u8], state: &mut [u8], inputs: u64) -> Instant
     };
     write_next(state, phase, kept);
     answer
+}
+
+// The same with a log: an answered one also writes a record from its end on.
+fn run_logged(block: &[u8], state: &mut [u8], given: Given, log: &mut [u8], end: usize) -> Logged
+    ensures { λ r. ⌜ instant-told (r .answer) ≡ told (verdict (now (block .entry)) (now (state .entry)) given (no-room (now (log .entry)) end)) ⌝ }
+    ensures { λ r. ⌜ r .end ≡ end-after end (verdict (now (block .entry)) (now (state .entry)) given (no-room (now (log .entry)) end)) ⌝ }
+    ensures { λ _. ⌜ now (state .exit) ≡ state-after (now (state .entry)) (verdict (now (block .entry)) (now (state .entry)) given (no-room (now (log .entry)) end)) ⌝ }
+    ensures { λ _. ⌜ now (log .exit) ≡ log-after (now (log .entry)) end given (verdict (now (block .entry)) (now (state .entry)) given (no-room (now (log .entry)) end)) ⌝ }
+{
+    let roomless = no_room(log.len(), end);
+    let came = comes_to(block, state, given, roomless);
+    let answer = came.answer;
+    let phase = came.phase;
+    let kept = came.kept;
+    let heard = came.heard;
+    let Instant::Answered(r) = answer else {
+        return Logged { answer, end: 0 };
+    };
+    write_next(state, phase, kept);
+    let next = write_at_end(
+        log,
+        end,
+        heard.present,
+        heard.absent,
+        r.present,
+        r.code,
+        r.rounds,
+    );
+    Logged { answer, end: next }
+}
+
+// Runs one instant: numbers 1 to 8, then 9, 17, 10 with the pair, 11, 13. An answered one writes the next state over the lent state; a
+// refusal changes no byte.
+pub fn instant(block: &[u8], state: &mut [u8], inputs: u64) -> Instant
+    ensures { λ r. ⌜ instant-told r ≡ told (instant-verdict (now (block .entry)) (now (state .entry)) inputs) ⌝ }
+    ensures { λ _. ⌜ now (state .exit) ≡ state-after (now (state .entry)) (instant-verdict (now (block .entry)) (now (state .entry)) inputs) ⌝ }
+{
+    run(block, state, Given::All(inputs))
+}
+
+// The same where not all inputs are heard yet: those present, those absent, and the rest unknown. 11 is also for a signal in both sets.
+pub fn instant_heard(block: &[u8], state: &mut [u8], present: u64, absent: u64) -> Instant
+    ensures { λ r. ⌜ instant-told r ≡ told (heard-verdict (now (block .entry)) (now (state .entry)) present absent) ⌝ }
+    ensures { λ _. ⌜ now (state .exit) ≡ state-after (now (state .entry)) (heard-verdict (now (block .entry)) (now (state .entry)) present absent) ⌝ }
+{
+    run(block, state, Given::Two(present, absent))
 }
 
 // Runs one instant with a log: as above, and 12 before 13. An answered one also writes a record from the log's end on, and nothing before or
@@ -173,17 +222,24 @@ pub fn instant_logged(
     ensures { λ r. ⌜ instant-told (r .answer) ≡ told (logged-verdict (now (block .entry)) (now (state .entry)) inputs (now (log .entry)) end) ⌝ }
     ensures { λ r. ⌜ r .end ≡ end-after end (logged-verdict (now (block .entry)) (now (state .entry)) inputs (now (log .entry)) end) ⌝ }
     ensures { λ _. ⌜ now (state .exit) ≡ state-after (now (state .entry)) (logged-verdict (now (block .entry)) (now (state .entry)) inputs (now (log .entry)) end) ⌝ }
-    ensures { λ _. ⌜ now (log .exit) ≡ log-after (now (log .entry)) end inputs (logged-verdict (now (block .entry)) (now (state .entry)) inputs (now (log .entry)) end) ⌝ }
+    ensures { λ _. ⌜ now (log .exit) ≡ log-after (now (log .entry)) end (All inputs) (logged-verdict (now (block .entry)) (now (state .entry)) inputs (now (log .entry)) end) ⌝ }
 {
-    let roomless = no_room(log.len(), end);
-    let came = comes_to(block, state, inputs, roomless);
-    let answer = came.answer;
-    let phase = came.phase;
-    let kept = came.kept;
-    let Instant::Answered(r) = answer else {
-        return Logged { answer, end: 0 };
-    };
-    write_next(state, phase, kept);
-    let next = write_at_end(log, end, inputs, r.present, r.code, r.rounds);
-    Logged { answer, end: next }
+    run_logged(block, state, Given::All(inputs), log, end)
+}
+
+// The same where not all inputs are heard yet.
+pub fn instant_heard_logged(
+    block: &[u8],
+    state: &mut [u8],
+    present: u64,
+    absent: u64,
+    log: &mut [u8],
+    end: usize,
+) -> Logged
+    ensures { λ r. ⌜ instant-told (r .answer) ≡ told (heard-logged-verdict (now (block .entry)) (now (state .entry)) present absent (now (log .entry)) end) ⌝ }
+    ensures { λ r. ⌜ r .end ≡ end-after end (heard-logged-verdict (now (block .entry)) (now (state .entry)) present absent (now (log .entry)) end) ⌝ }
+    ensures { λ _. ⌜ now (state .exit) ≡ state-after (now (state .entry)) (heard-logged-verdict (now (block .entry)) (now (state .entry)) present absent (now (log .entry)) end) ⌝ }
+    ensures { λ _. ⌜ now (log .exit) ≡ log-after (now (log .entry)) end (Two present absent) (heard-logged-verdict (now (block .entry)) (now (state .entry)) present absent (now (log .entry)) end) ⌝ }
+{
+    run_logged(block, state, Given::Two(present, absent), log, end)
 }

@@ -8,7 +8,9 @@ use Prim.Native.Nat.{ℕ, zero, suc, _+_}
 use lib.ListN.{take, drop}
 use Rattle.block.specs.Format.{turned-down, reading}
 use Rattle.records.specs.LogRecord.{no-room}
-use Rattle.reaction.specs.Instants.{CLASH, Told, state-after, log-after, end-after, instant-verdict, logged-verdict}
+use Rattle.reaction.specs.Instants.{CLASH, Told, state-after, log-after, end-after, verdict}
+use Rattle.reaction.specs.declared.Given.{Given}
+use Rattle.reaction.specs.declared.Given.the-variants.{All, Two}
 use Rattle.refusals.specs.declared.Why.{Why}
 use Rattle.block.specs.declared.whole.Checked.{Checked}
 use Rattle.foldheron.specs.declared.Begun.{Begun}
@@ -47,9 +49,17 @@ use Rattle.foldheron.proofs.instant_logged.Kinds as logged-kinds
 use Rattle.foldheron.proofs.instant_logged.Reads as logged
 use Rattle.foldheron.proofs.instant_logged.Statement as logged-statement
 use Rattle.foldheron.proofs.instant_logged.Met as logged-met
-use Rattle.promises.specs.Calls.{Place, CheckCalled, FreshCalled, Called, CalledWithLog, PartCalled, ExcerptCalled, NumberCalled, LoggedCalls}
+use Rattle.foldheron.proofs.instant_heard.Kinds as heard-kinds
+use Rattle.foldheron.proofs.instant_heard.Reads as heard
+use Rattle.foldheron.proofs.instant_heard.Statement as heard-statement
+use Rattle.foldheron.proofs.instant_heard.Met as heard-met
+use Rattle.foldheron.proofs.instant_heard_logged.Kinds as heard-logged-kinds
+use Rattle.foldheron.proofs.instant_heard_logged.Reads as heard-logged
+use Rattle.foldheron.proofs.instant_heard_logged.Statement as heard-logged-statement
+use Rattle.foldheron.proofs.instant_heard_logged.Met as heard-logged-met
+use Rattle.promises.specs.Calls.{Place, CheckCalled, FreshCalled, CalledFor, LoggedFor, with-set, with-two, PartCalled, ExcerptCalled, NumberCalled, LoggedCalls}
 use Rattle.promises.specs.Tests.{Test, First}
-use Rattle.promises.specs.Demand1.{block-tests, fresh-tests, excerpt-tests, instant-tests, logged-tests, Returns, ExactlyOne, number-in, place-in, PlacedBy, PairOf, LoggedRun}
+use Rattle.promises.specs.Demand1.{block-tests, fresh-tests, excerpt-tests, instant-tests, logged-tests, Returns, ExactlyOne, number-in, place-in, PlacedBy, PairOf, block-read, LoggedRun}
 use Rattle.promises.specs.FirstRecord.{Decides, InOrder}
 use Rattle.promises.proofs.Learnt.{check-says, fresh-says, instant-says, logged-answer, logged-end, logged-state, logged-log, part-says}
 use Rattle.promises.proofs.Learnt.{excerpt-lies, excerpt-number, excerpt-place, number-says}
@@ -74,6 +84,12 @@ instant-returns = record { nothing-asked = λ κs a. tt; returns = λ M. instant
 
 pub instant-logged-returns : Returns 3 logged-kinds.ps logged.Asked logged-statement.statement
 instant-logged-returns = record { nothing-asked = λ κs a. tt; returns = λ M. logged-met.met }
+
+pub instant-heard-returns : Returns 2 heard-kinds.ps heard.Asked heard-statement.statement
+instant-heard-returns = record { nothing-asked = λ κs a. tt; returns = λ M. heard-met.met }
+
+pub instant-heard-logged-returns : Returns 3 heard-logged-kinds.ps heard-logged.Asked heard-logged-statement.statement
+instant-heard-logged-returns = record { nothing-asked = λ κs a. tt; returns = λ M. heard-logged-met.met }
 
 pub excerpt-returns : Returns 3 excerpt-kinds.ps excerpt.Asked excerpt-statement.statement
 excerpt-returns = record { nothing-asked = λ κs a. tt; returns = λ M. excerpt-met.met }
@@ -109,29 +125,52 @@ fresh-has-one-answer b s = record {
   no-other = λ x c i. (begun-told-apart (x .0) (a-beginning b s .0) (fresh-says b c .0 ∙ sym (a-beginning b s .1)) i, fresh-says b c .1 i);
 }
 
-pub instant-has-one-answer : (b s : List ℕ) (w : ℕ) → ExactlyOne (λ (x : Instant × List ℕ). Called b s w (x .0) (x .1))
-instant-has-one-answer b s w =
-    let a = an-instant b s w false in
-    record {
-      the-one = (a .0, state-after s (instant-verdict b s w));
-      it-is = record { call = record { lifetimes = ([], ([], tt)); places = anywhere; learnt = (a .1, refl) } };
-      no-other = λ x c i. (an-instant-has-one-answer b s w false (x .0) (a .0) (instant-says b c .0) (a .1) i, instant-says b c .1 i);
-    }
+pub instant-has-one-answer : (b s : List ℕ) (w : Given) → ExactlyOne (λ (x : Instant × List ℕ). CalledFor b s w (x .0) (x .1))
+instant-has-one-answer b s w = record {
+  the-one = (an-instant b s w false .0, state-after s (verdict b s w false));
+  it-is = made w;
+  no-other = λ x c i. (an-instant-has-one-answer b s w false (x .0) (an-instant b s w false .0) (instant-says b c .0) (an-instant b s w false .1) i, instant-says b c .1 i);
+}
+  where
+    made : (x : Given) → CalledFor b s x (an-instant b s x false .0) (state-after s (verdict b s x false))
+    made (All n) = with-set (record { call = record { lifetimes = ([], ([], tt)); places = anywhere; learnt = (an-instant b s (All n) false .1, refl) } })
+    made (Two m n) = with-two (record { call = record { lifetimes = ([], ([], tt)); places = anywhere; learnt = (an-instant b s (Two m n) false .1, refl) } })
 
-pub instant-logged-has-one-answer : (b s : List ℕ) (w : ℕ) (log : List ℕ) (end : ℕ)
-    → ExactlyOne (λ (x : Logged × List ℕ × List ℕ). CalledWithLog b s w log end (x .0) (x .1) (x .2))
-instant-logged-has-one-answer b s w log end =
-    let v = logged-verdict b s w log end in
-    let a = an-instant b s w (no-room log end) in
+pub instant-logged-has-one-answer : (b s : List ℕ) (w : Given) (log : List ℕ) (end : ℕ)
+    → ExactlyOne (λ (x : Logged × List ℕ × List ℕ). LoggedFor b s w log end (x .0) (x .1) (x .2))
+instant-logged-has-one-answer b s w log end = record {
+  the-one = the w;
+  it-is = made w;
+  no-other = λ x c i. (
     record {
-      the-one = (record { answer = a .0; end = end-after end v }, state-after s v, log-after log end w v);
-      it-is = record { call = record { lifetimes = ([], ([], ([], tt))); places = anywhere; learnt = (a .1, (refl, (refl, refl))) } };
-      no-other = λ x c i. (
-        record { answer = an-instant-has-one-answer b s w (no-room log end) (x .0 .answer) (a .0) (logged-answer b c) (a .1) i; end = logged-end b c i },
-        logged-state b c i,
-        logged-log b c i,
-      );
-    }
+      answer = an-instant-has-one-answer b s w (no-room log end) (x .0 .answer) (an-instant b s w (no-room log end) .0) (logged-answer b c) (an-instant b s w (no-room log end) .1) i;
+      end = logged-end b c i;
+    },
+    logged-state b c i,
+    logged-log b c i,
+  );
+}
+  where
+    the : Given → Logged × List ℕ × List ℕ
+    the x =
+        let v = verdict b s x (no-room log end) in
+        (record { answer = an-instant b s x (no-room log end) .0; end = end-after end v }, state-after s v, log-after log end x v)
+
+    made : (x : Given) → LoggedFor b s x log end (the x .0) (the x .1) (the x .2)
+    made (All n) = with-set (record {
+      call = record {
+        lifetimes = ([], ([], ([], tt)));
+        places = anywhere;
+        learnt = (an-instant b s (All n) (no-room log end) .1, (refl, (refl, refl)));
+      };
+    })
+    made (Two m n) = with-two (record {
+      call = record {
+        lifetimes = ([], ([], ([], tt)));
+        places = anywhere;
+        learnt = (an-instant b s (Two m n) (no-room log end) .1, (refl, (refl, refl)));
+      };
+    })
 
 pub part-of-has-one-answer : (b : List ℕ) (n : ℕ) → ExactlyOne (PartCalled b n)
 part-of-has-one-answer b n = record {
@@ -175,10 +214,10 @@ module _ (b : List ℕ) where
   pub fresh-gives-the-first : {s s′ : List ℕ} {r : Begun} → FreshCalled b s r s′ → First (fresh-tests b s) (number-in (begun-values r))
   fresh-gives-the-first {s} c = subst (First (fresh-tests b s)) (sym (ap number-in (fresh-says b c .0))) (fresh-first b s)
 
-  pub instant-gives-the-first : {s s′ : List ℕ} {w : ℕ} {r : Instant} → Called b s w r s′ → First (instant-tests b s w) (instant-told r .number)
+  pub instant-gives-the-first : {s s′ : List ℕ} {w : Given} {r : Instant} → CalledFor b s w r s′ → First (instant-tests b s w) (instant-told r .number)
   instant-gives-the-first {s} {w = w} c = subst (First (instant-tests b s w)) (sym (ap (λ (t : Told). t .number) (instant-says b c .0))) (instant-first b s w)
 
-  pub instant-logged-gives-the-first : {s s′ log log′ : List ℕ} {w end : ℕ} {r : Logged} → CalledWithLog b s w log end r s′ log′
+  pub instant-logged-gives-the-first : {s s′ log log′ : List ℕ} {w : Given} {end : ℕ} {r : Logged} → LoggedFor b s w log end r s′ log′
       → First (logged-tests b s w log end) (instant-told (r .answer) .number)
   instant-logged-gives-the-first {s} {log = log} {w = w} {end = end} c =
       subst (First (logged-tests b s w log end)) (sym (ap (λ (t : Told). t .number) (logged-answer b c))) (logged-first b s w log end)
@@ -196,10 +235,10 @@ module _ (b : List ℕ) where
   pub fresh-gives-its-place : {s s′ : List ℕ} {r : Begun} → FreshCalled b s r s′ → PlacedBy b (number-in (begun-values r)) (place-in (begun-values r))
   fresh-gives-its-place {s} c = subst (λ (l : List ℕ). PlacedBy b (number-in l) (place-in l)) (sym (fresh-says b c .0)) (fresh-placed b s)
 
-  pub instant-gives-its-place : {s s′ : List ℕ} {w : ℕ} {r : Instant} → Called b s w r s′ → PlacedBy b (instant-told r .number) (instant-told r .place)
+  pub instant-gives-its-place : {s s′ : List ℕ} {w : Given} {r : Instant} → CalledFor b s w r s′ → PlacedBy b (instant-told r .number) (instant-told r .place)
   instant-gives-its-place {s} {w = w} c = subst (λ (t : Told). PlacedBy b (t .number) (t .place)) (sym (instant-says b c .0)) (verdict-placed b s w false)
 
-  pub instant-logged-gives-its-place : {s s′ log log′ : List ℕ} {w end : ℕ} {r : Logged} → CalledWithLog b s w log end r s′ log′
+  pub instant-logged-gives-its-place : {s s′ log log′ : List ℕ} {w : Given} {end : ℕ} {r : Logged} → LoggedFor b s w log end r s′ log′
       → PlacedBy b (instant-told (r .answer) .number) (instant-told (r .answer) .place)
   instant-logged-gives-its-place {s} {log = log} {w = w} {end = end} c =
       subst (λ (t : Told). PlacedBy b (t .number) (t .place)) (sym (logged-answer b c)) (verdict-placed b s w (no-room log end))
@@ -208,12 +247,12 @@ module _ (b : List ℕ) where
   excerpt-gives-its-place {n} {k} {p} c =
       subst (λ (j : ℕ). PlacedBy b j p) (sym (excerpt-number b c)) (subst (λ (j : ℕ). PlacedBy b (part-owed (reading b) n .number) j) (sym (excerpt-place b c)) (part-placed b n))
 
-  pub a-clash-names-the-first-pair : {s s′ : List ℕ} {w : ℕ} {r : Instant} → Called b s w r s′ → instant-told r .number ≡ CLASH
+  pub a-clash-names-the-first-pair : {s s′ : List ℕ} {w : Given} {r : Instant} → CalledFor b s w r s′ → instant-told r .number ≡ CLASH
       → PairOf b s (instant-told r .first) (instant-told r .second)
   a-clash-names-the-first-pair {s} {w = w} c =
       subst (λ (t : Told). t .number ≡ CLASH → PairOf b s (t .first) (t .second)) (sym (instant-says b c .0)) (verdict-paired b s w false)
 
-  pub a-logged-clash-names-the-first-pair : {s s′ log log′ : List ℕ} {w end : ℕ} {r : Logged} → CalledWithLog b s w log end r s′ log′
+  pub a-logged-clash-names-the-first-pair : {s s′ log log′ : List ℕ} {w : Given} {end : ℕ} {r : Logged} → LoggedFor b s w log end r s′ log′
       → instant-told (r .answer) .number ≡ CLASH → PairOf b s (instant-told (r .answer) .first) (instant-told (r .answer) .second)
   a-logged-clash-names-the-first-pair {s} {log = log} {w = w} {end = end} c =
       subst (λ (t : Told). t .number ≡ CLASH → PairOf b s (t .first) (t .second)) (sym (logged-answer b c)) (verdict-paired b s w (no-room log end))
@@ -227,14 +266,14 @@ module _ (b : List ℕ) where
   nothing-else-decides = decides-alone b
 
   -- "A refused instant changes no byte of state or log", whatever its number; nor does a refused `fresh`, and a refused excerpt is empty.
-  pub a-refused-instant-changes-nothing : {s s′ : List ℕ} {w : ℕ} {r : Instant} → Called b s w r s′ → instant-told r .number ≢ 0 → s′ ≡ s
+  pub a-refused-instant-changes-nothing : {s s′ : List ℕ} {w : Given} {r : Instant} → CalledFor b s w r s′ → instant-told r .number ≢ 0 → s′ ≡ s
   a-refused-instant-changes-nothing {s} {w = w} c h =
-      instant-says b c .1 ∙ left (instant-verdict b s w) s [] 0 w (λ z. h (ap (λ (t : Told). t .number) (instant-says b c .0) ∙ z)) .state-stays
+      instant-says b c .1 ∙ left (verdict b s w false) s [] 0 w (λ z. h (ap (λ (t : Told). t .number) (instant-says b c .0) ∙ z)) .state-stays
 
-  pub a-refused-logged-instant-changes-nothing : {s s′ log log′ : List ℕ} {w end : ℕ} {r : Logged} → CalledWithLog b s w log end r s′ log′
+  pub a-refused-logged-instant-changes-nothing : {s s′ log log′ : List ℕ} {w : Given} {end : ℕ} {r : Logged} → LoggedFor b s w log end r s′ log′
       → instant-told (r .answer) .number ≢ 0 → (s′ ≡ s) × (log′ ≡ log) × (r .end ≡ 0)
   a-refused-logged-instant-changes-nothing {s} {log = log} {w = w} {end = end} c h =
-      let l = left (logged-verdict b s w log end) s log end w (λ z. h (ap (λ (t : Told). t .number) (logged-answer b c) ∙ z)) in
+      let l = left (verdict b s w (no-room log end)) s log end w (λ z. h (ap (λ (t : Told). t .number) (logged-answer b c) ∙ z)) in
       (logged-state b c ∙ l .state-stays, logged-log b c ∙ l .log-stays, logged-end b c ∙ l .no-end)
 
   pub a-refused-fresh-changes-nothing : {s s′ : List ℕ} {r : Begun} → FreshCalled b s r s′ → number-in (begun-values r) ≢ 0 → s′ ≡ s
@@ -246,6 +285,6 @@ module _ (b : List ℕ) where
 
   -- Over runs with a log, the log's bytes after the run are the records of its answered instants one after the other from the first end on, and
   -- all else as it was.
-  pub over-a-run-the-log-has-the-records-of-the-answered-instants : {s log : List ℕ} {end : ℕ} {ws : List ℕ} {rs : List Logged} {s′ log′ : List ℕ} {end′ : ℕ}
-      → LoggedCalls b s log end ws rs s′ log′ end′ → LoggedRun log end ws rs log′ end′
+  pub over-a-run-the-log-has-the-records-of-the-answered-instants : {s log : List ℕ} {end : ℕ} {ws : List Given} {rs : List Logged} {s′ log′ : List ℕ} {end′ : ℕ}
+      → LoggedCalls b s log end ws rs s′ log′ end′ → LoggedRun (block-read (reading b)) log end ws rs log′ end′
   over-a-run-the-log-has-the-records-of-the-answered-instants = logged-run b

@@ -21,6 +21,7 @@ use Rattle.block.specs.declared.whole.Checked.{Checked}
 use Rattle.block.specs.declared.whole.Checked.the-variants as Checked
 use Rattle.foldheron.specs.declared.Begun.{Begun}
 use Rattle.foldheron.specs.declared.Begun.the-variants as Begun
+use Rattle.reaction.specs.declared.Given.{Given}
 use Rattle.reaction.specs.declared.Instant.{Instant}
 use Rattle.reaction.specs.declared.Instant.the-variants as Instant
 use Rattle.refusals.specs.Refusals.{number, why-of}
@@ -55,7 +56,7 @@ a-beginning b s = go (reading b) refl
     go (good g) e = sized (eqb (length s) 26)
     go (turned-down n at) e = (Begun.TurnedDown (why-of n) at, ap (λ (m : ℕ). m ∷ at ∷ []) (named-in-block b n at e))
 
-pub an-instant : (b s : List ℕ) (w : ℕ) (roomless : Bool) → (r : Instant) × (instant-told r ≡ told (verdict b s w roomless))
+pub an-instant : (b s : List ℕ) (w : Given) (roomless : Bool) → (r : Instant) × (instant-told r ≡ told (verdict b s w roomless))
 unfolding told instant-told remade Leaves
 an-instant b s w roomless = go (verdict b s w roomless) (leaves b s w roomless)
   where

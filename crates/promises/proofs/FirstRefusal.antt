@@ -15,22 +15,23 @@ use Rattle.rules.specs.States.{State, fresh, active-of}
 use Rattle.rules.specs.Rounds.{Answer, answered, not-constructive, react}
 use Rattle.block.specs.Format.{Good, Reading, good, turned-down, reading, preorder, numbered, bytes, offset}
 use Rattle.block.proofs.GoodReadings.{numbers}
-use Rattle.records.specs.StateRecord.{version-in, statements-in, Found, not-a-state, state, active-in, read-state, names-block, state-record, Pair, first-clash, undeclared-input}
+use Rattle.records.specs.StateRecord.{version-in, statements-in, Found, not-a-state, state, active-in, read-state, names-block, state-record, Pair, first-clash}
 use Rattle.records.specs.LogRecord.{no-room}
 use Rattle.records.proofs.Reading.{found-sized, named-version, named-statements, named-not}
-use Rattle.reaction.specs.Fronts.{STATE, OTHER-BLOCK, INPUT, stopped, ready, try-inputs, try-clash, clash-tried, try-names, try-state, try-block, front}
-use Rattle.reaction.specs.Instants.{CLASH, ROOM, Verdict, refused, clash, reacted, block-of, goes-on, verdict, told, instant-verdict, logged-verdict, heard-of}
+use Rattle.reaction.specs.Fronts.{STATE, OTHER-BLOCK, INPUT, stopped, ready, wrong-inputs, try-inputs, try-clash, clash-tried, try-names, try-state, try-block, front}
+use Rattle.reaction.specs.Instants.{CLASH, ROOM, Verdict, refused, clash, reacted, block-of, goes-on, verdict, told, heard-of}
+use Rattle.reaction.specs.declared.Given.{Given}
 use Rattle.foldheron.specs.declared.Part.{Part}
 use Rattle.foldheron.specs.Answers.{check-owed, begun-owed, state-owed, absent-part, part-owed}
 use Rattle.promises.specs.Tests.{Test, First}
-use Rattle.promises.specs.Demand1.{NoState, OtherBlock, Incompatible, HeldBy, Clashing, Undeclared, Unsettled, of-block, one-to-8}
+use Rattle.promises.specs.Demand1.{NoState, OtherBlock, Incompatible, HeldBy, Clashing, WrongInputs, BadInputs, Unsettled, of-block, one-to-8}
 use Rattle.promises.specs.Demand1.{block-tests, state-test, names-test, clash-test, input-test, code-test, room-test, fresh-tests, excerpt-tests}
 use Rattle.promises.specs.Demand1.{instant-tests, logged-tests, INDEX, NoStatement, number-in, place-in, PairOf, PlacedBy, in-block}
 use Rattle.promises.specs.Demand1.{at-0}
 use Rattle.promises.proofs.Records.{checked}
 use Rattle.promises.proofs.FirstRecord.{turned-down-decides, decides-alone}
 use Rattle.promises.proofs.Tests.{wrong-read, read-wrong, found-set, set-found}
-use Rattle.promises.proofs.Tests.{none-clash, first-pair, declared-none, undeclared-some, room-missing, room-there, NoCode, code-unknown, code-known}
+use Rattle.promises.proofs.Tests.{none-clash, first-pair, inputs-none, inputs-some, room-missing, room-there, NoCode, code-unknown, code-known}
 
 -- 1 to 8.
 good-or-not : {A : Type 0} (g : Good) (n at : ℕ) → good g ≡ turned-down n at → A
@@ -71,7 +72,7 @@ pub of-the-block : (b : List ℕ) (n at : ℕ) → reading b ≡ turned-down n a
 of-the-block b n at e ts = let r = numbers b n at e in one-of b n at e one-to-8 (among n (r .0) (r .1)) ts
 
 -- 9, 17, 10, 11, then the tests in the middle (of the log call, 12), then 13.
-module _ (b s : List ℕ) (w : ℕ) (g : Good) (e : reading b ≡ good g) where
+module _ (b s : List ℕ) (w : Given) (g : Good) (e : reading b ≡ good g) where
   same-block : (x : Good) → reading b ≡ good x → g ≡ x
   same-block x q = let d : good g ≡ good x = sym e ∙ q in cc
 
@@ -120,15 +121,13 @@ module _ (b s : List ℕ) (w : ℕ) (g : Good) (e : reading b ≡ good g) where
       clash = moved g (active-of st) (active-in s) (pair .first) (pair .second) (set-found (g .pauses) s st h) (first-pair g (active-of st) pair q .is-pair);
     }
 
-    input-none : undeclared-input (g .header .inputs) w ≡ false → Undeclared b w → ⊥
+    input-none : wrong-inputs (g .header .inputs) w ≡ false → BadInputs b w → ⊥
     input-none q t =
-        declared-none (g .header .inputs) w q (t .signal) (t .is-set)
-        (subst (λ (x : Good). x .header .inputs ≤ t .signal) (sym (same-block (t .block) (t .is-good))) (t .at-or-above))
+        inputs-none (g .header .inputs) w q
+        (subst (λ (x : Good). WrongInputs (x .header .inputs) w) (sym (same-block (t .block) (t .is-good))) (t .wrong))
 
-    input-some : undeclared-input (g .header .inputs) w ≡ true → Undeclared b w
-    input-some q =
-        let r = undeclared-some (g .header .inputs) w q in
-        record { block = g; is-good = e; signal = r .0; is-set = r .2; at-or-above = r .1 }
+    input-some : wrong-inputs (g .header .inputs) w ≡ true → BadInputs b w
+    input-some q = record { block = g; is-good = e; wrong = inputs-some (g .header .inputs) w q }
 
     unsettled : NoCode (block-of g) st (heard-of g w) → Unsettled b s w
     unsettled d = record {
@@ -156,9 +155,9 @@ module _ (b s : List ℕ) (w : ℕ) (g : Good) (e : reading b ≡ good g) where
         (room : roomless ≡ false → (ts : List Test) (n : ℕ) → First ts n → First (middle ++ ts) n) where
       inputs-first : First (input-test b w ∷ (middle ++ code-test b s w ∷ [])) (told (goes-on w roomless (try-inputs g st w)) .number)
       unfolding told try-inputs goes-on
-      inputs-first = go (undeclared-input (g .header .inputs) w) refl roomless refl
+      inputs-first = go (wrong-inputs (g .header .inputs) w) refl roomless refl
         where
-          go : (x : Bool) → undeclared-input (g .header .inputs) w ≡ x → (y : Bool) → roomless ≡ y
+          go : (x : Bool) → wrong-inputs (g .header .inputs) w ≡ x → (y : Bool) → roomless ≡ y
               → First (input-test b w ∷ (middle ++ code-test b s w ∷ []))
               (told (goes-on w y (cond x (stopped INPUT 0) (ready g st))) .number)
           go true q y r = inl (input-some q, refl)
@@ -195,7 +194,7 @@ module _ (b s : List ℕ) (w : ℕ) (g : Good) (e : reading b ≡ good g) where
             let z : _≡_ {A = ℕ} 0 1 = cc in
             omega arith
 
-pub verdict-first : (b s : List ℕ) (w : ℕ) (roomless : Bool) (middle : List Test) → (roomless ≡ true → (ts : List Test) → First (middle ++ ts) ROOM)
+pub verdict-first : (b s : List ℕ) (w : Given) (roomless : Bool) (middle : List Test) → (roomless ≡ true → (ts : List Test) → First (middle ++ ts) ROOM)
     → (roomless ≡ false → (ts : List Test) (n : ℕ) → First ts n → First (middle ++ ts) n)
     → First (block-tests b ++ state-test b s ∷ names-test b s ∷ clash-test b s ∷ input-test b w ∷ (middle ++ code-test b s w ∷ [])) (told (verdict b s w roomless) .number)
 unfolding told verdict front try-block goes-on
@@ -210,7 +209,7 @@ verdict-first b s w roomless middle full room = go (reading b) refl
     go (turned-down n at) e = of-the-block b n at e late
 
 -- The place, and the pair of a CLASH.
-past-tests : (b s : List ℕ) (w : ℕ) (roomless : Bool) (g : Good) → reading b ≡ good g
+past-tests : (b s : List ℕ) (w : Given) (roomless : Bool) (g : Good) → reading b ≡ good g
     → (told (goes-on w roomless (try-state g s w (read-state (g .pauses) s))) .place ≡ 0)
     × (told (goes-on w roomless (try-state g s w (read-state (g .pauses) s))) .number ≡ CLASH
     → PairOf b s (told (goes-on w roomless (try-state g s w (read-state (g .pauses) s))) .first) (told (goes-on w roomless (try-state g s w (read-state (g .pauses) s))) .second))
@@ -230,7 +229,7 @@ past-tests b s w roomless g e = on-state (read-state (g .pauses) s) refl
     on-inputs st false false = on-answer (react (block-of g) st (heard-of g w))
 
     on-clash : (st : State) → read-state (g .pauses) s ≡ state st → (c : Option Pair) → first-clash (g .body) (active-of st) ≡ c → Fine (goes-on w roomless (try-clash g st w c))
-    on-clash st h none q = on-inputs st (undeclared-input (g .header .inputs) w) roomless
+    on-clash st h none q = on-inputs st (wrong-inputs (g .header .inputs) w) roomless
     on-clash st h (some pair) q = (refl, λ z. its-pair b s w g e st h pair q)
 
     on-names : (st : State) → read-state (g .pauses) s ≡ state st → (x : Bool) → Fine (goes-on w roomless (cond x (clash-tried g st w) (stopped OTHER-BLOCK 0)))
@@ -241,7 +240,7 @@ past-tests b s w roomless g e = on-state (read-state (g .pauses) s) refl
     on-state not-a-state q = (refl, λ z. absurd (omega arith))
     on-state (state st) q = on-names st q (names-block (g .header .version) (g .statements) s)
 
-module _ (b s : List ℕ) (w : ℕ) (roomless : Bool) where
+module _ (b s : List ℕ) (w : Given) (roomless : Bool) where
   pub verdict-placed : PlacedBy b (told (verdict b s w roomless) .number) (told (verdict b s w roomless) .place)
   unfolding told verdict front try-block goes-on
   verdict-placed = go (reading b) refl
@@ -372,9 +371,9 @@ module _ (b : List ℕ) where
         go (turned-down k at) h = refl
 
 -- Without a log there is no test in the middle, and with one there is ROOM.
-pub instant-first : (b s : List ℕ) (w : ℕ) → First (instant-tests b s w) (told (instant-verdict b s w) .number)
+pub instant-first : (b s : List ℕ) (w : Given) → First (instant-tests b s w) (told (verdict b s w false) .number)
 instant-first b s w = verdict-first b s w false [] (λ e ts. absurd (true≢false (sym e))) (λ e ts n f. f)
 
-pub logged-first : (b s : List ℕ) (w : ℕ) (log : List ℕ) (end : ℕ) → First (logged-tests b s w log end) (told (logged-verdict b s w log end) .number)
+pub logged-first : (b s : List ℕ) (w : Given) (log : List ℕ) (end : ℕ) → First (logged-tests b s w log end) (told (verdict b s w (no-room log end)) .number)
 logged-first b s w log end =
     verdict-first b s w (no-room log end) (room-test log end ∷ []) (λ e ts. inl (room-missing log end e, refl)) (λ e ts n f. inr (room-there log end e, f))

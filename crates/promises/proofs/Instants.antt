@@ -5,7 +5,6 @@ use mathlib.Core.Bool.{Bool, false, cond}
 use mathlib.Core.List.{List}
 use Prim.Native.Nat.{ℕ, _+_, _≤_}
 use native.Mathlib.Omega.{arith}
-use Rattle.sets.specs.Words.{bits}
 use Rattle.rules.specs.States.{State, Legal}
 use Rattle.rules.specs.Rounds.{Answer, answered, not-constructive}
 use Rattle.theorems.specs.Traces.{after}
@@ -23,16 +22,16 @@ use Rattle.promises.proofs.Records.{inputs-pass, checked, held-is-legal
 use Rattle.promises.proofs.Telling.{tells}
 
 module _ (b : List ℕ) (g : Good) (e : reading b ≡ good g) (s : List ℕ) (st : State) (h : Holds g s st) (w : Inputs g) where
-  all-tests-pass : front b s (w .number) ≡ ready g st
+  all-tests-pass : front b s (w .given) ≡ ready g st
   unfolding front try-block try-state try-names try-clash try-inputs
   all-tests-pass =
-      ap (try-block s (w .number)) e ∙ ap (try-state g s (w .number)) (h .found)
-      ∙ ap (λ (x : Bool). cond x (clash-tried g st (w .number)) (stopped OTHER-BLOCK 0)) (h .names-it) ∙ ap (try-clash g st (w .number)) (h .no-clash)
+      ap (try-block s (w .given)) e ∙ ap (try-state g s (w .given)) (h .found)
+      ∙ ap (λ (x : Bool). cond x (clash-tried g st (w .given)) (stopped OTHER-BLOCK 0)) (h .names-it) ∙ ap (try-clash g st (w .given)) (h .no-clash)
       ∙ rw (inputs-pass g w)
 
-  is-reaction : verdict b s (w .number) false ≡ reacted (block-of g) (rules-answer g st w)
+  is-reaction : verdict b s (w .given) false ≡ reacted (block-of g) (rules-answer g st w)
   unfolding verdict goes-on
-  is-reaction = ap (goes-on (w .number) false) all-tests-pass
+  is-reaction = ap (goes-on (w .given) false) all-tests-pass
 
   few : g .header .inputs + g .header .outputs ≤ 64
   few = omega (arith, sound b g e .signals)
@@ -40,7 +39,7 @@ module _ (b : List ℕ) (g : Good) (e : reading b ≡ good g) (s : List ℕ) (st
   stuck-not : NotStuck (block-of g) st (input-set w) (rules-answer g st w)
   stuck-not =
       instant-not-stuck (block-of g) (checked b g e) st (input-set w) (rules-answer g st w) (held-is-legal b g e s st h)
-      (reacts (block-of g) st (heard-of g (w .number)) (checked b g e))
+      (reacts (block-of g) st (heard-of g (w .given)) (checked b g e))
 
   after-holds : (a : Answer) → Legal (g .body) (after st a) → Holds g (state-after s (reacted (block-of g) a)) (after st a)
   unfolding state-after
@@ -56,7 +55,7 @@ module _ (b : List ℕ) (g : Good) (e : reading b ≡ good g) (s : List ℕ) (st
     is-reaction = is-reaction;
     not-stuck = stuck-not;
     answer = subst⁻¹ (λ (v : Verdict). PromisedAnswer g s st w (told v) (state-after s v)) is-reaction (record {
-      tells = tells g few st (bits (w .number)) s (h .names-it) (rules-answer g st w) (stuck-not .only-reaction);
+      tells = tells g few st (heard-of g (w .given)) s (h .names-it) (rules-answer g st w) (stuck-not .only-reaction);
       holds-after = after-holds (rules-answer g st w) (stuck-not .legal-after);
     });
   }

@@ -1,10 +1,13 @@
 -- What each call's contract says, clause by clause: a contract that comes to say less no longer gives these. Each is read off the call. A
 -- further call takes the same two lines. Assumes nothing.
 use mathlib.Core.Path.{_≡_}
+use mathlib.Core.Bool.{false}
 use mathlib.Core.List.{List}
 use Prim.Native.Nat.{ℕ}
 use Rattle.block.specs.Format.{reading}
-use Rattle.reaction.specs.Instants.{told, state-after, log-after, end-after, instant-verdict, logged-verdict}
+use Rattle.reaction.specs.Instants.{told, state-after, log-after, end-after, verdict}
+use Rattle.records.specs.LogRecord.{no-room}
+use Rattle.reaction.specs.declared.Given.{Given}
 use Rattle.refusals.specs.declared.Why.{Why}
 use Rattle.block.specs.declared.whole.Checked.{Checked}
 use Rattle.foldheron.specs.declared.Begun.{Begun}
@@ -14,7 +17,7 @@ use Rattle.foldheron.specs.declared.Logged.{Logged}
 use Rattle.reaction.specs.Answers.{instant-told}
 use Rattle.refusals.specs.Refusals.{number}
 use Rattle.foldheron.specs.Answers.{check-values, check-owed, begun-values, begun-owed, state-owed, part-owed, part-lies}
-use Rattle.promises.specs.Calls.{_holds_, CheckCalled, FreshCalled, Called, CalledWithLog, PartCalled, ExcerptCalled, NumberCalled}
+use Rattle.promises.specs.Calls.{_holds_, CheckCalled, FreshCalled, CalledFor, LoggedFor, with-set, with-two, PartCalled, ExcerptCalled, NumberCalled}
 
 module _ (b : List ℕ) where
   pub check-says : {r : Checked} → CheckCalled b r → check-values r ≡ check-owed (reading b)
@@ -23,22 +26,30 @@ module _ (b : List ℕ) where
   pub fresh-says : {s s′ : List ℕ} {r : Begun} → FreshCalled b s r s′ → (begun-values r ≡ begun-owed (reading b) s) × (s′ ≡ state-owed (reading b) s)
   fresh-says c = c .call .learnt
 
-  pub instant-says : {s s′ : List ℕ} {w : ℕ} {r : Instant} → Called b s w r s′
-      → (instant-told r ≡ told (instant-verdict b s w)) × (s′ ≡ state-after s (instant-verdict b s w))
-  instant-says c = c .call .learnt
+  pub instant-says : {s s′ : List ℕ} {w : Given} {r : Instant} → CalledFor b s w r s′
+      → (instant-told r ≡ told (verdict b s w false)) × (s′ ≡ state-after s (verdict b s w false))
+  instant-says (with-set c) = c .call .learnt
+  instant-says (with-two c) = c .call .learnt
 
-  module _ {s s′ log log′ : List ℕ} {w end : ℕ} {r : Logged} (c : CalledWithLog b s w log end r s′ log′) where
-    pub logged-answer : instant-told (r .answer) ≡ told (logged-verdict b s w log end)
-    logged-answer = c .call .learnt .0
+  pub logged-answer : {s s′ log log′ : List ℕ} {w : Given} {end : ℕ} {r : Logged} → LoggedFor b s w log end r s′ log′
+      → instant-told (r .answer) ≡ told (verdict b s w (no-room log end))
+  logged-answer (with-set c) = c .call .learnt .0
+  logged-answer (with-two c) = c .call .learnt .0
 
-    pub logged-end : r .end ≡ end-after end (logged-verdict b s w log end)
-    logged-end = c .call .learnt .1 .0
+  pub logged-end : {s s′ log log′ : List ℕ} {w : Given} {end : ℕ} {r : Logged} → LoggedFor b s w log end r s′ log′
+      → r .end ≡ end-after end (verdict b s w (no-room log end))
+  logged-end (with-set c) = c .call .learnt .1 .0
+  logged-end (with-two c) = c .call .learnt .1 .0
 
-    pub logged-state : s′ ≡ state-after s (logged-verdict b s w log end)
-    logged-state = c .call .learnt .1 .1 .0
+  pub logged-state : {s s′ log log′ : List ℕ} {w : Given} {end : ℕ} {r : Logged} → LoggedFor b s w log end r s′ log′
+      → s′ ≡ state-after s (verdict b s w (no-room log end))
+  logged-state (with-set c) = c .call .learnt .1 .1 .0
+  logged-state (with-two c) = c .call .learnt .1 .1 .0
 
-    pub logged-log : log′ ≡ log-after log end w (logged-verdict b s w log end)
-    logged-log = c .call .learnt .1 .1 .1
+  pub logged-log : {s s′ log log′ : List ℕ} {w : Given} {end : ℕ} {r : Logged} → LoggedFor b s w log end r s′ log′
+      → log′ ≡ log-after log end w (verdict b s w (no-room log end))
+  logged-log (with-set c) = c .call .learnt .1 .1 .1
+  logged-log (with-two c) = c .call .learnt .1 .1 .1
 
   pub part-says : {n : ℕ} {r : Part} → PartCalled b n r → r ≡ part-owed (reading b) n
   part-says c = c .call .learnt .0

@@ -12,4 +12,5 @@ pub mod Tests
 pub mod FirstRefusal
 pub mod LoggedRuns
 pub mod Demand1
+pub mod Heard
 pub mod Promises

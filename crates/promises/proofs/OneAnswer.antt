@@ -20,11 +20,12 @@ use Rattle.rules.specs.Rounds.{Settled, answered, not-constructive, answer, fin
 use Rattle.theorems.proofs.Demand3.{rounds-end}
 use Rattle.block.specs.Format.{Good, Reading, good, turned-down, reading}
 use Rattle.block.proofs.GoodReadings.{numbers}
-use Rattle.records.specs.StateRecord.{Found, not-a-state, state, read-state, names-block, Pair, paired, with-second, clashes, first-clash, undeclared-input}
-use Rattle.reaction.specs.Fronts.{OTHER-BLOCK, stopped, ready, try-inputs, try-clash, clash-tried, try-names, try-state, try-block, front}
+use Rattle.records.specs.StateRecord.{Found, not-a-state, state, read-state, names-block, Pair, paired, with-second, clashes, first-clash}
+use Rattle.reaction.specs.Fronts.{OTHER-BLOCK, stopped, ready, wrong-inputs, try-inputs, try-clash, clash-tried, try-names, try-state, try-block, front}
 use Rattle.reaction.specs.Instants.{Verdict, refused, clash, reacted, Told, told, block-of, goes-on, verdict, heard-of}
 use Rattle.refusals.specs.declared.Why.{Why}
 use Rattle.refusals.specs.declared.Why.the-variants as Why
+use Rattle.reaction.specs.declared.Given.{Given}
 use Rattle.reaction.specs.declared.Instant.{Instant}
 use Rattle.reaction.specs.declared.Instant.the-variants as Instant
 use Rattle.refusals.specs.Refusals.{number, why-of}
@@ -51,9 +52,9 @@ counted b st ins =
     let S = step (b .body) st in
     counted-answer b r (lowest 18 (gives must S E .codes)) (kept S E) (rounds-end b st ins .at-least)
 
-inputs-apart : (g : Good) (st : State) (given : ℕ) (roomless : Bool) → Apart (goes-on given roomless (try-inputs g st given))
+inputs-apart : (g : Good) (st : State) (given : Given) (roomless : Bool) → Apart (goes-on given roomless (try-inputs g st given))
 unfolding Apart try-inputs goes-on
-inputs-apart g st given roomless = go (undeclared-input (g .header .inputs) given) roomless
+inputs-apart g st given roomless = go (wrong-inputs (g .header .inputs) given) roomless
   where
     go : (x y : Bool) → Apart (goes-on given y (cond x (stopped 11 0) (ready g st)))
     go true y = ((λ e. omega arith), (λ e. omega arith))
@@ -74,7 +75,7 @@ clash-apart : (p : Stmt) (A : Numbers) (o : Option ℕ) (pair : Pair) → with-s
 clash-apart p A none pair e = let z : _≡_ {A = ℕ} 0 1 = cc in absurd (omega arith)
 clash-apart p A (some m) pair e = second-above p A m (lowest 128 (clashes p A m)) pair refl e
 
-state-apart : (g : Good) (s : List ℕ) (given : ℕ) (roomless : Bool) (f : Found) → Apart (goes-on given roomless (try-state g s given f))
+state-apart : (g : Good) (s : List ℕ) (given : Given) (roomless : Bool) (f : Found) → Apart (goes-on given roomless (try-state g s given f))
 unfolding Apart try-state try-names try-clash goes-on first-clash
 state-apart g s given roomless not-a-state = ((λ e. omega arith), (λ e. omega arith))
 state-apart g s given roomless (state st) = named (names-block (g .header .version) (g .statements) s)
@@ -87,7 +88,7 @@ state-apart g s given roomless (state st) = named (names-block (g .header .versi
     named true = go (first-clash (g .body) (active-of st)) refl
     named false = ((λ e. omega arith), (λ e. omega arith))
 
-apart : (b s : List ℕ) (given : ℕ) (roomless : Bool) → Apart (verdict b s given roomless)
+apart : (b s : List ℕ) (given : Given) (roomless : Bool) → Apart (verdict b s given roomless)
 unfolding Apart verdict front try-block goes-on
 apart b s given roomless = go (reading b) refl
   where
@@ -133,7 +134,7 @@ no-doubt (clash pair) a at e = let z : _≡_ {A = ℕ} 13 10 = ap (λ (t : Told)
 no-doubt (reacted b (answered outs c st r)) a at e = let z : _≡_ {A = ℕ} 13 0 = ap (λ (t : Told). t .number) e in omega arith
 no-doubt (reacted b (not-constructive outs r)) a at e = let z : 0 ≡ r = ap (λ (t : Told). t .rounds) e in let h : 1 ≤ r = a in omega arith
 
-is-remade : (b s : List ℕ) (given : ℕ) (roomless : Bool) (r : Instant) → instant-told r ≡ told (verdict b s given roomless)
+is-remade : (b s : List ℕ) (given : Given) (roomless : Bool) (r : Instant) → instant-told r ≡ told (verdict b s given roomless)
     → remade (told (verdict b s given roomless)) ≡ r
 is-remade b s given roomless r e =
     ap remade (sym e)
@@ -141,6 +142,6 @@ is-remade b s given roomless r e =
     (λ at d. no-clash (verdict b s given roomless) (apart b s given roomless) at (ap instant-told (sym d) ∙ e))
     (λ at d. no-doubt (verdict b s given roomless) (apart b s given roomless) at (ap instant-told (sym d) ∙ e))
 
-pub an-instant-has-one-answer : (b s : List ℕ) (given : ℕ) (roomless : Bool) (r q : Instant) → instant-told r ≡ told (verdict b s given roomless)
+pub an-instant-has-one-answer : (b s : List ℕ) (given : Given) (roomless : Bool) (r q : Instant) → instant-told r ≡ told (verdict b s given roomless)
     → instant-told q ≡ told (verdict b s given roomless) → r ≡ q
 an-instant-has-one-answer b s given roomless r q e d = sym (is-remade b s given roomless r e) ∙ is-remade b s given roomless q d

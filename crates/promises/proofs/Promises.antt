@@ -3,9 +3,12 @@
 -- answers and leaves is known by its own contract (`specs/Calls`). Each theorem is proved in the file that the `use` lines name: Good gives the
 -- conditions on the tree, no test of the call then fails, and demand 3 of the rules says the rest. Assumes nothing.
 use mathlib.Core.Path.{_≡_}
+use mathlib.Core.Bool.{Bool, false, not, _&&_}
 use mathlib.Core.List.{List, map}
 use Prim.Native.Nat.{ℕ, _+_, _*_, _≤_}
+use lib.Dec.{ltb}
 use lib.ListN.{length}
+use Rattle.sets.specs.Words.{bits}
 use Rattle.rules.specs.States.{State, fresh, Legal}
 use Rattle.theorems.specs.Checked.{Checked}
 use Rattle.theorems.specs.Traces.{run, arrives}
@@ -14,20 +17,25 @@ use Rattle.block.specs.declared.whole.Summary.{Summary}
 use Rattle.records.specs.Numerals.{Bytes}
 use Rattle.records.specs.StateRecord.{state-record, version-in, statements-in}
 use Rattle.records.proofs.Reading.{named-version, named-statements}
-use Rattle.reaction.specs.Instants.{block-of, told-reaction, instant-verdict, logged-verdict}
+use Rattle.reaction.specs.Instants.{block-of, heard-of, told-reaction, verdict}
+use Rattle.records.specs.LogRecord.{no-room}
+use Rattle.reaction.specs.declared.Given.{Given}
 use Rattle.block.specs.declared.whole.Checked.the-variants.{Good as GoodOne}
 use Rattle.foldheron.specs.declared.Begun.the-variants.{Fresh}
 use Rattle.reaction.specs.declared.Instant.{Instant}
 use Rattle.foldheron.specs.declared.Logged.{Logged}
 use Rattle.reaction.specs.Answers.{instant-told}
-use Rattle.promises.specs.Promised.{ReadAs, Holds, Inputs, PromisedAnswer, Promised, PromisedLogged, PromisedCalls}
-use Rattle.promises.specs.Runs.{verdicts, bytes-left, logged-verdicts, logged-bytes-left, numbers, sets, PromisedRun}
-use Rattle.promises.specs.Calls.{CheckCalled, FreshCalled, Called, Calls, CalledWithLog, LoggedCalls}
+use Rattle.promises.specs.Promised.{ReadAs, Holds, Inputs, Alike, PromisedAnswer, Promised, PromisedLogged, PromisedCalls}
+use Rattle.promises.specs.Runs.{verdicts, bytes-left, logged-verdicts, logged-bytes-left, givens, sets, PromisedRun}
+use Rattle.promises.specs.Calls.{CheckCalled, FreshCalled, CalledFor, Calls, LoggedFor, LoggedCalls}
 use Rattle.promises.proofs.Records.{checked, held-is-legal, version-fits, legal-is-held}
 use Rattle.promises.proofs.Instants.{promised}
 use Rattle.promises.proofs.Runs.{promised-run, same-verdict, same-run}
 use Rattle.promises.proofs.Calls.{good-is-read, fresh-is-held, call, calls, calls-keep, call-with-log}
 use Rattle.promises.proofs.LoggedRuns.{without-log}
+use Rattle.promises.proofs.Heard.{stays, no-unknown}
+use Rattle.theorems.specs.Order.{HearsMore}
+use Rattle.reaction.specs.declared.Given.the-variants.{All, Two}
 
 -- The one hypothesis on a block is that `check` answered Good to it.
 module _ (b : List ℕ) (said : Summary) (good-answer : CheckCalled b (GoodOne said)) where
@@ -58,7 +66,7 @@ module _ (b : List ℕ) (said : Summary) (good-answer : CheckCalled b (GoodOne s
 
   -- From the record that `fresh` wrote, over calls of `instant` one after the other: each answered one is the only coherent reaction, told and
   -- written as a legal state, or 13 is told and every byte kept;
-  module _ (bytes : Bytes b) (s s₀ : List ℕ) (written : FreshCalled b s Fresh s₀) (ws : List (Inputs g)) (rs : List Instant) (s′ : List ℕ) (made : Calls b s₀ (numbers ws) rs s′) where
+  module _ (bytes : Bytes b) (s s₀ : List ℕ) (written : FreshCalled b s Fresh s₀) (ws : List (Inputs g)) (rs : List Instant) (s′ : List ℕ) (made : Calls b s₀ (givens ws) rs s′) where
     pub from-fresh-each-answer-is-the-only-reaction-or-13 : PromisedCalls g s₀ fresh ws rs s′
     from-fresh-each-answer-is-the-only-reaction-or-13 = calls-keep b g e s₀ fresh (fresh-is-held b bytes g e s s₀ written) ws rs s′ made
 
@@ -68,38 +76,44 @@ module _ (b : List ℕ) (said : Summary) (good-answer : CheckCalled b (GoodOne s
 
   -- and so over calls of `instant_logged`, where the log has room for a record each.
   pub from-fresh-each-logged-answer-is-the-only-reaction-or-13 : Bytes b → (s s₀ : List ℕ) → FreshCalled b s Fresh s₀
-      → (ws : List (Inputs g)) (rs : List Logged) (log log′ : List ℕ) (end end′ : ℕ) (s′ : List ℕ) → end + 24 * length (numbers ws) ≤ length log
-      → LoggedCalls b s₀ log end (numbers ws) rs s′ log′ end′ → PromisedCalls g s₀ fresh ws (map (λ r. r .answer) rs) s′
+      → (ws : List (Inputs g)) (rs : List Logged) (log log′ : List ℕ) (end end′ : ℕ) (s′ : List ℕ) → end + 32 * length (givens ws) ≤ length log
+      → LoggedCalls b s₀ log end (givens ws) rs s′ log′ end′ → PromisedCalls g s₀ fresh ws (map (λ r. r .answer) rs) s′
   from-fresh-each-logged-answer-is-the-only-reaction-or-13 bytes s s₀ written ws rs log log′ end end′ s′ room made =
       calls-keep b g e s₀ fresh (fresh-is-held b bytes g e s s₀ written) ws (map (λ r. r .answer) rs) s′ (without-log b made room)
 
   -- The same from any record that is found legal:
   module _ (s : List ℕ) (st : State) (h : Holds g s st) where
     -- in one call and in calls one after the other,
-    pub each-call-keeps-the-promise : (w : Inputs g) (r : Instant) (s′ : List ℕ) → Called b s (w .number) r s′ → PromisedAnswer g s st w (instant-told r) s′
+    pub each-call-keeps-the-promise : (w : Inputs g) (r : Instant) (s′ : List ℕ) → CalledFor b s (w .given) r s′ → PromisedAnswer g s st w (instant-told r) s′
     each-call-keeps-the-promise = call b g e s st h
 
     -- what is written names the block,
-    pub what-is-written-names-the-block : (w : Inputs g) (r : Instant) (s′ : List ℕ) → Called b s (w .number) r s′
+    pub what-is-written-names-the-block : (w : Inputs g) (r : Instant) (s′ : List ℕ) → CalledFor b s (w .given) r s′
         → (version-in s′ ≡ g .header .version) × (statements-in s′ ≡ g .statements)
     what-is-written-names-the-block w r s′ c =
         let n = call b g e s st h w r s′ c .holds-after .names-it in
         (named-version (g .header .version) (g .statements) s′ n, named-statements (g .header .version) (g .statements) s′ n)
 
-    pub each-of-the-calls-keeps-the-promise : (ws : List (Inputs g)) (rs : List Instant) (s′ : List ℕ) → Calls b s (numbers ws) rs s′ → PromisedCalls g s st ws rs s′
+    -- an answer given with unknown inputs is the answer whatever more is heard, but for the rounds,
+    pub an-answer-stays-whatever-more-is-heard : (w w′ : Inputs g) → HearsMore (block-of g) (heard-of g (w .given)) (heard-of g (w′ .given))
+        → (r r′ : Instant) (s₁ s₂ : List ℕ) → CalledFor b s (w .given) r s₁ → CalledFor b s (w′ .given) r′ s₂ → instant-told r .number ≡ 0
+        → Alike (instant-told r) (instant-told r′) × (s₂ ≡ s₁)
+    an-answer-stays-whatever-more-is-heard = stays b g e s st h
+
+    pub each-of-the-calls-keeps-the-promise : (ws : List (Inputs g)) (rs : List Instant) (s′ : List ℕ) → Calls b s (givens ws) rs s′ → PromisedCalls g s st ws rs s′
     each-of-the-calls-keeps-the-promise = calls-keep b g e s st h
 
-    pub the-calls-make-the-rules-run : (ws : List (Inputs g)) (rs : List Instant) (s′ : List ℕ) → Calls b s (numbers ws) rs s′
+    pub the-calls-make-the-rules-run : (ws : List (Inputs g)) (rs : List Instant) (s′ : List ℕ) → Calls b s (givens ws) rs s′
         → (map instant-told rs ≡ map (told-reaction (block-of g)) (run (block-of g) st (sets ws))) × Holds g s′ (arrives (block-of g) st (sets ws))
     the-calls-make-the-rules-run = calls b g e s st h
 
     -- and with `instant_logged`, where the log has room.
-    pub each-logged-call-keeps-the-promise : (w : Inputs g) (log : List ℕ) (end : ℕ) → end + 24 ≤ length log → (r : Logged) (s′ log′ : List ℕ)
-        → CalledWithLog b s (w .number) log end r s′ log′ → PromisedLogged g s st w log end r s′ log′
+    pub each-logged-call-keeps-the-promise : (w : Inputs g) (log : List ℕ) (end : ℕ) → end + 32 ≤ length log → (r : Logged) (s′ log′ : List ℕ)
+        → LoggedFor b s (w .given) log end r s′ log′ → PromisedLogged g s st w log end r s′ log′
     each-logged-call-keeps-the-promise = call-with-log b g e s st h
 
     pub each-of-the-logged-calls-keeps-the-promise : (ws : List (Inputs g)) (rs : List Logged) (log log′ : List ℕ) (end end′ : ℕ) (s′ : List ℕ)
-        → end + 24 * length (numbers ws) ≤ length log → LoggedCalls b s log end (numbers ws) rs s′ log′ end′ → PromisedCalls g s st ws (map (λ r. r .answer) rs) s′
+        → end + 32 * length (givens ws) ≤ length log → LoggedCalls b s log end (givens ws) rs s′ log′ end′ → PromisedCalls g s st ws (map (λ r. r .answer) rs) s′
     each-of-the-logged-calls-keeps-the-promise ws rs log log′ end end′ s′ room made = calls-keep b g e s st h ws (map (λ r. r .answer) rs) s′ (without-log b made room)
 
     -- Behind it: each instant is the only coherent reaction, written as a legal state, or 13 with every byte kept;
@@ -110,10 +124,15 @@ module _ (b : List ℕ) (said : Summary) (good-answer : CheckCalled b (GoodOne s
     pub each-run-is-the-rules-run : (ws : List (Inputs g)) → PromisedRun b g s st ws
     each-run-is-the-rules-run = promised-run b g e s st h
 
+-- An input set says the same as two sets with no unknowns: the set itself, and every other input absent.
+pub a-set-has-no-unknowns : (g : Good) (s : List ℕ) (w rest : ℕ) → ((n : ℕ) → bits rest n ≡ (ltb n (g .header .inputs) && not (bits w n))) → (roomless : Bool)
+    (b : List ℕ) → reading b ≡ good g → verdict b s (All w) roomless ≡ verdict b s (Two w rest) roomless
+a-set-has-no-unknowns = no-unknown
+
 -- With room in the log an instant with a log is the one without, and so is a run with room for a record each.
-pub with-room-the-same-instant : (log : List ℕ) (end : ℕ) → end + 24 ≤ length log → (b s : List ℕ) (w : ℕ) → logged-verdict b s w log end ≡ instant-verdict b s w
+pub with-room-the-same-instant : (log : List ℕ) (end : ℕ) → end + 32 ≤ length log → (b s : List ℕ) (w : Given) → verdict b s w (no-room log end) ≡ verdict b s w false
 with-room-the-same-instant = same-verdict
 
-pub with-room-the-same-run : (b s ws log : List ℕ) (end : ℕ) → end + 24 * length ws ≤ length log
+pub with-room-the-same-run : (b s : List ℕ) (ws : List Given) (log : List ℕ) (end : ℕ) → end + 32 * length ws ≤ length log
     → (logged-verdicts b s ws log end ≡ verdicts b s ws) × (logged-bytes-left b s ws log end ≡ bytes-left b s ws)
 with-room-the-same-run = same-run

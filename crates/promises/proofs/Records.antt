@@ -1,14 +1,15 @@
 -- State records and legal states: for a good block a record is found legal exactly when it holds a legal state, since the reading counts
 -- the tree's pauses; and what is written is made of bytes. Assumes nothing.
-use mathlib.Core.Path.{_≡_, sym, ap, _∙_, subst}
-use mathlib.Core.Bool.{false, not}
+use mathlib.Core.Path.{_≡_, sym, ap, ap₂, _∙_, subst}
+use mathlib.Core.Bool.{Bool, false, not, _&&_, _||_}
 use mathlib.Core.List.{List, [], _∷_, _++_}
 use Prim.Native.Nat.{ℕ, zero, suc, _+_, _/_, _%_, _^_, _≤_, _<_}
 use native.Mathlib.Omega.{arith}
-use lib.Dec.{eqb}
+use lib.Dec.{T, eqb}
 use lib.ListN.{getD}
 use Rattle.sets.specs.Words.{bits, word}
-use Rattle.sets.proofs.Members.{of-true, is-false}
+use Rattle.sets.proofs.Members.{of-true, is-false, and-left, and-right}
+use Rattle.sets.proofs.Maxima.{some-to-out}
 use Rattle.sets.proofs.Words.{bits-ext, bits-shift, bits-zero}
 use Rattle.rules.specs.States.{State, phase-of, active-of, Legal}
 use Rattle.theorems.specs.Checked.{Checked}
@@ -16,11 +17,14 @@ use Rattle.block.specs.Format.{Header, header, Good, good, reading}
 use Rattle.block.proofs.GoodReadings.{Sound, sound}
 use Rattle.records.specs.Numerals.{Bytes, in-bytes}
 use Rattle.records.specs.Fields.{place, laid}
-use Rattle.records.specs.StateRecord.{upper, state-widths, state-values, state, state-record, read-state, undeclared-input}
+use Rattle.records.specs.StateRecord.{upper, state-widths, state-values, state, state-record, read-state, undeclared-input, in-both, bad-inputs}
 use Rattle.records.proofs.Reading.{named-version}
 use Rattle.records.proofs.Back.{written-names}
 use Rattle.records.proofs.LegalStates.{field-lt, found-legal, legal-found, legal-clear}
-use Rattle.reaction.specs.Instants.{block-of}
+use Rattle.reaction.specs.Fronts.{wrong-inputs}
+use Rattle.reaction.specs.Instants.{block-of, heard-of}
+use Rattle.reaction.specs.declared.Given.{Given}
+use Rattle.reaction.specs.declared.Given.the-variants.{All, Two}
 use Rattle.promises.specs.Promised.{Holds, Inputs}
 
 -- Bytes written.
@@ -56,19 +60,33 @@ pub record-bytes : (v n : ℕ) (st : State) → Bytes (state-record v n st)
 unfolding state-record
 record-bytes v n st = laid-bytes state-widths (state-values v n (phase-of st) (word 64 (active-of st)) (word 64 (upper (active-of st))))
 
--- No bit at or above the number of inputs: not the refusal 11.
-pub inputs-pass : (g : Good) (w : Inputs g) → undeclared-input (g .header .inputs) (w .number) ≡ false
+-- No bit at or above the number of inputs, and no signal in both sets: not the refusal 11.
+none-above : (k w : ℕ) → ((n : ℕ) → T (bits w n) → n < k) → undeclared-input k w ≡ false
 unfolding undeclared-input
-inputs-pass g w = ap (λ (x : ℕ). not (eqb x 0)) none-above
+none-above k w f = ap (λ (x : ℕ). not (eqb x 0)) (bits-ext (λ n. sym (bits-shift w k n) ∙ clear n ∙ sym (bits-zero n)))
   where
-    k : ℕ
-    k = g .header .inputs
+    clear : (n : ℕ) → bits w (k + n) ≡ false
+    clear n = is-false (bits w (k + n)) (λ t. let l : k + n < k = f (k + n) t in omega arith)
 
-    clear : (n : ℕ) → bits (w .number) (k + n) ≡ false
-    clear n = is-false (bits (w .number) (k + n)) (λ t. let l : k + n < k = w .declared (k + n) t in omega arith)
+nothing-shared : (p a : ℕ) → ((n : ℕ) → T (bits p n) → T (bits a n) → ⊥) → in-both p a ≡ false
+unfolding in-both
+nothing-shared p a f = is-false (in-both p a) no
+  where
+    no : T (in-both p a) → ⊥
+    no t =
+        let m = some-to-out (λ n. bits p n && bits a n) 63 t in
+        f (m .0) (and-left (bits p (m .0)) (bits a (m .0)) (m .2)) (and-right (bits p (m .0)) (bits a (m .0)) (m .2))
 
-    none-above : w .number / 2 ^ k ≡ 0
-    none-above = bits-ext (λ n. sym (bits-shift (w .number) k n) ∙ clear n ∙ sym (bits-zero n))
+pub inputs-pass : (g : Good) (w : Inputs g) → wrong-inputs (g .header .inputs) (w .given) ≡ false
+unfolding wrong-inputs bad-inputs
+inputs-pass g w = go (w .given) (w .present-declared) (w .absent-declared) (w .apart)
+  where
+    go : (x : Given) → ((n : ℕ) → T (heard-of g x .heard-present n) → n < g .header .inputs) → ((n : ℕ) → T (heard-of g x .heard-absent n) → n < g .header .inputs)
+        → ((n : ℕ) → T (heard-of g x .heard-present n) → T (heard-of g x .heard-absent n) → ⊥) → wrong-inputs (g .header .inputs) x ≡ false
+    go (All set) f h d = none-above (g .header .inputs) set f
+    go (Two p a) f h d =
+        ap₂ (λ (x y : Bool). x || y) (none-above (g .header .inputs) p f)
+        (ap₂ (λ (x y : Bool). x || y) (none-above (g .header .inputs) a h) (nothing-shared p a d))
 
 module _ (b : List ℕ) (g : Good) (e : reading b ≡ good g) where
   read : Sound b g

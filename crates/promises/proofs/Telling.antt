@@ -8,16 +8,15 @@ use native.Mathlib.Omega.{arith}
 use lib.Dec.{ltb, leb}
 use lib.ListN.{length, getD, List·getD-eq-default}
 use borrow.Author.Tests.{ltb-true, ltb-false, le-ltb, le-leb, lt-leb}
-use Rattle.sets.specs.Numbers.{Numbers, empty, count}
+use Rattle.sets.specs.Numbers.{empty, count}
 use Rattle.sets.specs.Words.{bits, word}
 use Rattle.sets.proofs.Words.{bits-word}
 use Rattle.rules.specs.Statements.{Block}
-use Rattle.rules.specs.Events.{Status, present, unknown, known, all-heard}
+use Rattle.rules.specs.Events.{Status, present, unknown, known, Hearing}
 use Rattle.rules.specs.States.{State, active-of}
 use Rattle.rules.specs.Rounds.{same, outputs-with, Answer, answered, not-constructive}
 use Rattle.rules.specs.Coherence.{world}
 use Rattle.theorems.specs.Reactions.{OnlyIfAnswered}
-use Rattle.theorems.proofs.Late.{all-is-choice}
 use Rattle.block.specs.Format.{Good}
 use Rattle.records.specs.StateRecord.{state-record, names-block}
 use Rattle.records.proofs.Reading.{named-version, named-statements}
@@ -63,15 +62,15 @@ module _ (b : Block) (few : b .inputs + b .outputs ≤ 64) (outs : List Bool) (e
       bits-word 64 (outputs-with present b vs) n
       ∙ ap (λ (x : Bool). ltb n 64 && x) (ap (λ (us : List Status). outputs-with present b us n) (sym e) ∙ present-outputs b outs n) ∙ within n
 
-pub tells : (g : Good) → g .header .inputs + g .header .outputs ≤ 64 → (st : State) (given : Numbers) (s : List ℕ)
-    → names-block (g .header .version) (g .statements) s ≡ true → (a : Answer) → OnlyIfAnswered (block-of g) st (all-heard (block-of g) given) a
-    → Tells g st given s a (told (reacted (block-of g) a)) (state-after s (reacted (block-of g) a))
+pub tells : (g : Good) → g .header .inputs + g .header .outputs ≤ 64 → (st : State) (heard : Hearing) (s : List ℕ)
+    → names-block (g .header .version) (g .statements) s ≡ true → (a : Answer) → OnlyIfAnswered (block-of g) st heard a
+    → Tells g st heard s a (told (reacted (block-of g) a)) (state-after s (reacted (block-of g) a))
 unfolding told state-after
-tells g few st given s named (answered vs c st′ n) only = record {
+tells g few st heard s named (answered vs c st′ n) only = record {
   is-answered = refl;
-  only-reaction = only given (all-is-choice (block-of g) given);
+  only-reaction = only;
   says-it =
-      λ outs d st″ r. let q = only given (all-is-choice (block-of g) given) .the-only-one outs d st″ r in
+      λ chosen ch outs d st″ r. let q = only chosen ch .the-only-one outs d st″ r in
       record {
         outputs-are = outputs-told (block-of g) few outs (r .each-output) vs (q .same-outputs);
         code-is = sym (q .same-code);
@@ -82,4 +81,4 @@ tells g few st given s named (answered vs c st′ n) only = record {
             ∙ ap (state-record (g .header .version) (g .statements)) (sym (q .same-next));
       };
 }
-tells g few st given s named (not-constructive vs n) only = record { is-refused = refl; unchanged = refl }
+tells g few st heard s named (not-constructive vs n) only = record { is-refused = refl; unchanged = refl }

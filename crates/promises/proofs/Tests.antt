@@ -1,8 +1,8 @@
 -- Each test on its own is the test that the definitions of the calls make: of a record, of two pauses, of an input set, of a log, of the final
 -- round. Each way by the laws of the crate that has the test. Assumes nothing.
 use mathlib.Core.Path.{_≡_, refl, sym, ap, ap₂, _∙_, subst}
-use mathlib.Core.Logic.{inl, inr, _≢_}
-use mathlib.Core.Bool.{Bool, true, false, not, cond, _&&_, true≢false}
+use mathlib.Core.Logic.{_⊎_, inl, inr, _≢_}
+use mathlib.Core.Bool.{Bool, true, false, not, cond, _&&_, _||_, true≢false}
 use mathlib.Core.List.{List}
 use mathlib.Core.Option.{Option, none, some}
 use Prim.Native.Nat.{ℕ, _+_, _/_, _^_, _≤_, _<_}
@@ -15,7 +15,7 @@ use Rattle.sets.specs.Numbers.{Numbers, some-to, lowest}
 use Rattle.sets.specs.Words.{bits, two-words}
 use Rattle.sets.proofs.Members.{is-true, of-true, is-false, of-false, and-in, and-left, and-right}
 use Rattle.sets.proofs.Counts.{lowest-some}
-use Rattle.sets.proofs.Maxima.{some-to-in}
+use Rattle.sets.proofs.Maxima.{some-to-in, some-to-out}
 use Rattle.sets.proofs.Words.{bits-shift, lt-pow, lowest-there}
 use Rattle.rules.specs.Statements.{Block}
 use Rattle.rules.specs.Events.{Status, Hearing, event}
@@ -27,7 +27,7 @@ use Rattle.theorems.specs.Traces.{Instant, answers, refuses}
 use Rattle.theorems.proofs.Instants.{reacts}
 use Rattle.theorems.proofs.Demand3.{rounds-are-determined}
 use Rattle.block.specs.Format.{Good}
-use Rattle.records.specs.StateRecord.{length-in, kind-in, phase-in, low-in, high-in, Found, not-a-state, state, active-in, none-active, beyond, in-phase, read-state, Pair, paired, with-second, clashes, first-clash, undeclared-input}
+use Rattle.records.specs.StateRecord.{length-in, kind-in, phase-in, low-in, high-in, Found, not-a-state, state, active-in, none-active, beyond, in-phase, read-state, Pair, paired, with-second, clashes, first-clash, undeclared-input, in-both, bad-inputs}
 use Rattle.records.specs.LogRecord.{no-room}
 use Rattle.records.proofs.TwoWords.{set-of-none, none-from, beyond-in, beyond-out}
 use Rattle.records.proofs.Reading.{read-sized, read-headed, read-kind}
@@ -35,7 +35,10 @@ use Rattle.records.proofs.Pairs.{clash-first, clash-second, clash-lower, clash-
 use Rattle.records.proofs.LegalStates.{no-clash, found-ran}
 use Rattle.records.proofs.Logs.{has-room, room-has}
 use Rattle.promises.specs.Demand1.{WrongState, not-26-bytes, wrong-length, wrong-kind, wrong-phase, bit-beyond, bits-while-fresh}
-use Rattle.promises.specs.Demand1.{none-while-running, bits-while-finished, Incompatible, FirstPair, NoRoom}
+use Rattle.promises.specs.Demand1.{none-while-running, bits-while-finished, Incompatible, FirstPair, BadBit, InBoth, WrongInputs, NoRoom}
+use Rattle.reaction.specs.Fronts.{wrong-inputs}
+use Rattle.reaction.specs.declared.Given.{Given}
+use Rattle.reaction.specs.declared.Given.the-variants.{All, Two}
 
 -- STATE.
 no-state : (x y z : Bool) (f : Found) → f ≡ not-a-state → cond (x && y && z) f not-a-state ≡ not-a-state
@@ -204,6 +207,10 @@ module _ (g : Good) (A : Numbers) where
       outer none q f = let z : _≡_ {A = ℕ} 0 1 = cc in absurd (omega arith)
       outer (some m) q f = inner m q (lowest 128 (clashes (g .body) A m)) refl f
 
+or-none : (x y : Bool) → (x || y) ≡ false → (x ≡ false) × (y ≡ false)
+or-none true y e = absurd (true≢false e)
+or-none false y e = (refl, e)
+
 -- INPUT. A number that is not 0 has a bit.
 module _ (k w : ℕ) where
   pub declared-none : undeclared-input k w ≡ false → (n : ℕ) → T (bits w n) → k ≤ n → ⊥
@@ -221,17 +228,55 @@ module _ (k w : ℕ) where
       let s = lowest-some x (bits x) (lowest-there x {x = x} (lt-pow x) (λ z. of-false (ap not (eq-eqb x 0 z)) (of-true e))) in
       (k + trailingZeros x x, omega arith, subst T (sym (bits-shift w k (trailingZeros x x))) (s .1))
 
+-- and of what is given: a set, or two of them
+module _ (k : ℕ) where
+  pub bad-bit : (w : ℕ) → undeclared-input k w ≡ true → BadBit k w
+  bad-bit w e = let r = undeclared-some k w e in record { signal = r .0; is-set = r .2; at-or-above = r .1 }
+
+  pub inputs-none : (w : Given) → wrong-inputs k w ≡ false → WrongInputs k w → ⊥
+  unfolding wrong-inputs bad-inputs in-both
+  inputs-none (All w) e t = declared-none k w e (t .signal) (t .is-set) (t .at-or-above)
+  inputs-none (Two p a) e (inl t) =
+      declared-none k p (or-none (undeclared-input k p) (undeclared-input k a || in-both p a) e .0) (t .signal) (t .is-set) (t .at-or-above)
+  inputs-none (Two p a) e (inr (inl t)) =
+      declared-none k a (or-none (undeclared-input k a) (in-both p a) (or-none (undeclared-input k p) (undeclared-input k a || in-both p a) e .1) .0)
+      (t .signal) (t .is-set) (t .at-or-above)
+  inputs-none (Two p a) e (inr (inr t)) =
+      of-false (or-none (undeclared-input k a) (in-both p a) (or-none (undeclared-input k p) (undeclared-input k a || in-both p a) e .1) .1)
+      (some-to-in (λ n. bits p n && bits a n) {m = t .signal} 63 (let l : t .signal < 64 = t .of-the-64 in omega arith)
+      (and-in (bits p (t .signal)) (bits a (t .signal)) (t .is-present) (t .is-absent)))
+
+  pub inputs-some : (w : Given) → wrong-inputs k w ≡ true → WrongInputs k w
+  unfolding wrong-inputs bad-inputs in-both
+  inputs-some (All w) e = bad-bit w e
+  inputs-some (Two p a) e = go (undeclared-input k p) refl (undeclared-input k a) refl
+    where
+      shared : T (in-both p a) → InBoth p a
+      shared t =
+          let r = some-to-out (λ n. bits p n && bits a n) 63 t in
+          record {
+            signal = r .0;
+            of-the-64 = let l : r .0 ≤ 63 = r .1 in omega arith;
+            is-present = and-left (bits p (r .0)) (bits a (r .0)) (r .2);
+            is-absent = and-right (bits p (r .0)) (bits a (r .0)) (r .2);
+          }
+
+      go : (x : Bool) → undeclared-input k p ≡ x → (y : Bool) → undeclared-input k a ≡ y → BadBit k p ⊎ (BadBit k a ⊎ InBoth p a)
+      go true f y h = inl (bad-bit p f)
+      go false f true h = inr (inl (bad-bit a h))
+      go false f false h = inr (inr (shared (of-true (sym (ap₂ (λ (x y : Bool). x || (y || in-both p a)) f h) ∙ e))))
+
 -- ROOM.
 pub room-missing : (log : List ℕ) (end : ℕ) → no-room log end ≡ true → NoRoom log end
-room-missing log end e = go (leb (end + 24) (length log)) refl
+room-missing log end e = go (leb (end + 32) (length log)) refl
   where
-    go : (x : Bool) → leb (end + 24) (length log) ≡ x → NoRoom log end
-    go true q = absurd (true≢false (sym e ∙ room-has log end (leb-true (end + 24) (length log) q)))
-    go false q = inr (leb-false (end + 24) (length log) q)
+    go : (x : Bool) → leb (end + 32) (length log) ≡ x → NoRoom log end
+    go true q = absurd (true≢false (sym e ∙ room-has log end (leb-true (end + 32) (length log) q)))
+    go false q = inr (leb-false (end + 32) (length log) q)
 
 pub room-there : (log : List ℕ) (end : ℕ) → no-room log end ≡ false → NoRoom log end → ⊥
-room-there log end e (inl h) = let r : end + 24 ≤ length log = has-room log end e in omega arith
-room-there log end e (inr h) = let r : end + 24 ≤ length log = has-room log end e in omega arith
+room-there log end e (inl h) = let r : end + 32 ≤ length log = has-room log end e in omega arith
+room-there log end e (inr h) = let r : end + 32 ≤ length log = has-room log end e in omega arith
 
 -- NOT CONSTRUCTIVE. The rules' answer is an instant of theirs, and its rounds have one end.
 module _ (b : Block) (st : State) (given : Hearing) where

@@ -12,6 +12,8 @@ use Rattle.refusals.specs.declared.Why.{Why}
 use Rattle.block.specs.declared.whole.Checked.{Checked}
 use Rattle.foldheron.specs.declared.Begun.{Begun}
 use Rattle.foldheron.specs.declared.Part.{Part}
+use Rattle.reaction.specs.declared.Given.{Given}
+use Rattle.reaction.specs.declared.Given.the-variants.{All, Two}
 use Rattle.reaction.specs.declared.Instant.{Instant}
 use Rattle.foldheron.specs.declared.Logged.{Logged}
 use Rattle.reaction.specs.Answers.{instant-told}
@@ -22,6 +24,8 @@ use Rattle.foldheron.proofs.part_of.Reads as part_of
 use Rattle.foldheron.proofs.excerpt.Reads as excerpt
 use Rattle.foldheron.proofs.instant.Reads as instant
 use Rattle.foldheron.proofs.instant_logged.Reads as instant_logged
+use Rattle.foldheron.proofs.instant_heard.Reads as instant_heard
+use Rattle.foldheron.proofs.instant_heard_logged.Reads as instant_heard_logged
 
 -- Where something lent lies in memory, and a reference to what it holds.
 pub record Place : Type 0 where
@@ -50,10 +54,30 @@ pub record FreshCalled (b s : List ℕ) (r : Begun) (s′ : List ℕ) : Type 0 w
 pub record Called (b s : List ℕ) (w : ℕ) (r : Instant) (s′ : List ℕ) : Type 0 where
   pub call : Call 2 λ κs at. instant.Learnt κs (at 0 holds b, (at 1 holds s, (w, tt))) r (at 0 holds b, (at 1 holds s′, (w, tt)))
 
+-- `instant_heard` on block b, state's bytes s, the inputs present and the inputs absent.
+pub record HeardCalled (b s : List ℕ) (p a : ℕ) (r : Instant) (s′ : List ℕ) : Type 0 where
+  pub call : Call 2 λ κs at. instant_heard.Learnt κs (at 0 holds b, (at 1 holds s, (p, (a, tt)))) r (at 0 holds b, (at 1 holds s′, (p, (a, tt))))
+
 -- `instant_logged`, with a log and its end besides, leaves the log's bytes log′ too.
 pub record CalledWithLog (b s : List ℕ) (w : ℕ) (log : List ℕ) (end : ℕ) (r : Logged) (s′ log′ : List ℕ) : Type 0 where
   pub call : Call 3 λ κs at.
       instant_logged.Learnt κs (at 0 holds b, (at 1 holds s, (w, (at 2 holds log, (end, tt))))) r (at 0 holds b, (at 1 holds s′, (w, (at 2 holds log′, (end, tt)))))
+
+-- `instant_heard_logged` likewise.
+pub record HeardCalledWithLog (b s : List ℕ) (p a : ℕ) (log : List ℕ) (end : ℕ) (r : Logged) (s′ log′ : List ℕ) : Type 0 where
+  pub call : Call 3 λ κs at.
+      instant_heard_logged.Learnt κs (at 0 holds b, (at 1 holds s, (p, (a, (at 2 holds log, (end, tt)))))) r
+      (at 0 holds b, (at 1 holds s′, (p, (a, (at 2 holds log′, (end, tt))))))
+
+-- An instant by either call: `instant` with a set, or `instant_heard` with two; and with a log.
+pub data CalledFor (b s : List ℕ) : Given → Instant → List ℕ → Type 0 where
+  with-set : {w : ℕ} {r : Instant} {s′ : List ℕ} → Called b s w r s′ → CalledFor b s (All w) r s′
+  with-two : {p a : ℕ} {r : Instant} {s′ : List ℕ} → HeardCalled b s p a r s′ → CalledFor b s (Two p a) r s′
+
+pub data LoggedFor (b s : List ℕ) : Given → List ℕ → ℕ → Logged → List ℕ → List ℕ → Type 0 where
+  with-set : {w : ℕ} {log : List ℕ} {end : ℕ} {r : Logged} {s′ log′ : List ℕ} → CalledWithLog b s w log end r s′ log′ → LoggedFor b s (All w) log end r s′ log′
+  with-two : {p a : ℕ} {log : List ℕ} {end : ℕ} {r : Logged} {s′ log′ : List ℕ} → HeardCalledWithLog b s p a log end r s′ log′
+      → LoggedFor b s (Two p a) log end r s′ log′
 
 -- `part_of` statement n of b answers r.
 pub record PartCalled (b : List ℕ) (n : ℕ) (r : Part) : Type 0 where
@@ -70,17 +94,17 @@ pub record ExcerptCalled (b : List ℕ) (n : ℕ) (part : List ℕ) (k p : ℕ) 
 pub record NumberCalled (why : Why) (k : ℕ) : Type 0 where
   pub call : Call 0 λ κs at. number_of.Learnt κs (why, tt) k (why, tt)
 
--- Calls of `instant` one after the other, each on the state's bytes that the call before left.
-pub data Calls (b : List ℕ) : List ℕ → List ℕ → List Instant → List ℕ → Type 0 where
+-- Calls of `instant` and `instant_heard` one after the other, each on the state's bytes that the call before left.
+pub data Calls (b : List ℕ) : List ℕ → List Given → List Instant → List ℕ → Type 0 where
   no-call : {s : List ℕ} → Calls b s [] [] s
-  one-more : {s s₁ s′ ws : List ℕ} {w : ℕ} {r : Instant} {rs : List Instant} → Called b s w r s₁ → Calls b s₁ ws rs s′ → Calls b s (w ∷ ws) (r ∷ rs) s′
+  one-more : {s s₁ s′ : List ℕ} {ws : List Given} {w : Given} {r : Instant} {rs : List Instant} → CalledFor b s w r s₁ → Calls b s₁ ws rs s′ → Calls b s (w ∷ ws) (r ∷ rs) s′
 
 -- The end that a caller goes on from: the new one after an answer, and its own after a refusal.
 unfoldable pub went-on : ℕ → Logged → ℕ
 went-on end r = cond (eqb (instant-told (r .answer) .number) 0) (r .end) end
 
--- Calls of `instant_logged` one after the other, each on the bytes of state and log that the call before left: from s, log and end to s′, log′ and end′.
-pub data LoggedCalls (b : List ℕ) : List ℕ → List ℕ → ℕ → List ℕ → List Logged → List ℕ → List ℕ → ℕ → Type 0 where
+-- Calls with a log one after the other, each on the bytes of state and log that the call before left: from s, log and end to s′, log′ and end′.
+pub data LoggedCalls (b : List ℕ) : List ℕ → List ℕ → ℕ → List Given → List Logged → List ℕ → List ℕ → ℕ → Type 0 where
   no-call : {s log : List ℕ} {end : ℕ} → LoggedCalls b s log end [] [] s log end
-  one-more : {s s₁ s′ log log₁ log′ ws : List ℕ} {end end′ w : ℕ} {r : Logged} {rs : List Logged} → CalledWithLog b s w log end r s₁ log₁
+  one-more : {s s₁ s′ log log₁ log′ : List ℕ} {ws : List Given} {end end′ : ℕ} {w : Given} {r : Logged} {rs : List Logged} → LoggedFor b s w log end r s₁ log₁
       → LoggedCalls b s₁ log₁ (went-on end r) ws rs s′ log′ end′ → LoggedCalls b s log end (w ∷ ws) (r ∷ rs) s′ log′ end′

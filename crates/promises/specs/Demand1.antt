@@ -11,16 +11,19 @@ use lib.ListN.{length, getD, take, drop}
 use contract.Lifetimes.{Lfts}
 use borrow.Fn.Kinds.{PK, In, Dens}
 use Rattle.sets.specs.Numbers.{Numbers}
-use Rattle.sets.specs.Words.{bits}
+use Rattle.sets.specs.Words.{bits, word}
+use Rattle.rules.specs.Statements.{Block, nothing}
 use Rattle.rules.specs.Events.{Status, event}
 use Rattle.rules.specs.MustCan.{must, gives}
 use Rattle.rules.specs.States.{State, active-of, compatible, step}
 use Rattle.rules.specs.Rounds.{begin, Rounds}
-use Rattle.block.specs.Format.{BROKEN, KIND, EDITION, LIMIT, SIGNAL, EXIT, SHAPE, LOOP, Good, good, reading}
+use Rattle.block.specs.Format.{BROKEN, KIND, EDITION, LIMIT, SIGNAL, EXIT, SHAPE, LOOP, Good, Reading, good, turned-down, reading}
 use Rattle.records.specs.StateRecord.{length-in, kind-in, version-in, statements-in, phase-in, state, active-in, none-active, read-state}
 use Rattle.records.specs.LogRecord.{log-record}
 use Rattle.reaction.specs.Fronts.{STATE, OTHER-BLOCK, INPUT}
-use Rattle.reaction.specs.Instants.{CLASH, ROOM, NOT-CONSTRUCTIVE, block-of, Told, heard-of}
+use Rattle.reaction.specs.Instants.{CLASH, ROOM, NOT-CONSTRUCTIVE, block-of, Told, heard-in, heard-of}
+use Rattle.reaction.specs.declared.Given.{Given}
+use Rattle.reaction.specs.declared.Given.the-variants.{All, Two}
 use Rattle.foldheron.specs.declared.Logged.{Logged}
 use Rattle.reaction.specs.Answers.{instant-told}
 use Rattle.promises.specs.Tests.{Test}
@@ -83,20 +86,33 @@ pub record Clashing (b s : List ℕ) : Type 0 where
   pub second : ℕ
   pub clash : Incompatible block (active-in s) first second
 
--- 11 INPUT: a bit set at or above the number of inputs.
-pub record Undeclared (b : List ℕ) (w : ℕ) : Type 0 where
-  pub block : Good
-  pub is-good : reading b ≡ good block
+-- 11 INPUT: a bit set at or above the number of inputs; of two sets, in either of them, or a signal in both.
+pub record BadBit (inputs w : ℕ) : Type 0 where
   pub signal : ℕ
   pub is-set : T (bits w signal)
-  pub at-or-above : block .header .inputs ≤ signal
+  pub at-or-above : inputs ≤ signal
 
--- 12 ROOM: end beyond the log, or fewer than 24 bytes after it.
+pub record InBoth (p a : ℕ) : Type 0 where
+  pub signal : ℕ
+  pub of-the-64 : signal < 64
+  pub is-present : T (bits p signal)
+  pub is-absent : T (bits a signal)
+
+abbrev pub WrongInputs : ℕ → Given → Type 0
+WrongInputs inputs (All w) = BadBit inputs w
+WrongInputs inputs (Two p a) = BadBit inputs p ⊎ (BadBit inputs a ⊎ InBoth p a)
+
+pub record BadInputs (b : List ℕ) (w : Given) : Type 0 where
+  pub block : Good
+  pub is-good : reading b ≡ good block
+  pub wrong : WrongInputs (block .header .inputs) w
+
+-- 12 ROOM: end beyond the log, or fewer than 32 bytes after it.
 abbrev pub NoRoom : List ℕ → ℕ → Type 0
-NoRoom log end = (length log < end) ⊎ (length log < end + 24)
+NoRoom log end = (length log < end) ⊎ (length log < end + 32)
 
 -- 13 NOT CONSTRUCTIVE: the final round leaves the code unknown.
-pub record Unsettled (b s : List ℕ) (w : ℕ) : Type 0 where
+pub record Unsettled (b s : List ℕ) (w : Given) : Type 0 where
   pub block : Good
   pub from : State
   pub held : HeldBy b s block from
@@ -138,19 +154,19 @@ names-test b s = record { number = OTHER-BLOCK; Applies = OtherBlock b s }
 abbrev pub clash-test : List ℕ → List ℕ → Test
 clash-test b s = record { number = CLASH; Applies = Clashing b s }
 
-abbrev pub input-test : List ℕ → ℕ → Test
-input-test b w = record { number = INPUT; Applies = Undeclared b w }
+abbrev pub input-test : List ℕ → Given → Test
+input-test b w = record { number = INPUT; Applies = BadInputs b w }
 
 abbrev pub room-test : List ℕ → ℕ → Test
 room-test log end = record { number = ROOM; Applies = NoRoom log end }
 
-abbrev pub code-test : List ℕ → List ℕ → ℕ → Test
+abbrev pub code-test : List ℕ → List ℕ → Given → Test
 code-test b s w = record { number = NOT-CONSTRUCTIVE; Applies = Unsettled b s w }
 
-abbrev pub instant-tests : List ℕ → List ℕ → ℕ → List Test
+abbrev pub instant-tests : List ℕ → List ℕ → Given → List Test
 instant-tests b s w = block-tests b ++ state-test b s ∷ names-test b s ∷ clash-test b s ∷ input-test b w ∷ code-test b s w ∷ []
 
-abbrev pub logged-tests : List ℕ → List ℕ → ℕ → List ℕ → ℕ → List Test
+abbrev pub logged-tests : List ℕ → List ℕ → Given → List ℕ → ℕ → List Test
 logged-tests b s w log end = block-tests b ++ state-test b s ∷ names-test b s ∷ clash-test b s ∷ input-test b w ∷ room-test log end ∷ code-test b s w ∷ []
 
 -- A function gets by with any arguments and returns: nothing is asked of a caller, and its own code meets its contract, which is to return with
@@ -165,14 +181,25 @@ pub record ExactlyOne {A : Type 0} (Is : A → Type 0) : Type 0 where
   pub it-is : Is the-one
   pub no-other : (x : A) → Is x → x ≡ the-one
 
--- What a run logs: the record of each answered instant, of its input set and what it told, one after the other; nothing of a refused one.
-abbrev pub record-of : ℕ → Told → List ℕ
-record-of w t = log-record (record { inputs = w; present = t .present-outputs; code = t .code; rounds = t .rounds })
+-- What a run logs: the record of each answered instant, of what was heard and what it told, one after the other; nothing of a refused one.
+abbrev pub record-of : Block → Given → Told → List ℕ
+record-of k w t = log-record (record {
+  inputs-present = word 64 (heard-in k w .heard-present);
+  inputs-absent = word 64 (heard-in k w .heard-absent);
+  outputs-present = t .present-outputs;
+  code = t .code;
+  rounds = t .rounds;
+})
 
-unfoldable pub records : List ℕ → List Logged → List ℕ
-records [] rs = []
-records (w ∷ ws) [] = []
-records (w ∷ ws) (r ∷ rs) = cond (eqb (instant-told (r .answer) .number) 0) (record-of w (instant-told (r .answer))) [] ++ records ws rs
+unfoldable pub records : Block → List Given → List Logged → List ℕ
+records k [] rs = []
+records k (w ∷ ws) [] = []
+records k (w ∷ ws) (r ∷ rs) = cond (eqb (instant-told (r .answer) .number) 0) (record-of k w (instant-told (r .answer))) [] ++ records k ws rs
+
+-- The block that was read; of one that is turned down nothing is logged.
+abbrev pub block-read : Reading → Block
+block-read (good g) = block-of g
+block-read (turned-down n at) = record { inputs = 0; outputs = 0; body = nothing }
 
 -- A log in which bytes were written from an end on, and nothing else: what was there before the end, the bytes, and what was there behind them.
 abbrev pub written-from : ℕ → List ℕ → List ℕ → List ℕ
@@ -199,7 +226,7 @@ pub record PairOf (b s : List ℕ) (m n : ℕ) : Type 0 where
 
 -- What is promised of the log over a run: the records of its answered instants stand one after the other from the first end on, and all else is
 -- as it was; the caller's end lies behind the last of them.
-pub record LoggedRun (log : List ℕ) (end : ℕ) (ws : List ℕ) (rs : List Logged) (log′ : List ℕ) (end′ : ℕ) : Type 0 where
-  pub log-is : log′ ≡ written-from end (records ws rs) log
-  pub end-is : end′ ≡ end + length (records ws rs)
+pub record LoggedRun (k : Block) (log : List ℕ) (end : ℕ) (ws : List Given) (rs : List Logged) (log′ : List ℕ) (end′ : ℕ) : Type 0 where
+  pub log-is : log′ ≡ written-from end (records k ws rs) log
+  pub end-is : end′ ≡ end + length (records k ws rs)
   pub same-length : length log′ ≡ length log

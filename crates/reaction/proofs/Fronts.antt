@@ -21,7 +21,7 @@ use Rattle.block.specs.declared.whole.Summary.{Summary}
 use Rattle.block.proofs.Answered.{was-good, was-turned-down, has-body}
 use Rattle.block.proofs.GoodReadings.{Sound, sound}
 use Rattle.records.specs.Numerals.{Bytes}
-use Rattle.records.specs.StateRecord.{Found, not-a-state, state, read-state, names-block, Pair as Pairing, first-clash, undeclared-input}
+use Rattle.records.specs.StateRecord.{Found, not-a-state, state, read-state, names-block, Pair as Pairing, first-clash}
 use Rattle.records.specs.Held.{held-of}
 use Rattle.records.specs.declared.state.Held.{Held}
 use Rattle.records.proofs.Answers.{held-fresh, held-running, held-finished, held-set, held-in-block}
@@ -32,9 +32,10 @@ use Rattle.forms.specs.Forms.{At}
 use Rattle.evaluate.specs.Reacts as evaluate
 use Rattle.evaluate.specs.declared.rounds.Phase.{Phase}
 use Rattle.evaluate.specs.declared.rounds.Phase.the-variants.{Fresh, Running, Finished}
+use Rattle.reaction.specs.declared.Given.{Given}
 use Rattle.reaction.specs.declared.Grounds.{Grounds}
 use Rattle.reaction.specs.declared.Met.the-variants.{Refused, Clash, Ready}
-use Rattle.reaction.specs.Fronts.{Front, stopped, ready, try-inputs, try-clash, clash-tried, try-names, try-state, try-block, front}
+use Rattle.reaction.specs.Fronts.{Front, stopped, ready, wrong-inputs, try-inputs, try-clash, clash-tried, try-names, try-state, try-block, front}
 use Rattle.reaction.specs.Instants.{block-of}
 use Rattle.reaction.specs.Outcomes.{Opened, Begins, Means, Meets}
 
@@ -62,17 +63,17 @@ module _ {tab : Table} {s : Summary} {g : Good} (o : Opened tab s g) where
   same-block = λ i. record { inputs = o .summed i .inputs; outputs = o .summed i .outputs; body = g .body }
 
   -- the inputs that are given
-  module _ (st : State) (given : ℕ) where
-    its-test : undeclared-input (s .inputs) given ≡ undeclared-input (g .header .inputs) given
-    its-test = ap (λ (x : Summary). undeclared-input (x .inputs) given) (o .summed)
+  module _ (st : State) (given : Given) where
+    its-test : wrong-inputs (s .inputs) given ≡ wrong-inputs (g .header .inputs) given
+    its-test = ap (λ (x : Summary). wrong-inputs (x .inputs) given) (o .summed)
 
-    pub input-way : {x : Bool} {r : Grounds} → x ≡ undeclared-input (s .inputs) given → x ≡ true → r .met ≡ Refused Why.Input 0 → Meets (try-inputs g st given) tab r
+    pub input-way : {x : Bool} {r : Grounds} → x ≡ wrong-inputs (s .inputs) given → x ≡ true → r .met ≡ Refused Why.Input 0 → Meets (try-inputs g st given) tab r
     unfolding try-inputs Means number
     input-way {x} {r} d t e =
         subst (λ (x : Bool). Meets (cond x (stopped 11 0) (ready g st)) tab r) (sym t ∙ d ∙ its-test)
         (record { means = record { why = Why.Input; is-refused = e; its-number = refl } })
 
-    pub passed-way : {x : Bool} {phase : Phase} {set : List ℕ} → x ≡ undeclared-input (s .inputs) given → x ≡ false → Begins st phase set
+    pub passed-way : {x : Bool} {phase : Phase} {set : List ℕ} → x ≡ wrong-inputs (s .inputs) given → x ≡ false → Begins st phase set
         → Meets (try-inputs g st given) tab (record { met = Ready s phase; active = set })
     unfolding try-inputs Means
     passed-way {x} {phase} {set} d f b =
@@ -95,7 +96,7 @@ module _ {tab : Table} {s : Summary} {g : Good} (o : Opened tab s g) where
       let e : g .pauses ≡ s .pauses = sym (ap (λ (x : Summary). x .pauses) (o .summed)) in
       record { bound = λ n t. subst (λ (k : ℕ). n < k) e (h n t); width = subst (λ (k : ℕ). k ≤ 128) e (facts .few-pauses) }
 
-  module _ (st : State) (given : ℕ) {phase : Phase} {set : List ℕ} (begins : Begins st phase set) where
+  module _ (st : State) (given : Given) {phase : Phase} {set : List ℕ} (begins : Begins st phase set) where
     its-clash : first-clash (g .body) (set-of set) ≡ first-clash (g .body) (active-of st)
     its-clash = ap (first-clash (g .body)) (begins .set-is)
 
@@ -110,7 +111,7 @@ module _ {tab : Table} {s : Summary} {g : Good} (o : Opened tab s g) where
     clear-way {x} {r} d e h = subst (λ (x : Option Pairing). Meets (try-clash g st given x) tab r) (ap pair-of (sym d) ∙ e ∙ its-clash) h
 
   -- the block that the record names
-  module _ (st : State) (bs : List ℕ) (given : ℕ) {x : Bool} (d : x ≡ names-block (s .version) (s .statements) bs) where
+  module _ (st : State) (bs : List ℕ) (given : Given) {x : Bool} (d : x ≡ names-block (s .version) (s .statements) bs) where
     its-names : x ≡ names-block (g .header .version) (g .statements) bs
     its-names = d ∙ ap (λ (y : Summary). names-block (y .version) (y .statements) bs) (o .summed)
 
@@ -166,7 +167,7 @@ module _ {tab : Table} {s : Summary} {g : Good} (o : Opened tab s g) where
     pub took-finished : h .phase ≡ 2 → Took Finished
     took-finished e = took Finished finished (held-finished _ (its-phase 2 e)) (λ d. refl)
 
-    pub state-way : (given : ℕ) {phase : Phase} {r : Grounds} (t : Took phase) → Meets (try-names g (t .st) bs given) tab r
+    pub state-way : (given : Given) {phase : Phase} {r : Grounds} (t : Took phase) → Meets (try-names g (t .st) bs given) tab r
         → Meets (try-state g bs given (read-state (g .pauses) bs)) tab r
     unfolding try-state
     state-way given {phase} {r} t m = subst (λ (f : Found). Meets (try-state g bs given f) tab r) (sym (t .its-state)) m
@@ -178,7 +179,7 @@ module _ {tab : Table} {s : Summary} {g : Good} (o : Opened tab s g) where
     no-phase (state (running A)) a b c = absurd (b refl)
     no-phase (state finished) a b c = absurd (c refl)
 
-    pub no-state-way : (given : ℕ) {r : Grounds} → (h .phase ≡ 0 → ⊥) → (h .phase ≡ 1 → ⊥) → (h .phase ≡ 2 → ⊥) → r .met ≡ Refused Why.State 0
+    pub no-state-way : (given : Given) {r : Grounds} → (h .phase ≡ 0 → ⊥) → (h .phase ≡ 1 → ⊥) → (h .phase ≡ 2 → ⊥) → r .met ≡ Refused Why.State 0
         → Meets (try-state g bs given (read-state (g .pauses) bs)) tab r
     unfolding try-state Means number
     no-state-way given {r} a b c e =
@@ -190,7 +191,7 @@ module _ {tab : Table} {s : Summary} {g : Good} (o : Opened tab s g) where
 
 -- a block was looked for and not found
 module _ (b : List ℕ) {tab : Table} {x : Checked} (w : ReadWhole (reading b) tab x) where
-  pub block-fails : (s : List ℕ) (given : ℕ) {why : Why} {at : ℕ} {r : Grounds} → x ≡ RefusedBlock why at → r .met ≡ Refused why at → Meets (front b s given) tab r
+  pub block-fails : (s : List ℕ) (given : Given) {why : Why} {at : ℕ} {r : Grounds} → x ≡ RefusedBlock why at → r .met ≡ Refused why at → Meets (front b s given) tab r
   unfolding front try-block Means
   block-fails s given {why} {at} {r} e d =
       subst (λ (y : Reading). Meets (try-block s given y) tab r) (sym (was-turned-down b w e)) (record { means = record { why = why; is-refused = d; its-number = refl } })
@@ -201,7 +202,7 @@ module _ (b : List ℕ) {tab : Table} {x : Checked} (w : ReadWhole (reading b) t
       let r = was-good w e in
       (r .0, record { bytes = b; its-reading = r .1; stands = has-body w (r .1); summed = sym (r .2) }, r .1)
 
-  pub block-way : (s : List ℕ) (given : ℕ) {g : Good} {r : Grounds} → reading b ≡ good g → Meets (try-state g s given (read-state (g .pauses) s)) tab r
+  pub block-way : (s : List ℕ) (given : Given) {g : Good} {r : Grounds} → reading b ≡ good g → Meets (try-state g s given (read-state (g .pauses) s)) tab r
       → Meets (front b s given) tab r
   unfolding front try-block
   block-way s given {g} {r} e m = subst (λ (y : Reading). Meets (try-block s given y) tab r) (sym e) m

@@ -15,7 +15,7 @@ use Rattle.sets.specs.Words.{bits, word, set-of}
 use Rattle.sets.proofs.Members.{eqb-not}
 use Rattle.sets.proofs.Words.{is-word}
 use Rattle.rules.specs.Statements.{Block}
-use Rattle.rules.specs.Events.{Status, present, absent, Hearing, all-heard}
+use Rattle.rules.specs.Events.{Status, present, absent, Hearing}
 use Rattle.rules.specs.States.{State, phase-of, active-of, next}
 use Rattle.rules.specs.Rounds.{outputs-with, undecided, Answer, answered, not-constructive, react}
 use Rattle.block.specs.Table.{Table}
@@ -29,20 +29,21 @@ use Rattle.evaluate.specs.Reacts as evaluate
 use Rattle.evaluate.specs.declared.rounds.Phase.{Phase}
 use Rattle.evaluate.specs.declared.rounds.Reacted.{Reacted}
 use Rattle.reaction.specs.declared.Instant.the-variants.{Refused, Clash, Answered, NotConstructive}
+use Rattle.reaction.specs.declared.Given.{Given}
 use Rattle.reaction.specs.declared.Grounds.{Grounds}
 use Rattle.reaction.specs.declared.Met.{Met}
 use Rattle.reaction.specs.declared.Met.the-variants as met
 use Rattle.reaction.specs.declared.Outcome.{Outcome}
 use Rattle.reaction.specs.Fronts.{Front, stopped, clashing, ready, front}
-use Rattle.reaction.specs.Instants.{Verdict, refused, clash, reacted, block-of, heard-of, goes-on, verdict, told-reaction, told-refusal, told}
+use Rattle.reaction.specs.Instants.{Verdict, refused, clash, reacted, block-of, heard-in, heard-of, goes-on, verdict, told-reaction, told-refusal, told}
 use Rattle.reaction.specs.Answers.{instant-told}
-use Rattle.reaction.specs.Outcomes.{Writes, case-of, case-for, Comes, Opened, Begins, Means, Meets}
+use Rattle.reaction.specs.Outcomes.{Writes, Hears, case-of, case-for, Comes, Opened, Begins, Means, Meets}
 use Rattle.reaction.proofs.Fronts.{same-block}
 
 -- turned down
-refused-comes : (n at : ℕ) {w : Why} {o : Outcome} → o .answer ≡ Refused w at → number w ≡ n → Comes (refused n at) o
-unfolding instant-told told Writes case-of case-for
-refused-comes n at e d = record { same-case = ap case-of e; told-is = ap instant-told e ∙ ap (λ (m : ℕ). told-refusal m at 0 0) d; writes = tt }
+refused-comes : (given : Given) (n at : ℕ) {w : Why} {o : Outcome} → o .answer ≡ Refused w at → number w ≡ n → Comes given (refused n at) o
+unfolding instant-told told Writes Hears case-of case-for
+refused-comes given n at e d = record { same-case = ap case-of e; told-is = ap instant-told e ∙ ap (λ (m : ℕ). told-refusal m at 0 0) d; writes = tt; hears = tt }
 
 -- a set of signals as a word
 signals-word : (A : Numbers) (w : ℕ) → bits w ≡ A → w < 2 ^ 64 → w ≡ word 64 A
@@ -64,16 +65,25 @@ pub record Fitting (r : Reacted) : Type 0 where
   pub low-fits : Fits w64 (getD (r .kept) 0 0)
   pub high-fits : Fits w64 (getD (r .kept) 1 0)
 
+-- and so do the two sets
+pub record Wide (heard : Heard) : Type 0 where
+  pub present-wide : heard .present < 2 ^ 64
+  pub absent-wide : heard .absent < 2 ^ 64
+
 -- answered
-module _ (b : Block) (r : Reacted) (fits : Fitting r) (o : Outcome) where
+module _ (b : Block) (r : Reacted) (fits : Fitting r) (heard : Heard) (wide : Wide heard) (o : Outcome) (given : Given) (h : hearing-of heard ≡ heard-in b given) where
   pub answered-comes : (outs : List Status) (c : ℕ) (st : State) (n : ℕ) → evaluate.Answered b outs c st n r
       → o .answer ≡ Answered (record { present = r .present; code = r .code; rounds = r .rounds; active = r .active })
-      → ((A : Numbers) → o .phase ≡ phase-of (next (r .code .0) A)) → o .kept ≡ r .kept → Comes (reacted b (answered outs c st n)) o
-  unfolding instant-told told Writes case-of case-for
-  answered-comes outs c st n a e ph k = record {
+      → ((A : Numbers) → o .phase ≡ phase-of (next (r .code .0) A)) → o .kept ≡ r .kept → o .heard ≡ heard → Comes given (reacted b (answered outs c st n)) o
+  unfolding instant-told told Writes Hears case-of case-for
+  answered-comes outs c st n a e ph k q = record {
     same-case = ap case-of e;
     told-is = ap instant-told e ∙ fields;
     writes = λ v n. ap (state-bytes v n (o .phase)) k ∙ written-state v n st (o .phase) (r .kept) (fits .low-fits .fits) (fits .high-fits .fits) its-phase its-set;
+    hears = (
+      ap (λ (x : Heard). x .present) q ∙ signals-word (heard-in b given .heard-present) (heard .present) (ap (λ (x : Hearing). x .heard-present) h) (wide .present-wide),
+      ap (λ (x : Heard). x .absent) q ∙ signals-word (heard-in b given .heard-absent) (heard .absent) (ap (λ (x : Hearing). x .heard-absent) h) (wide .absent-wide),
+    );
   }
     where
       its-set : set-of (r .kept) ≡ active-of st
@@ -101,9 +111,9 @@ module _ (b : Block) (r : Reacted) (fits : Fitting r) (o : Outcome) where
 
   pub doubted-comes : (outs : List Status) (n : ℕ) → evaluate.Undecided b outs n r
       → o .answer ≡ NotConstructive (record { present = r .present; absent = r .absent; undecided = r .undecided; rounds = r .rounds })
-      → Comes (reacted b (not-constructive outs n)) o
-  unfolding instant-told told Writes case-of case-for
-  doubted-comes outs n a e = record { same-case = ap case-of e; told-is = ap instant-told e ∙ fields; writes = tt }
+      → Comes given (reacted b (not-constructive outs n)) o
+  unfolding instant-told told Writes Hears case-of case-for
+  doubted-comes outs n a e = record { same-case = ap case-of e; told-is = ap instant-told e ∙ fields; writes = tt; hears = tt }
     where
       fields : instant-told (NotConstructive (record { present = r .present; absent = r .absent; undecided = r .undecided; rounds = r .rounds }))
           ≡ told-reaction b (not-constructive outs n)
@@ -123,34 +133,37 @@ module _ (b : Block) (r : Reacted) (fits : Fitting r) (o : Outcome) where
   -- by whether the code is known
   pub known-way : (a : Answer) → evaluate.IsAnswer b a r → r .known ≡ true
       → o .answer ≡ Answered (record { present = r .present; code = r .code; rounds = r .rounds; active = r .active })
-      → ((A : Numbers) → o .phase ≡ phase-of (next (r .code .0) A)) → o .kept ≡ r .kept → Comes (reacted b a) o
+      → ((A : Numbers) → o .phase ≡ phase-of (next (r .code .0) A)) → o .kept ≡ r .kept → o .heard ≡ heard → Comes given (reacted b a) o
   unfolding evaluate.IsAnswer
-  known-way (answered outs c st n) a t e ph k = answered-comes outs c st n a e ph k
-  known-way (not-constructive outs n) a t e ph k = absurd (true≢false (sym t ∙ a .known-is))
+  known-way (answered outs c st n) a t e ph k q = answered-comes outs c st n a e ph k q
+  known-way (not-constructive outs n) a t e ph k q = absurd (true≢false (sym t ∙ a .known-is))
 
   pub unknown-way : (a : Answer) → evaluate.IsAnswer b a r → r .known ≡ false
       → o .answer ≡ NotConstructive (record { present = r .present; absent = r .absent; undecided = r .undecided; rounds = r .rounds })
-      → Comes (reacted b a) o
+      → Comes given (reacted b a) o
   unfolding evaluate.IsAnswer
   unknown-way (answered outs c st n) a f e = absurd (true≢false (sym (a .known-is) ∙ f))
   unknown-way (not-constructive outs n) a f e = doubted-comes outs n a e
 
 -- all tests passed: ROOM, then the rules
-module _ {tab : Table} {s : Summary} {g : Good} (o : Opened tab s g) (st : State) (given : ℕ) {roomless : Bool} {out : Outcome} where
-  pub room-way : roomless ≡ true → out .answer ≡ Refused Why.Room 0 → Comes (goes-on given roomless (ready g st)) out
+module _ {tab : Table} {s : Summary} {g : Good} (o : Opened tab s g) (st : State) (given : Given) {roomless : Bool} {out : Outcome} where
+  pub room-way : roomless ≡ true → out .answer ≡ Refused Why.Room 0 → Comes given (goes-on given roomless (ready g st)) out
   unfolding goes-on number
-  room-way t e = subst (λ (x : Bool). Comes (goes-on given x (ready g st)) out) (sym t) (refused-comes 12 0 e refl)
+  room-way t e = subst (λ (x : Bool). Comes given (goes-on given x (ready g st)) out) (sym t) (refused-comes given 12 0 e refl)
 
   pub react-way : (r : Reacted) (heard : Heard) {phase : Phase} {set : List ℕ} → Begins st phase set
       → evaluate.Reacts (record { inputs = s .inputs; outputs = s .outputs; body = g .body }) phase (set-of set) (hearing-of heard) r
-      → ((b : Block) → b .inputs ≡ s .inputs → hearing-of heard ≡ all-heard b (bits given))
-      → ((b : Block) (a : Answer) → evaluate.IsAnswer b a r → Comes (reacted b a) out)
-      → roomless ≡ false → Comes (goes-on given roomless (ready g st)) out
+      → ((b : Block) → b .inputs ≡ s .inputs → hearing-of heard ≡ heard-in b given)
+      → ((b : Block) (a : Answer) → evaluate.IsAnswer b a r → (x : Given) → hearing-of heard ≡ heard-in b x → Comes x (reacted b a) out)
+      → roomless ≡ false → Comes given (goes-on given roomless (ready g st)) out
   unfolding evaluate.Reacts goes-on
   react-way r heard {phase} {set} begins e all f m =
-      subst (λ (x : Bool). Comes (goes-on given x (ready g st)) out) (sym m)
-      (f (block-of g) (react (block-of g) st (heard-of g given)) its-answer)
+      subst (λ (x : Bool). Comes given (goes-on given x (ready g st)) out) (sym m)
+      (f (block-of g) (react (block-of g) st (heard-of g given)) its-answer given its-hearing)
     where
+      its-hearing : hearing-of heard ≡ heard-of g given
+      its-hearing = all (block-of g) (sym (ap (λ (x : Summary). x .inputs) (o .summed)))
+
       summed-block : Block
       summed-block = record { inputs = s .inputs; outputs = s .outputs; body = g .body }
 
@@ -159,20 +172,20 @@ module _ {tab : Table} {s : Summary} {g : Good} (o : Opened tab s g) (st : State
 
       its-answer : evaluate.IsAnswer (block-of g) (react (block-of g) st (heard-of g given)) r
       its-answer =
-          subst (λ (h : Hearing). evaluate.IsAnswer (block-of g) (react (block-of g) st h) r) (all (block-of g) (sym (ap (λ (x : Summary). x .inputs) (o .summed))))
+          subst (λ (h : Hearing). evaluate.IsAnswer (block-of g) (react (block-of g) st h) r) its-hearing
           (subst (λ (b : Block). evaluate.IsAnswer b (react b st (hearing-of heard)) r) (same-block o)
           (subst (λ (q : State). evaluate.IsAnswer summed-block (react summed-block q (hearing-of heard)) r) its-state e))
 
 -- what the code found before the rules says what the tests came to
 module _ (tab : Table) (r : Grounds) where
-  stopped-goes : (given : ℕ) (roomless : Bool) (x : Front) {out : Outcome} → Means x tab r → (why : Why) (at : ℕ) → r .met ≡ met.Refused why at → out .answer ≡ Refused why at
-      → Comes (goes-on given roomless x) out
+  stopped-goes : (given : Given) (roomless : Bool) (x : Front) {out : Outcome} → Means x tab r → (why : Why) (at : ℕ) → r .met ≡ met.Refused why at → out .answer ≡ Refused why at
+      → Comes given (goes-on given roomless x) out
   unfolding Means goes-on
   stopped-goes given roomless (stopped n i) m why at e a =
       let z : _≡_ {A = Met} (met.Refused (m .why) i) (met.Refused why at) = sym (m .is-refused) ∙ e in
       let p : m .why ≡ why = cc in
       let q : i ≡ at = cc in
-      refused-comes n i (a ∙ sym (ap₂ Refused p q)) (m .its-number)
+      refused-comes given n i (a ∙ sym (ap₂ Refused p q)) (m .its-number)
   stopped-goes given roomless (clashing pair) m why at e a =
       let z : _≡_ {A = Met} (met.Clash (pair .first) (pair .second)) (met.Refused why at) = sym m ∙ e in
       let q : _≡_ {A = ℕ} 0 1 = cc in
@@ -182,9 +195,9 @@ module _ (tab : Table) (r : Grounds) where
       let q : _≡_ {A = ℕ} 0 1 = cc in
       absurd (omega arith)
 
-  clash-goes : (given : ℕ) (roomless : Bool) (x : Front) {out : Outcome} → Means x tab r → (k n : ℕ) → r .met ≡ met.Clash k n → out .answer ≡ Clash k n
-      → Comes (goes-on given roomless x) out
-  unfolding Means goes-on instant-told told Writes case-of case-for
+  clash-goes : (given : Given) (roomless : Bool) (x : Front) {out : Outcome} → Means x tab r → (k n : ℕ) → r .met ≡ met.Clash k n → out .answer ≡ Clash k n
+      → Comes given (goes-on given roomless x) out
+  unfolding Means goes-on instant-told told Writes Hears case-of case-for
   clash-goes given roomless (stopped i at) m k n e a =
       let z : _≡_ {A = Met} (met.Refused (m .why) at) (met.Clash k n) = sym (m .is-refused) ∙ e in
       let q : _≡_ {A = ℕ} 0 1 = cc in
@@ -194,7 +207,7 @@ module _ (tab : Table) (r : Grounds) where
       let p : pair .first ≡ k = cc in
       let q : pair .second ≡ n = cc in
       let b = a ∙ sym (ap₂ Clash p q) in
-      record { same-case = ap case-of b; told-is = ap instant-told b; writes = tt }
+      record { same-case = ap case-of b; told-is = ap instant-told b; writes = tt; hears = tt }
   clash-goes given roomless (ready g st) m k n e a =
       let z : _≡_ {A = Met} (met.Ready (m .summary) (m .phase)) (met.Clash k n) = sym (m .is-ready) ∙ e in
       let q : _≡_ {A = ℕ} 0 1 = cc in
@@ -233,15 +246,15 @@ module _ (tab : Table) (r : Grounds) where
 pub gone-in : {tab : Table} {r : Grounds} {x : Front} → Meets x tab r → {s : Summary} {phase : Phase} → r .met ≡ met.Ready s phase → Going tab r x s phase
 gone-in {tab} {r} {x} m {s} {phase} e = going tab r x (m .means) s phase e
 
-module _ {tab : Table} {r : Grounds} (b s : List ℕ) (given : ℕ) (roomless : Bool) {out : Outcome} (m : Meets (front b s given) tab r) where
-  pub stopped-way : (why : Why) (at : ℕ) → r .met ≡ met.Refused why at → out .answer ≡ Refused why at → Comes (verdict b s given roomless) out
+module _ {tab : Table} {r : Grounds} (b s : List ℕ) (given : Given) (roomless : Bool) {out : Outcome} (m : Meets (front b s given) tab r) where
+  pub stopped-way : (why : Why) (at : ℕ) → r .met ≡ met.Refused why at → out .answer ≡ Refused why at → Comes given (verdict b s given roomless) out
   unfolding verdict
   stopped-way why at e a = stopped-goes tab r given roomless (front b s given) (m .means) why at e a
 
-  pub clash-way : (k n : ℕ) → r .met ≡ met.Clash k n → out .answer ≡ Clash k n → Comes (verdict b s given roomless) out
+  pub clash-way : (k n : ℕ) → r .met ≡ met.Clash k n → out .answer ≡ Clash k n → Comes given (verdict b s given roomless) out
   unfolding verdict
   clash-way k n e a = clash-goes tab r given roomless (front b s given) (m .means) k n e a
 
-  pub ready-way : {g : Good} {st : State} → front b s given ≡ ready g st → Comes (goes-on given roomless (ready g st)) out → Comes (verdict b s given roomless) out
+  pub ready-way : {g : Good} {st : State} → front b s given ≡ ready g st → Comes given (goes-on given roomless (ready g st)) out → Comes given (verdict b s given roomless) out
   unfolding verdict
-  ready-way e c = subst (λ (x : Front). Comes (goes-on given roomless x) out) (sym e) c
+  ready-way e c = subst (λ (x : Front). Comes given (goes-on given roomless x) out) (sym e) c

@@ -10,7 +10,9 @@ use Rattle.rules.specs.States.{State, active-of}
 use Rattle.rules.specs.Rounds.{outputs-with, undecided, Answer, answered, not-constructive, react}
 use Rattle.block.specs.Format.{Good}
 use Rattle.records.specs.StateRecord.{version-in, statements-in, state-record, Pair}
-use Rattle.records.specs.LogRecord.{no-room, logged-at}
+use Rattle.records.specs.LogRecord.{log-size, no-room, logged-at}
+use Rattle.reaction.specs.declared.Given.{Given}
+use Rattle.reaction.specs.declared.Given.the-variants.{All, Two}
 use Rattle.reaction.specs.Fronts.{Front, stopped, clashing, ready, front}
 
 -- The numbers given back besides those of the tests before the rules.
@@ -27,9 +29,14 @@ NOT-CONSTRUCTIVE = 13
 abbrev pub block-of : Good → Block
 block-of g = record { inputs = g .header .inputs; outputs = g .header .outputs; body = g .body }
 
--- What an input set says: its inputs are present, and the other ones absent.
-abbrev pub heard-of : Good → ℕ → Hearing
-heard-of g given = all-heard (block-of g) (bits given)
+-- What is heard of a block's inputs: of one set, that its inputs are present and the other ones absent; of two, that those of the first are present
+-- and those of the second absent, and of the rest nothing.
+abbrev pub heard-in : Block → Given → Hearing
+heard-in b (All set) = all-heard b (bits set)
+heard-in b (Two p a) = record { heard-present = bits p; heard-absent = bits a }
+
+abbrev pub heard-of : Good → Given → Hearing
+heard-of g given = heard-in (block-of g) given
 
 -- What an instant comes to: turned down with a number and a place, a clash with its pair, or the rules' reaction.
 pub data Verdict : Type 0 where
@@ -38,13 +45,13 @@ pub data Verdict : Type 0 where
   reacted : Block → Answer → Verdict
 
 -- After the tests: 12 where a log without room is lent; then the reaction.
-unfoldable pub goes-on : ℕ → Bool → Front → Verdict
+unfoldable pub goes-on : Given → Bool → Front → Verdict
 goes-on given roomless (stopped n at) = refused n at
 goes-on given roomless (clashing pair) = clash pair
 goes-on given roomless (ready g st) = cond roomless (refused ROOM 0) (reacted (block-of g) (react (block-of g) st (heard-of g given)))
 
 -- All in their order: the block's 1 to 8, then 9, 17, 10, 11, and 12; then the reaction.
-unfoldable pub verdict : List ℕ → List ℕ → ℕ → Bool → Verdict
+unfoldable pub verdict : List ℕ → List ℕ → Given → Bool → Verdict
 verdict b s given roomless = goes-on given roomless (front b s given)
 
 -- Every field of an answer; all fields not named are 0.
@@ -116,18 +123,24 @@ state-after s (clash pair) = s
 state-after s (reacted b a) = state-by s a
 
 -- The log's bytes and its end afterwards; a refusal leaves every byte and gives end 0.
-abbrev pub log-by : List ℕ → ℕ → ℕ → Block → Answer → List ℕ
+abbrev pub log-by : List ℕ → ℕ → Given → Block → Answer → List ℕ
 log-by log end given b (answered outs c st r) =
-    logged-at log end (record { inputs = given; present = word 64 (outputs-with present b outs); code = c; rounds = r })
+    logged-at log end (record {
+      inputs-present = word 64 (heard-in b given .heard-present);
+      inputs-absent = word 64 (heard-in b given .heard-absent);
+      outputs-present = word 64 (outputs-with present b outs);
+      code = c;
+      rounds = r;
+    })
 log-by log end given b (not-constructive outs r) = log
 
-unfoldable pub log-after : List ℕ → ℕ → ℕ → Verdict → List ℕ
+unfoldable pub log-after : List ℕ → ℕ → Given → Verdict → List ℕ
 log-after log end given (refused n at) = log
 log-after log end given (clash pair) = log
 log-after log end given (reacted b a) = log-by log end given b a
 
 abbrev pub end-by : ℕ → Answer → ℕ
-end-by end (answered outs c st r) = end + 24
+end-by end (answered outs c st r) = end + log-size
 end-by end (not-constructive outs r) = 0
 
 unfoldable pub end-after : ℕ → Verdict → ℕ
@@ -135,9 +148,16 @@ end-after end (refused n at) = 0
 end-after end (clash pair) = 0
 end-after end (reacted b a) = end-by end a
 
--- The instant without a log, and with one.
+-- The instant with one input set, without a log and with one;
 abbrev pub instant-verdict : List ℕ → List ℕ → ℕ → Verdict
-instant-verdict b s given = verdict b s given false
+instant-verdict b s set = verdict b s (All set) false
 
 abbrev pub logged-verdict : List ℕ → List ℕ → ℕ → List ℕ → ℕ → Verdict
-logged-verdict b s given log end = verdict b s given (no-room log end)
+logged-verdict b s set log end = verdict b s (All set) (no-room log end)
+
+-- and with the inputs present and the inputs absent.
+abbrev pub heard-verdict : List ℕ → List ℕ → ℕ → ℕ → Verdict
+heard-verdict b s p a = verdict b s (Two p a) false
+
+abbrev pub heard-logged-verdict : List ℕ → List ℕ → ℕ → ℕ → List ℕ → ℕ → Verdict
+heard-logged-verdict b s p a log end = verdict b s (Two p a) (no-room log end)

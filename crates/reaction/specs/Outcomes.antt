@@ -4,7 +4,7 @@ use mathlib.Core.List.{List}
 use Prim.Native.Nat.{ℕ}
 use Rattle.refusals.specs.Refusals.{number}
 use Rattle.refusals.specs.declared.Why.{Why}
-use Rattle.sets.specs.Words.{set-of}
+use Rattle.sets.specs.Words.{word, set-of}
 use Rattle.rules.specs.States.{State, active-of}
 use Rattle.rules.specs.Rounds.{answered, not-constructive}
 use Rattle.block.specs.Table.{Table, Has}
@@ -22,7 +22,8 @@ use Rattle.reaction.specs.declared.Met.the-variants.{Refused as Stopped,
 use Rattle.reaction.specs.declared.Outcome.{Outcome}
 use Rattle.reaction.specs.Answers.{instant-told}
 use Rattle.reaction.specs.Fronts.{Front, stopped, clashing, ready}
-use Rattle.reaction.specs.Instants.{Verdict, refused, clash, reacted, told}
+use Rattle.reaction.specs.Instants.{Verdict, refused, clash, reacted, heard-in, told}
+use Rattle.reaction.specs.declared.Given.{Given}
 
 -- Where the instant is answered, the phase and the two words make the next state's record, whatever block it names.
 unfoldable pub Writes : Verdict → Outcome → Type 0
@@ -30,6 +31,14 @@ Writes (refused n at) o = Unit {0}
 Writes (clash pair) o = Unit {0}
 Writes (reacted b (answered outs c st r)) o = (v n : ℕ) → state-bytes v n (o .phase) (o .kept) ≡ state-record v n st
 Writes (reacted b (not-constructive outs r)) o = Unit {0}
+
+-- And the two sets beside it are the inputs heard present and the inputs heard absent.
+unfoldable pub Hears : Given → Verdict → Outcome → Type 0
+Hears given (refused n at) o = Unit {0}
+Hears given (clash pair) o = Unit {0}
+Hears given (reacted b (answered outs c st r)) o =
+    (o .heard .present ≡ word 64 (heard-in b given .heard-present)) × (o .heard .absent ≡ word 64 (heard-in b given .heard-absent))
+Hears given (reacted b (not-constructive outs r)) o = Unit {0}
 
 -- Which of the four cases it is.
 unfoldable pub case-of : Instant → ℕ
@@ -44,10 +53,11 @@ case-for (clash pair) = 1
 case-for (reacted b (answered outs c st r)) = 2
 case-for (reacted b (not-constructive outs r)) = 3
 
-pub record Comes (v : Verdict) (o : Outcome) : Type 0 where
+pub record Comes (given : Given) (v : Verdict) (o : Outcome) : Type 0 where
   pub same-case : case-of (o .answer) ≡ case-for v
   pub told-is : instant-told (o .answer) ≡ told v
   pub writes : Writes v o
+  pub hears : Hears given v o
 
 -- A block was read: its tree stands in the table, and the summary is the reading's.
 pub record Opened (tab : Table) (s : Summary) (g : Good) : Type 0 where

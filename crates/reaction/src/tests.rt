@@ -1,12 +1,13 @@
 // The tests before the rules, in their written order: the block's 1 to 8, then STATE, OTHER BLOCK, CLASH with its pair, and INPUT. The table is the caller's, and stands
 // for the block where all are passed.
+use crate::Given;
 use crate::Grounds;
 use crate::Met;
+use crate::wrong_inputs;
 use block::whole::Checked;
 use block::whole::Summary;
 use block::whole::read_block;
 use evaluate::rounds::Phase;
-use records::bits::input_over;
 use records::clash::Clash;
 use records::clash::first_clash;
 use records::state::Held;
@@ -37,10 +38,10 @@ fn stopped(met: Met) -> Grounds
 }
 
 // INPUT, the last of them.
-fn at_inputs(s: Summary, phase: Phase, set: [u64; 2], given: u64) -> Grounds
+fn at_inputs(s: Summary, phase: Phase, set: [u64; 2], given: Given) -> Grounds
     ensures { λ r. ⌜ ((tab : Table) (g : Good) → Opened tab s g → (st : State) → Begins st phase set → Meets (fronts.try-inputs g st given) tab r) ⌝ }
 {
-    if input_over(s.inputs, given) {
+    if wrong_inputs(s.inputs, given) {
         return stopped(Met::Refused(Why::Input, 0));
     }
     Grounds {
@@ -56,7 +57,7 @@ fn at_clash(
     s: Summary,
     phase: Phase,
     set: [u64; 2],
-    given: u64,
+    given: Given,
 ) -> Grounds
     requires { ⌜ ((xs : List ℕ) × (g : Good) × Opened (table-of (now kinds) xs (now sizes)) s g × ((k : ℕ) → T (set-of set k) → k < g .pauses)) ⌝ }
     ensures { λ r. ⌜ ((xs : List ℕ) (g : Good) → Opened (table-of (now (kinds .entry)) xs (now (sizes .entry))) s g → ((k : ℕ) → T (set-of set k) → k < g .pauses) → (st : State) → Begins st phase set → Meets (fronts.clash-tried g st given) (table-of (now (kinds .entry)) xs (now (sizes .entry))) r) ⌝ }
@@ -77,7 +78,7 @@ fn at_names(
     state: &[u8],
     phase: Phase,
     set: [u64; 2],
-    given: u64,
+    given: Given,
 ) -> Grounds
     requires { ⌜ ((xs : List ℕ) × (g : Good) × Opened (table-of (now kinds) xs (now sizes)) s g × ((k : ℕ) → T (set-of set k) → k < g .pauses)) ⌝ }
     ensures { λ r. ⌜ ((xs : List ℕ) (g : Good) → Opened (table-of (now (kinds .entry)) xs (now (sizes .entry))) s g → ((k : ℕ) → T (set-of set k) → k < g .pauses) → (st : State) → Begins st phase set → Meets (fronts.try-names g st (now (state .entry)) given) (table-of (now (kinds .entry)) xs (now (sizes .entry))) r) ⌝ }
@@ -89,7 +90,13 @@ fn at_names(
 }
 
 // STATE, for a block that was read.
-fn at_state(kinds: &[u16; 512], sizes: &[u16; 512], s: Summary, state: &[u8], given: u64) -> Grounds
+fn at_state(
+    kinds: &[u16; 512],
+    sizes: &[u16; 512],
+    s: Summary,
+    state: &[u8],
+    given: Given,
+) -> Grounds
     requires { ⌜ ((xs : List ℕ) × (g : Good) × Opened (table-of (now kinds) xs (now sizes)) s g) ⌝ }
     ensures { λ r. ⌜ ((xs : List ℕ) (g : Good) → Opened (table-of (now (kinds .entry)) xs (now (sizes .entry))) s g → Meets (fronts.try-state g (now (state .entry)) given (read-state (g .pauses) (now (state .entry)))) (table-of (now (kinds .entry)) xs (now (sizes .entry))) r) ⌝ }
 {
@@ -108,7 +115,7 @@ fn at_state(kinds: &[u16; 512], sizes: &[u16; 512], s: Summary, state: &[u8], gi
 pub fn front(
     block: &[u8],
     state: &[u8],
-    given: u64,
+    given: Given,
     kinds: &mut [u16; 512],
     operands: &mut [u16; 512],
     sizes: &mut [u16; 512],

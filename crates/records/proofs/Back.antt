@@ -26,7 +26,7 @@ module _ (l : Logged) where
   unfolding log-record
   log-length = length-laid log-widths (log-values l)
 
-  log-back : (i : ℕ) → i < 6 → getD (log-values l) i 0 < 256 ^ getD log-widths i 0 → value log-widths i (log-record l) ≡ getD (log-values l) i 0
+  log-back : (i : ℕ) → i < 7 → getD (log-values l) i 0 < 256 ^ getD log-widths i 0 → value log-widths i (log-record l) ≡ getD (log-values l) i 0
   unfolding log-record
   log-back = value-laid log-widths (log-values l)
 
@@ -36,17 +36,20 @@ module _ (l : Logged) where
   pub log-kind : value log-widths 1 (log-record l) ≡ 3
   log-kind = log-back 1 (omega arith) (omega arith)
 
-  pub log-inputs : l .inputs < 2 ^ 64 → value log-widths 2 (log-record l) ≡ l .inputs
-  log-inputs = log-back 2 (omega arith)
+  pub log-inputs-present : l .inputs-present < 2 ^ 64 → value log-widths 2 (log-record l) ≡ l .inputs-present
+  log-inputs-present = log-back 2 (omega arith)
 
-  pub log-present : l .present < 2 ^ 64 → value log-widths 3 (log-record l) ≡ l .present
-  log-present = log-back 3 (omega arith)
+  pub log-inputs-absent : l .inputs-absent < 2 ^ 64 → value log-widths 3 (log-record l) ≡ l .inputs-absent
+  log-inputs-absent = log-back 3 (omega arith)
 
-  pub log-code : l .code < 2 ^ 16 → value log-widths 4 (log-record l) ≡ l .code
-  log-code = log-back 4 (omega arith)
+  pub log-outputs-present : l .outputs-present < 2 ^ 64 → value log-widths 4 (log-record l) ≡ l .outputs-present
+  log-outputs-present = log-back 4 (omega arith)
 
-  pub log-rounds : l .rounds < 2 ^ 16 → value log-widths 5 (log-record l) ≡ l .rounds
-  log-rounds = log-back 5 (omega arith)
+  pub log-code : l .code < 2 ^ 16 → value log-widths 5 (log-record l) ≡ l .code
+  log-code = log-back 5 (omega arith)
+
+  pub log-rounds : l .rounds < 2 ^ 16 → value log-widths 6 (log-record l) ≡ l .rounds
+  log-rounds = log-back 6 (omega arith)
 
 -- The state record, field by field.
 module _ (version statements : ℕ) (st : State) where

@@ -6,23 +6,25 @@ use lib.Dec.{ltb}
 use lib.ListN.{length, take, drop}
 use Rattle.records.specs.Fields.{size, laid}
 
--- What is logged of an answered instant: the input set, the present outputs (bits by signal number), the code, the rounds.
+-- What is logged of an answered instant: the inputs heard present and those heard absent, the present outputs (bits by signal number), the
+-- code, the rounds.
 pub record Logged : Type 0 where
-  pub inputs : ℕ
-  pub present : ℕ
+  pub inputs-present : ℕ
+  pub inputs-absent : ℕ
+  pub outputs-present : ℕ
   pub code : ℕ
   pub rounds : ℕ
 
--- The fields and how many bytes each has: length, kind, input set, present outputs, code, rounds.
+-- The fields and how many bytes each has: length, kind, inputs present, inputs absent, outputs present, code, rounds.
 abbrev pub log-widths : List ℕ
-log-widths = 2 ∷ 2 ∷ 8 ∷ 8 ∷ 2 ∷ 2 ∷ []
+log-widths = 2 ∷ 2 ∷ 8 ∷ 8 ∷ 8 ∷ 2 ∷ 2 ∷ []
 
 abbrev pub log-size : ℕ
 log-size = size log-widths
 
 -- Their values: the kind is 3.
 abbrev pub log-values : Logged → List ℕ
-log-values l = log-size ∷ 3 ∷ l .inputs ∷ l .present ∷ l .code ∷ l .rounds ∷ []
+log-values l = log-size ∷ 3 ∷ l .inputs-present ∷ l .inputs-absent ∷ l .outputs-present ∷ l .code ∷ l .rounds ∷ []
 
 unfoldable pub log-record : Logged → List ℕ
 unfolding laid

@@ -1,12 +1,12 @@
--- The state record: its fields, the refusals 9, 17 and 10, and the input set's 11. Assumes nothing.
-use mathlib.Core.Bool.{Bool, not, cond, _&&_}
+-- The state record: its fields, the refusals 9, 17 and 10, and the input sets' 11. Assumes nothing.
+use mathlib.Core.Bool.{Bool, not, cond, _&&_, _||_}
 use mathlib.Core.List.{List, [], _∷_}
 use mathlib.Core.Option.{Option, none, some}
 use Prim.Native.Nat.{ℕ, _+_, _/_, _^_}
 use lib.Dec.{eqb, ltb, leb}
 use lib.ListN.{length}
 use Rattle.sets.specs.Numbers.{Numbers, some-to, lowest}
-use Rattle.sets.specs.Words.{word, two-words}
+use Rattle.sets.specs.Words.{bits, word, two-words}
 use Rattle.rules.specs.Statements.{Stmt}
 use Rattle.rules.specs.States.{State, fresh, running, finished, phase-of, active-of, compatible}
 use Rattle.records.specs.Fields.{size, laid, value}
@@ -111,3 +111,11 @@ first-clash p A = with-second p A (lowest 128 (λ m. some-to (clashes p A m) 127
 -- INPUT: a bit set at or above the number of inputs.
 unfoldable pub undeclared-input : ℕ → ℕ → Bool
 undeclared-input inputs given = not (eqb (given / 2 ^ inputs) 0)
+
+-- A signal in both sets.
+unfoldable pub in-both : ℕ → ℕ → Bool
+in-both present absent = some-to (λ n. bits present n && bits absent n) 63
+
+-- INPUT, of the inputs heard present and the inputs heard absent: a bad bit in either set, or a signal in both.
+unfoldable pub bad-inputs : ℕ → ℕ → ℕ → Bool
+bad-inputs inputs present absent = undeclared-input inputs present || (undeclared-input inputs absent || in-both present absent)

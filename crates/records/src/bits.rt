@@ -4,7 +4,7 @@ ghost use mathlib.Core.Bool.{not};
 ghost use Prim.Native.Nat.{_/_, _<_, _^_};
 ghost use lib.Dec.{eqb};
 ghost use Rattle.sets.specs.Words.{set-of};
-ghost use Rattle.records.specs.StateRecord.{beyond, undeclared-input};
+ghost use Rattle.records.specs.StateRecord.{beyond, undeclared-input, bad-inputs};
 
 // A bit is set from a place on; from 64 on there is none, and no shift by the width.
 pub(crate) fn bit_from(word: u64, from: u16) -> bool
@@ -22,6 +22,19 @@ pub fn input_over(inputs: u16, given: u64) -> bool
     ensures { λ r. ⌜ r ≡ undeclared-input inputs given ⌝ }
 {
     bit_from(given, inputs)
+}
+
+// INPUT, of two sets: a bad bit in either, or a signal in both.
+pub fn inputs_wrong(inputs: u16, present: u64, absent: u64) -> bool
+    ensures { λ r. ⌜ r ≡ bad-inputs inputs present absent ⌝ }
+{
+    if input_over(inputs, present) {
+        return true;
+    }
+    if input_over(inputs, absent) {
+        return true;
+    }
+    (present & absent) != 0
 }
 
 // A bit of the 128 is set at or above the pause count.

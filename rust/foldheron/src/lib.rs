@@ -117,7 +117,7 @@ pub const BLOCK_MOST: usize = 3086;
 /// How many bytes a state has.
 pub const STATE: usize = 26;
 /// How many bytes a log record has.
-pub const RECORD: usize = 24;
+pub const RECORD: usize = 32;
 
 /// Checks a block.
 pub fn check(block: &[u8]) -> Result<Summary, Refusal> {
@@ -146,6 +146,19 @@ pub fn instant(block: &[u8], state: &mut [u8], inputs: u64) -> Instant {
 /// Runs one instant and writes its record into the log from `end` on; refused, no byte of the log changes.
 pub fn instant_logged(block: &[u8], state: &mut [u8], inputs: u64, log: &mut [u8], end: usize) -> Logged {
     let a = raw::instant_logged(block, state, inputs, log, end);
+    Logged { answer: told(&a), end: number(&a, 10) as usize }
+}
+
+/// Runs one instant of which not every input is heard: bit n of `present` is set where input n is present, bit n of `absent` where it is absent,
+/// and an input in neither set is unknown. Answered, it has the outputs, the code and the next state that come with any statuses for the unknown
+/// ones; the rounds may differ.
+pub fn instant_heard(block: &[u8], state: &mut [u8], present: u64, absent: u64) -> Instant {
+    told(&raw::instant_heard(block, state, present, absent))
+}
+
+/// The same, and its record written into the log from `end` on; refused, no byte of the log changes.
+pub fn instant_heard_logged(block: &[u8], state: &mut [u8], present: u64, absent: u64, log: &mut [u8], end: usize) -> Logged {
+    let a = raw::instant_heard_logged(block, state, present, absent, log, end);
     Logged { answer: told(&a), end: number(&a, 10) as usize }
 }
 

@@ -15,6 +15,14 @@ extern "C" {
         block: *const u8, block_len: usize, state: *mut u8, state_len: usize, inputs: u64, log: *mut u8, log_len: usize,
         end: usize, answer: *mut u8, answer_len: usize,
     ) -> u16;
+    fn foldheron_instant_heard(
+        block: *const u8, block_len: usize, state: *mut u8, state_len: usize, present: u64, absent: u64, answer: *mut u8,
+        answer_len: usize,
+    ) -> u16;
+    fn foldheron_instant_heard_logged(
+        block: *const u8, block_len: usize, state: *mut u8, state_len: usize, present: u64, absent: u64, log: *mut u8,
+        log_len: usize, end: usize, answer: *mut u8, answer_len: usize,
+    ) -> u16;
     fn foldheron_excerpt(block: *const u8, block_len: usize, n: usize, answer: *mut u8, answer_len: usize) -> u16;
 }
 
@@ -50,6 +58,25 @@ pub fn instant_logged(block: &[u8], state: &mut [u8], inputs: u64, log: &mut [u8
     let (kept, room) = (log.as_mut_ptr(), log.len());
     let (into, length) = (answer.as_mut_ptr(), answer.len());
     let number = unsafe { foldheron_instant_logged(block.as_ptr(), block.len(), lent, size, inputs, kept, room, end, into, length) };
+    told(number, answer)
+}
+
+pub fn instant_heard(block: &[u8], state: &mut [u8], present: u64, absent: u64) -> [u8; 80] {
+    let mut answer = [0; 80];
+    let (lent, size) = (state.as_mut_ptr(), state.len());
+    let (into, length) = (answer.as_mut_ptr(), answer.len());
+    let number = unsafe { foldheron_instant_heard(block.as_ptr(), block.len(), lent, size, present, absent, into, length) };
+    told(number, answer)
+}
+
+pub fn instant_heard_logged(block: &[u8], state: &mut [u8], present: u64, absent: u64, log: &mut [u8], end: usize) -> [u8; 88] {
+    let mut answer = [0; 88];
+    let (lent, size) = (state.as_mut_ptr(), state.len());
+    let (kept, room) = (log.as_mut_ptr(), log.len());
+    let (into, length) = (answer.as_mut_ptr(), answer.len());
+    let number = unsafe {
+        foldheron_instant_heard_logged(block.as_ptr(), block.len(), lent, size, present, absent, kept, room, end, into, length)
+    };
     told(number, answer)
 }
 

@@ -40,7 +40,12 @@ impl Object {
 
     /// A list of texts.
     pub fn texts(self, key: &str, values: &[String]) -> Object {
-        let all: Vec<String> = values.iter().map(|value| quoted(value)).collect();
+        self.put(key, &listed(values))
+    }
+
+    /// A list of lists of texts.
+    pub fn lists(self, key: &str, values: &[Vec<String>]) -> Object {
+        let all: Vec<String> = values.iter().map(|value| listed(value)).collect();
         self.put(key, &format!("[{}]", all.join(",")))
     }
 
@@ -48,6 +53,11 @@ impl Object {
         self.text.push('}');
         self.text
     }
+}
+
+fn listed(values: &[String]) -> String {
+    let all: Vec<String> = values.iter().map(|value| quoted(value)).collect();
+    format!("[{}]", all.join(","))
 }
 
 /// A text between quotes.
@@ -76,5 +86,6 @@ mod tests {
         let object = Object::new().number("n", 7u64).text("t", "a\"b\\c\n\u{1}ä").flag("f", true).texts("l", &["x".into(), "y".into()]).null("z");
         assert_eq!(object.done(), r#"{"n":7,"t":"a\"b\\c\n\u0001ä","f":true,"l":["x","y"],"z":null}"#);
         assert_eq!(Object::new().texts("l", &[]).done(), r#"{"l":[]}"#);
+        assert_eq!(Object::new().lists("l", &[vec!["x".into()], vec![]]).done(), r#"{"l":[["x"],[]]}"#);
     }
 }

@@ -48,6 +48,11 @@ impl Labels {
         self.inputs..self.inputs + self.outputs
     }
 
+    /// A set with every input.
+    pub fn all_inputs(&self) -> u64 {
+        self.inputs().fold(0, |set, n| set | 1 << n)
+    }
+
     /// A set with every output.
     pub fn all_outputs(&self) -> u64 {
         self.outputs().fold(0, |set, n| set | 1 << n)

@@ -4,6 +4,8 @@ pub use foldheron::{BLOCK_MOST, RECORD, STATE};
 
 /// A state of the versions before 2.0.0, which does not name its block.
 pub const OLD_STATE: usize = 22;
+/// A log record of the versions before 2.0.0, which has no set of absent inputs.
+pub const OLD_RECORD: usize = 24;
 /// A record's head: its length and its kind.
 pub const HEAD: usize = 4;
 /// The header of a block.
@@ -155,25 +157,32 @@ impl State {
 #[derive(Clone, Copy, PartialEq, Eq, Debug)]
 pub struct LogRecord {
     pub inputs: u64,
+    /// The absent inputs; none of an old record, in which every input that is not present is absent.
+    pub absent: Option<u64>,
     pub outputs: u64,
     pub code: u16,
     pub rounds: u16,
 }
 
 impl LogRecord {
-    /// The fields, where the bytes begin with a record of a log record's length and kind.
+    /// The fields, where the bytes begin with a log record, a new or an old one.
     pub fn of(bytes: &[u8]) -> Option<LogRecord> {
-        if !begins_log_record(bytes) {
-            return None;
-        }
-        let (inputs, outputs) = (eight(bytes, HEAD)?, eight(bytes, HEAD + 8)?);
-        Some(LogRecord { inputs, outputs, code: two(bytes, HEAD + 16)?, rounds: two(bytes, HEAD + 18)? })
+        let rest = record_length(bytes)? - HEAD - 12;
+        let absent = if rest == 16 { Some(eight(bytes, HEAD + 8)?) } else { None };
+        let (inputs, outputs) = (eight(bytes, HEAD)?, eight(bytes, HEAD + rest)?);
+        Some(LogRecord { inputs, absent, outputs, code: two(bytes, HEAD + rest + 8)?, rounds: two(bytes, HEAD + rest + 10)? })
     }
+}
+
+/// How many bytes the log record has whose head the bytes begin with; none where it is no log record's head.
+pub fn record_length(bytes: &[u8]) -> Option<usize> {
+    let length = usize::from(two(bytes, 0)?);
+    Some(length).filter(|length| matches!(*length, OLD_RECORD | RECORD) && two(bytes, 2) == Some(LOG_KIND))
 }
 
 /// Whether the bytes begin with the head of a log record.
 pub fn begins_log_record(bytes: &[u8]) -> bool {
-    two(bytes, 0) == Some(RECORD as u16) && two(bytes, 2) == Some(LOG_KIND)
+    record_length(bytes).is_some()
 }
 
 /// Whether the bytes begin with the head of a state record of their own length, today's or another.
@@ -187,8 +196,16 @@ mod tests {
 
     #[test]
     fn a_log_record() {
+        let bytes = [32, 0, 3, 0, 1, 0, 0, 0, 0, 0, 0, 0, 6, 0, 0, 0, 0, 0, 0, 64, 2, 0, 0, 0, 0, 0, 0, 128, 1, 0, 3, 0];
+        let fields = LogRecord { inputs: 1, absent: Some(6 + (64 << 56)), outputs: 2 + (128 << 56), code: 1, rounds: 3 };
+        assert_eq!(LogRecord::of(&bytes), Some(fields));
+        assert_eq!(LogRecord::of(&bytes[..31]), None);
+    }
+
+    #[test]
+    fn an_old_log_record() {
         let bytes = [24, 0, 3, 0, 1, 0, 0, 0, 0, 0, 0, 0, 2, 0, 0, 0, 0, 0, 0, 128, 1, 0, 3, 0];
-        assert_eq!(LogRecord::of(&bytes), Some(LogRecord { inputs: 1, outputs: 2 + (128 << 56), code: 1, rounds: 3 }));
+        assert_eq!(LogRecord::of(&bytes), Some(LogRecord { inputs: 1, absent: None, outputs: 2 + (128 << 56), code: 1, rounds: 3 }));
         assert_eq!(LogRecord::of(&bytes[..23]), None);
     }
 

@@ -1,13 +1,13 @@
 //! A log: records one after the other. Read one at a time, or appended to.
 
 use crate::files::{self, shown};
-use crate::layout::{begins_log_record, begins_state, Header, HEAD, LOG_KIND, OLD_STATE, RECORD, STATE};
+use crate::layout::{begins_state, record_length, Header, LogRecord, HEAD, LOG_KIND, OLD_STATE, RECORD, STATE};
 use crate::replace::flush_folder;
 use crate::status::Status;
 use crate::trouble::{reason, Outcome, Trouble};
 use crate::walk::{counted, grouped};
 use std::fs::{File, OpenOptions};
-use std::io::{self, ErrorKind, Read, Seek, SeekFrom, Write};
+use std::io::{self, BufReader, ErrorKind, Read, Seek, SeekFrom, Write};
 use std::path::{Path, PathBuf};
 
 /// How many records are kept before they are written.
@@ -85,55 +85,93 @@ fn unwritten(path: &Path, why: &io::Error) -> Trouble {
     Trouble::new(Status::File, format!("the log {} could not be written: {}", shown(path), reason(why)))
 }
 
-/// That a file which is appended to is a log: whole records, the first and the last with their heads.
+/// That a file which is appended to is a log of whole records. One of new records alone is told by its first and its last; any other is read
+/// from the front, for its records have two lengths.
 fn look_at(path: &Path, file: &mut File, length: u64) -> Outcome<()> {
-    let record = RECORD as u64;
+    let failed = |why: io::Error| files::unread(path, &why);
     let none = |why: String| Trouble::new(Status::Refused, format!("{} is left as it is: {}", shown(path), why));
-    if length == 0 {
+    let is_told = length == 0 || length % RECORD as u64 == 0 && has_new_ends(file, length).map_err(failed)?;
+    if is_told {
         return Ok(());
     }
-    for at in [0, (length / record).saturating_sub(1) * record] {
-        let mut head = [0; HEAD];
-        let read = file.seek(SeekFrom::Start(at)).and_then(|_| file.read_exact(&mut head));
-        match read {
-            Err(why) if why.kind() != ErrorKind::UnexpectedEof => return Err(files::unread(path, &why)),
-            Ok(()) if begins_log_record(&head) => {}
-            _ => return Err(none(format!("it is no log of {} bytes a record", RECORD))),
+    file.seek(SeekFrom::Start(0)).map_err(failed)?;
+    let mut records = Records::new(BufReader::new(file), path);
+    loop {
+        match records.next()? {
+            Next::Record(_) => {}
+            Next::End => return Ok(()),
+            Next::Strange(_) if records.number == 0 => return Err(none("it is no log".to_string())),
+            Next::Strange(_) => return Err(none(format!("record {}, at offset {}, is no log record", grouped(records.number + 1), grouped(records.at)))),
+            Next::Short(torn) => {
+                return Err(none(format!("its last record is cut off, {}", counted(torn.len() as u64, "byte")))
+                    .advise("a run was killed while it wrote; what came before is whole")
+                    .advise(format!("to cut the rest off: truncate -s {} {}", records.at, shown(path))))
+            }
         }
     }
-    match length % record {
-        0 => Ok(()),
-        torn => Err(none(format!("its last record is cut off, {}", counted(torn, "byte")))
-            .advise("a run was killed while it wrote; what came before is whole")
-            .advise(format!("to cut the rest off: truncate -s {} {}", length - torn, shown(path)))),
+}
+
+/// Whether a new record's head stands at the front, and where the last record would begin.
+fn has_new_ends(file: &mut File, length: u64) -> io::Result<bool> {
+    for at in [0, length - RECORD as u64] {
+        let mut head = [0; HEAD];
+        file.seek(SeekFrom::Start(at))?;
+        file.read_exact(&mut head)?;
+        if record_length(&head) != Some(RECORD) {
+            return Ok(false);
+        }
     }
+    Ok(true)
 }
 
 /// What comes next in a log that is read.
 pub enum Next {
-    Record([u8; RECORD]),
-    /// Some bytes that are no whole record.
+    Record(LogRecord),
+    /// The first bytes of a record that is not whole.
     Short(Vec<u8>),
+    /// Some bytes that begin no log record.
+    Strange(Vec<u8>),
     End,
 }
 
-/// Fills a record, or as much of it as is there.
-pub fn next(reader: &mut dyn Read, path: &Path) -> Outcome<Next> {
-    let mut record = [0; RECORD];
-    let mut filled = 0;
-    while filled < RECORD {
-        match reader.read(&mut record[filled..]) {
-            Ok(0) => break,
-            Ok(n) => filled += n,
-            Err(why) if why.kind() == ErrorKind::Interrupted => {}
-            Err(why) => return Err(files::unread(path, &why)),
-        }
+/// The records of a log, new and old ones as they come.
+pub struct Records<'a, R> {
+    reader: R,
+    path: &'a Path,
+    /// How many records were read, and how many bytes they have.
+    pub number: u64,
+    pub at: u64,
+}
+
+impl<'a, R: Read> Records<'a, R> {
+    pub fn new(reader: R, path: &'a Path) -> Records<'a, R> {
+        Records { reader, path, number: 0, at: 0 }
     }
-    Ok(match filled {
-        0 => Next::End,
-        RECORD => Next::Record(record),
-        _ => Next::Short(record[..filled].to_vec()),
-    })
+
+    pub fn next(&mut self) -> Outcome<Next> {
+        let mut bytes = Vec::with_capacity(RECORD);
+        self.fill(&mut bytes, HEAD)?;
+        let length = record_length(&bytes);
+        if bytes.len() == HEAD {
+            self.fill(&mut bytes, length.unwrap_or(RECORD))?;
+        }
+        Ok(match (length, LogRecord::of(&bytes)) {
+            _ if bytes.is_empty() => Next::End,
+            (Some(length), Some(record)) => {
+                self.number += 1;
+                self.at += length as u64;
+                Next::Record(record)
+            }
+            (None, _) if bytes.len() >= HEAD => Next::Strange(bytes),
+            _ => Next::Short(bytes),
+        })
+    }
+
+    /// Reads up to so many bytes in all, or as many as there are.
+    fn fill(&mut self, bytes: &mut Vec<u8>, most: usize) -> Outcome<()> {
+        let more = (most - bytes.len()) as u64;
+        self.reader.by_ref().take(more).read_to_end(bytes).map(|_| ()).map_err(|why| files::unread(self.path, &why))
+    }
 }
 
 /// What a file is that begins with these bytes in the place of its first record, where that can be told, and what shows it.
@@ -154,13 +192,12 @@ pub fn no_log(path: &Path, (what, shows): (&str, &str)) -> Trouble {
     Trouble::new(Status::Refused, format!("{} is no log: this is {}", shown(path), what)).advise(format!("foldheron {} shows it; name the log here", shows))
 }
 
-/// A record of a log that is none.
-pub fn no_record(path: &Path, number: u64, record: &[u8]) -> Trouble {
+/// A record of a log that is none, with its number and where it begins.
+pub fn no_record(path: &Path, number: u64, at: u64, record: &[u8]) -> Trouble {
     if let Some(other) = other_file(number, record) {
         return no_log(path, other);
     }
     let bytes: Vec<String> = record.iter().take(8).map(|byte| format!("{:02X}", byte)).collect();
-    let at = (number - 1) * RECORD as u64;
     let said = format!("{}: record {}, at offset {}, is no log record", shown(path), grouped(number), grouped(at));
     Trouble::new(Status::Refused, said)
         .advise(format!("it begins with {}, and a record with {:02X} 00 {:02X} 00: length {}, kind {}", bytes.join(" "), RECORD, LOG_KIND, RECORD, LOG_KIND))

@@ -8,14 +8,41 @@ use crate::trouble::{Outcome, Trouble};
 pub const NONE: &str = "-";
 /// What stands in the place of the outputs of a refused instant.
 pub const UNKNOWN: &str = "x";
+/// What marks an input that is not heard, and alone is the word for a set of which no input is heard.
+pub const UNHEARD: &str = "?";
+
+/// What is given of the inputs: those that are present and those that are not heard. The others are absent.
+#[derive(Clone, Copy, PartialEq, Eq, Debug, Default)]
+pub struct Given {
+    pub present: u64,
+    pub unheard: u64,
+}
+
+impl Given {
+    /// A set in which every input is heard.
+    pub fn heard(present: u64) -> Given {
+        Given { present, unheard: 0 }
+    }
+
+    /// The absent ones of these inputs.
+    pub fn absent(&self, inputs: u64) -> u64 {
+        inputs & !(self.present | self.unheard)
+    }
+}
 
 /// A set's members, those marked with + that were not in the set before it, and after them those that went, marked with -. Nothing is marked
 /// where it is not known what was before.
 pub fn changed(set: u64, before: Option<u64>, name: impl Fn(usize) -> String) -> String {
-    let before = before.unwrap_or(set);
+    changed_inputs(Given::heard(set), before.map(Given::heard), name)
+}
+
+/// The same of inputs, with those that are not heard at the end, marked with ?. One that is not heard, now or before, neither came nor went.
+pub fn changed_inputs(now: Given, before: Option<Given>, name: impl Fn(usize) -> String) -> String {
+    let before = before.map_or(now.present, |before| before.present & !now.unheard | now.present & before.unheard);
     let came = |n: usize| if before >> n & 1 == 0 { "+" } else { "" };
-    let mut words: Vec<String> = members(set).map(|n| format!("{}{}", came(n), name(n))).collect();
-    words.extend(members(before & !set).map(|n| format!("-{}", name(n))));
+    let mut words: Vec<String> = members(now.present).map(|n| format!("{}{}", came(n), name(n))).collect();
+    words.extend(members(before & !now.present).map(|n| format!("-{}", name(n))));
+    words.extend(members(now.unheard).map(|n| format!("{}{}", UNHEARD, name(n))));
     if words.is_empty() {
         return NONE.to_string();
     }
@@ -41,8 +68,9 @@ pub fn pauses(numbers: &[usize]) -> String {
     format!("pause{} {}", if words.len() == 1 { "" } else { "s" }, listed(&words))
 }
 
-/// The input sets of a text: names between semicolons, `-` for a set without an input.
-pub fn parse(text: &str, labels: &Labels) -> Outcome<Vec<u64>> {
+/// The input sets of a text: names between semicolons, `?` before one that is not heard, `-` for a set without an input, `?` for one of which no
+/// input is heard.
+pub fn parse(text: &str, labels: &Labels) -> Outcome<Vec<Given>> {
     text.split(';').enumerate().map(|(n, part)| set(part, labels).map_err(|trouble| placed(trouble, n))).collect()
 }
 
@@ -51,32 +79,55 @@ fn placed(mut trouble: Trouble, n: usize) -> Trouble {
     trouble
 }
 
-fn set(part: &str, labels: &Labels) -> Outcome<u64> {
+fn set(part: &str, labels: &Labels) -> Outcome<Given> {
     let words: Vec<&str> = part.split(|c: char| c.is_whitespace() || c == ',').filter(|word| !word.is_empty()).collect();
     match words.as_slice() {
         [] => Err(Trouble::call("there is nothing in it").advise("write - for a set without an input; semicolons stand between sets alone")),
-        [NONE] => Ok(0),
-        _ => words.iter().try_fold(0, |set, word| Ok(set | 1 << input(word, labels)?)),
+        [NONE] => Ok(Given::default()),
+        [UNHEARD] => Ok(Given { present: 0, unheard: labels.all_inputs() }),
+        _ => words.iter().try_fold(Given::default(), |given, word| with_input(given, word, labels)),
     }
+}
+
+/// The set with one input more, which is present, or after a ? not heard.
+fn with_input(mut given: Given, word: &str, labels: &Labels) -> Outcome<Given> {
+    match word.strip_prefix(UNHEARD) {
+        None => given.present |= 1 << input(word, labels)?,
+        Some("") => return Err(Trouble::call("? alone is a set of which no input is heard").advise("write ?NAME for one input that is not heard")),
+        Some(name) => given.unheard |= 1 << declared(name, labels)?,
+    }
+    match given.present & given.unheard {
+        0 => Ok(given),
+        both => Err(Trouble::call(format!("{} is given as present and as not heard", sentence(both, |n| labels.input(n))))),
+    }
+}
+
+/// The number of an input that the block has: of another the library would not be told that it is not heard.
+fn declared(name: &str, labels: &Labels) -> Outcome<usize> {
+    let n = input(name, labels)?;
+    if labels.inputs().contains(&n) {
+        return Ok(n);
+    }
+    Err(no_input(format!("the block has no input '{}'", name), labels))
 }
 
 /// The number of an input. One that the block does not have may be given by its number: the library refuses it.
 fn input(word: &str, labels: &Labels) -> Outcome<usize> {
-    let wrong = |why: String| {
-        let inputs = labels.inputs().fold(0, |set, n| set | 1 << n);
-        Trouble::call(why).advise(format!("the block's inputs: {}", sentence(inputs, |n| labels.with_number(n))))
-    };
     match (labels.find(word), number_name(word)) {
         (Some(signal), _) if labels.sort(signal) == Some(Sort::Input) => Ok(signal),
-        (Some(signal), _) => Err(wrong(format!("{} is no input but {} {}", word, article(labels, signal), "of the block"))),
+        (Some(signal), _) => Err(no_input(format!("{} is no input but {} {}", word, article(labels, signal), "of the block"), labels)),
         (None, Some(('i', number))) if number < 64 => Ok(number),
         (None, _) => {
             let near = near(word, labels).map(|name| format!("is {} meant?", name));
-            let mut trouble = wrong(format!("the block has no input '{}'", word));
+            let mut trouble = no_input(format!("the block has no input '{}'", word), labels);
             trouble.lines.splice(1..1, near);
             Err(trouble)
         }
     }
+}
+
+fn no_input(why: String, labels: &Labels) -> Trouble {
+    Trouble::call(why).advise(format!("the block's inputs: {}", sentence(labels.all_inputs(), |n| labels.with_number(n))))
 }
 
 /// The input that is called so in other letters, small for capital, or nearly so.
@@ -106,10 +157,28 @@ mod tests {
 
     #[test]
     fn parsed() {
-        assert_eq!(parse("DEMAND; i0 i1,;-; i63", &labels()).unwrap(), [1, 3, 0, 1 << 63]);
+        assert_eq!(parse("DEMAND; i0 i1,;-; i63", &labels()).unwrap(), [1, 3, 0, 1 << 63].map(Given::heard));
         for text in ["", "DEMAND;", "A", "o2", "s3", "i64", "- DEMAND", "demand"] {
             assert!(parse(text, &labels()).is_err(), "{}", text);
         }
+    }
+
+    #[test]
+    fn not_heard() {
+        let given = |present, unheard| Given { present, unheard };
+        assert_eq!(parse("?DEMAND; i0 ?i1; ?; ?i0,?i1", &labels()).unwrap(), [given(0, 1), given(1, 2), given(0, 3), given(0, 3)]);
+        assert_eq!([given(1, 2).absent(7), given(0, 3).absent(3)], [4, 0]);
+        for text in ["DEMAND ?DEMAND", "?i2", "?i63", "?o2", "? DEMAND", "?-", "??i0", "?demand"] {
+            assert!(parse(text, &labels()).is_err(), "{}", text);
+        }
+    }
+
+    #[test]
+    fn told_with_inputs_not_heard() {
+        let (name, given) = (|n: usize| format!("i{}", n), |present, unheard| Given { present, unheard });
+        assert_eq!(changed_inputs(given(0b0001, 0b0110), Some(given(0b0010, 0)), name), "+i0 ?i1 ?i2");
+        assert_eq!(changed_inputs(given(0b0011, 0), Some(given(0b1000, 0b0101)), name), "i0 +i1 -i3");
+        assert_eq!([changed_inputs(given(0, 3), None, name), changed_inputs(given(0, 0), Some(given(0, 3)), name)], ["?i0 ?i1", "-"]);
     }
 
     #[test]

@@ -8,7 +8,7 @@ use Rattle.reaction.proofs.past_tests.Statement.{statement}
 use Rattle.reaction.proofs.past_tests.Tie as tie
 use Rattle.reaction.proofs.past_tests.Reads as reads
 use Rattle.reaction.proofs.past_tests.Lts as lts
-use Rattle.evaluate.proofs.rounds.all_heard.Reads as all-heard-reads
+use Rattle.reaction.proofs.hearing.Reads as hearing-reads
 use Rattle.evaluate.proofs.rounds.react.Reads as react-reads
 use Rattle.reaction.proofs.no_state.Reads as no-state-reads
 use Rattle.reaction.proofs.of_reaction.Reads as of-reaction-reads
@@ -19,8 +19,8 @@ no-state-requires c κs = search needs
 returns : tie.Need-returns
 returns c = λ g o st b. room-way o st _ (c .before .if1 .taken) (c .no-state .ensures)
 
-all-heard-requires : tie.Need-all-heard-requires
-all-heard-requires c κs = omega (arith, few-signals (c .before .pre .1))
+hearing-requires : tie.Need-hearing-requires
+hearing-requires c κs = omega (arith, few-signals (c .before .pre .1))
 
 react-requires : tie.Need-react-requires
 react-requires c κs = (few-signals (c .before .before .pre .1), record { tree = c .before .before .pre .0 .body; there = placed (c .before .before .pre .1) })
@@ -29,7 +29,7 @@ of-reaction-requires : tie.Need-of-reaction-requires
 of-reaction-requires c κs = search needs
 
 returns-2 : tie.Need-returns-2
-returns-2 c = λ g o st b. react-way o st _ (c .before .react .result) (c .before .before .all-heard .result) b (c .before .react .ensures (g .body) (placed o)) (c .before .before .all-heard .ensures) (c .of-reaction .ensures) (c .before .before .before .if1 .left)
+returns-2 c = λ g o st b. react-way o st _ (c .before .react .result) (c .before .before .hearing .result) b (c .before .react .ensures (g .body) (placed o)) (c .before .before .hearing .ensures) (c .of-reaction .ensures) (c .before .before .before .if1 .left)
 
 pub past-tests-spec : {M : Type 1} → statement M
 past-tests-spec =
@@ -37,7 +37,7 @@ past-tests-spec =
     (tie.spec
     no-state-requires
     returns
-    all-heard-requires
+    hearing-requires
     react-requires
     of-reaction-requires
     returns-2)

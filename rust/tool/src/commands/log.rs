@@ -7,11 +7,11 @@ use crate::files;
 use crate::json::Object;
 use crate::labels::{members, Labels};
 use crate::layout::{LogRecord, RECORD};
-use crate::log::{next, no_log, no_record, other_file, Next};
+use crate::log::{no_log, no_record, other_file, Next, Records};
 use crate::names;
 use crate::output::Out;
 use crate::run::words::{code, columns};
-use crate::sets::changed;
+use crate::sets::{changed, changed_inputs, Given};
 use crate::status::Status;
 use crate::table::Table;
 use crate::trouble::{Outcome, Trouble};
@@ -31,7 +31,9 @@ pub static COMMAND: Command = Command {
     ],
     more: "A log has a record for each answered instant and none for a refused one, so its records are numbered by themselves. What\n\
            changed since the record before is marked: + came, - went. In the first record what was before is not known, and nothing\n\
-           is marked. A log does not name its block: whose it is, is yours to say.\n",
+           is marked. ? marks an input that was not heard: with --block any, else those below the highest input that is told of in\n\
+           the record, for a log does not say how many inputs there are. Records of 24 bytes, from before version 2.0.0, are read too:\n\
+           in them every input is heard. A log does not name its block: whose it is, is yours to say.\n",
     run,
 };
 
@@ -42,19 +44,15 @@ fn run(words: &Words, out: &mut Out) -> Outcome<Status> {
         None => Labels::default(),
     };
     let path = Path::new(word);
-    let mut reader = BufReader::new(files::open(path).map_err(|why| files::unread(path, &why))?);
+    let mut records = Records::new(BufReader::new(files::open(path).map_err(|why| files::unread(path, &why))?), path);
     let mut printer = Printer { labels: &labels, json: words.has("--json"), table: Table::new(columns(&labels, "record", false)), before: None };
-    let mut number = 0;
     printer.begin(out)?;
     loop {
-        match next(&mut reader, path)? {
-            Next::End => return printer.end(number, out),
-            Next::Short(bytes) => return Err(short(path, number, &bytes)),
-            Next::Record(bytes) => {
-                number += 1;
-                let record = LogRecord::of(&bytes).ok_or_else(|| no_record(path, number, &bytes))?;
-                printer.record(number, record, out)?;
-            }
+        match records.next()? {
+            Next::End => return printer.end(records.number, out),
+            Next::Short(bytes) => return Err(short(path, records.number, &bytes)),
+            Next::Strange(bytes) => return Err(no_record(path, records.number + 1, records.at, &bytes)),
+            Next::Record(record) => printer.record(records.number, record, out)?,
         }
     }
 }
@@ -88,18 +86,34 @@ impl Printer<'_> {
         if self.json {
             let inputs: Vec<String> = members(record.inputs).map(|n| labels.input(n)).collect();
             let outputs: Vec<String> = members(record.outputs).map(|n| labels.output(n)).collect();
-            let object = Object::new().number("record", number).texts("inputs", &inputs).texts("outputs", &outputs);
+            let object = Object::new().number("record", number).texts("inputs", &inputs);
+            let object = match record.absent {
+                Some(absent) => object.texts("absent", &members(absent).map(|n| labels.input(n)).collect::<Vec<_>>()),
+                None => object,
+            };
+            let object = object.texts("outputs", &outputs);
             return out.line(&object.number("code", record.code).number("rounds", record.rounds).done());
         }
         let cells = [
             number.to_string(),
-            changed(record.inputs, self.before.map(|before| before.inputs), |n| labels.input(n)),
+            changed_inputs(self.given(&record), self.before.map(|before| self.given(&before)), |n| labels.input(n)),
             changed(record.outputs, self.before.map(|before| before.outputs), |n| labels.output(n)),
             code(record.code),
             record.rounds.to_string(),
         ];
         self.before = Some(record);
         out.line(&self.table.row(&cells.iter().map(String::as_str).collect::<Vec<_>>()))
+    }
+
+    /// The inputs of a record. Where the block is not known, at least the inputs below the highest that is told of are its.
+    fn given(&self, record: &LogRecord) -> Given {
+        let absent = match record.absent {
+            Some(absent) => absent,
+            None => return Given::heard(record.inputs),
+        };
+        let told = record.inputs | absent;
+        let all = if self.labels.signals() > 0 { self.labels.all_inputs() } else { u64::MAX.checked_shr(told.leading_zeros()).unwrap_or(0) };
+        Given { present: record.inputs, unheard: all & !told }
     }
 
     fn end(&self, number: u64, out: &mut Out) -> Outcome<Status> {

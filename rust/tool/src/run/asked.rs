@@ -36,6 +36,8 @@ pub struct Asked {
     pub from: Option<PathBuf>,
     pub to: Option<PathBuf>,
     pub log: Option<PathBuf>,
+    /// Whether a 13 with inputs not heard is looked into.
+    pub waits: bool,
 }
 
 impl Asked {
@@ -49,7 +51,7 @@ impl Asked {
         });
         let inputs = inputs_of(words, &block)?;
         let path = |name: &str| words.value(name).map(PathBuf::from);
-        let asked = Asked { block, inputs, form, expect: path("--expect"), from: path("--from"), to: path("--to"), log: path("--log") };
+        let asked = Asked { block, inputs, form, expect: path("--expect"), from: path("--from"), to: path("--to"), log: path("--log"), waits: words.has("--waits") };
         asked.look()?;
         Ok(asked)
     }
@@ -58,6 +60,9 @@ impl Asked {
     fn look(&self) -> Outcome<()> {
         if self.expect.is_some() && (self.to.is_some() || self.log.is_some()) {
             return Err(Trouble::call("--expect only compares: it does not go together with --to or --log"));
+        }
+        if self.waits && !matches!(self.form(), Some(Form::Table | Form::Json)) {
+            return Err(Trouble::call("--waits is told in the table and with --json alone"));
         }
         let named = [Some(self.block.as_path()), self.inputs_file(), self.expect.as_deref(), self.from.as_deref()];
         let read: Vec<&Path> = named.iter().flatten().copied().collect();

@@ -1,10 +1,11 @@
-//! Comma-separated values: a head, then a line an instant. A refused instant has x for its outputs, code and active pauses.
+//! Comma-separated values: a head, then a line an instant. A refused instant has x for its outputs, code and active pauses, and an input that is not
+//! heard has ?.
 
 use super::style::{short, Step, Style, Tally};
 use crate::block::Report;
 use crate::labels::Labels;
 use crate::output::{say, Out};
-use crate::sets::UNKNOWN;
+use crate::sets::{Given, UNKNOWN};
 use crate::trouble::Outcome;
 use foldheron::Instant;
 
@@ -16,12 +17,13 @@ pub struct Csv<'a> {
 const FIXED: &str = "instant,refusal,code,active,undecided,rounds,inputs,outputs";
 
 impl Csv<'_> {
-    /// A column for each signal of a set; x where the set is not known.
-    fn columns(&self, line: &mut String, signals: std::ops::Range<usize>, set: Option<u64>) {
+    /// A column for each signal of a set; x where the set is not known, ? where the signal is not heard.
+    fn columns(&self, line: &mut String, signals: std::ops::Range<usize>, set: Option<Given>) {
         for n in signals {
-            line.push_str(match set.map(|set| set >> n & 1) {
+            line.push_str(match set.map(|set| (set.unheard >> n & 1, set.present >> n & 1)) {
                 None => ",x",
-                Some(0) => ",0",
+                Some((1, _)) => ",?",
+                Some((_, 0)) => ",0",
                 Some(_) => ",1",
             });
         }
@@ -47,9 +49,9 @@ impl Style for Csv<'_> {
     fn step(&mut self, step: &Step, out: &mut Out) -> Outcome<()> {
         let (numbers, outputs) = fields(&step.answer);
         let set = outputs.map_or(UNKNOWN.to_string(), |set| set.to_string());
-        let mut line = format!("{},{},{},{},{}", step.number, step.answer.number(), numbers, step.inputs, set);
+        let mut line = format!("{},{},{},{},{}", step.number, step.answer.number(), numbers, step.inputs.present, set);
         self.columns(&mut line, self.labels.inputs(), Some(step.inputs));
-        self.columns(&mut line, self.labels.outputs(), outputs);
+        self.columns(&mut line, self.labels.outputs(), outputs.map(Given::heard));
         out.line(&line)
     }
 

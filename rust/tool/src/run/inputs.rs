@@ -1,20 +1,21 @@
-//! Sets of inputs as they come: 8 bytes each from a file or a pipe, or all at hand. Memory is constant.
+//! Sets of inputs as they come: 8 bytes each from a file or a pipe, of which every input is heard, or all at hand. Memory is constant.
 
 use crate::files::{self, open};
 use crate::layout::SET;
+use crate::sets::Given;
 use crate::trouble::Outcome;
 use std::io::{self, ErrorKind, Read};
 use std::path::{Path, PathBuf};
 
 pub enum Next {
-    Set(u64),
+    Set(Given),
     /// The stream ends within a set, after so many of its bytes.
     Short(usize),
     End,
 }
 
 pub enum Source {
-    Sets(std::vec::IntoIter<u64>),
+    Sets(std::vec::IntoIter<Given>),
     Stream(Stream),
 }
 
@@ -28,7 +29,7 @@ pub struct Stream {
 }
 
 impl Source {
-    pub fn of_sets(sets: Vec<u64>) -> Source {
+    pub fn of_sets(sets: Vec<Given>) -> Source {
         Source::Sets(sets.into_iter())
     }
 
@@ -73,7 +74,7 @@ impl Stream {
         let mut set = [0; SET];
         set.copy_from_slice(&self.buffer[self.start..self.start + SET]);
         self.start += SET;
-        Ok(Next::Set(u64::from_le_bytes(set)))
+        Ok(Next::Set(Given::heard(u64::from_le_bytes(set))))
     }
 
     /// Reads some more bytes; none at the end.

@@ -2,6 +2,7 @@
 //! a name, or a text, would read as low.
 
 use super::style::{Step, Style, Tally};
+use super::waits::Waits;
 use crate::block::Report;
 use crate::commands::check;
 use crate::json::Object;
@@ -28,7 +29,12 @@ impl Json<'_> {
 impl Style for Json<'_> {
     fn step(&mut self, step: &Step, out: &mut Out) -> Outcome<()> {
         let number = step.answer.number();
-        let object = Object::new().number("instant", step.number).texts("inputs", &self.names(step.inputs, Labels::input)).number("refusal", number);
+        let object = Object::new().number("instant", step.number).texts("inputs", &self.names(step.inputs.present, Labels::input));
+        let object = match step.inputs.unheard {
+            0 => object,
+            unheard => object.texts("unheard", &self.names(unheard, Labels::input)),
+        };
+        let object = object.number("refusal", number);
         let object = match &step.answer {
             Instant::Answered(r) => {
                 let object = object.number("code", r.code).texts("outputs", &self.names(r.present, Labels::output));
@@ -36,7 +42,15 @@ impl Style for Json<'_> {
             }
             Instant::NotConstructive(d) => {
                 let object = object.text("name", name_of(number).unwrap_or("")).null("outputs");
-                object.texts("undecided", &self.names(self.undecided(d), Labels::output)).number("rounds", d.rounds)
+                let object = object.texts("undecided", &self.names(self.undecided(d), Labels::output)).number("rounds", d.rounds);
+                match step.waits.as_ref().zip(self.labels) {
+                    Some((Waits::Perhaps(with, without), labels)) => {
+                        let names = |inputs: &[usize]| inputs.iter().map(|n| labels.input(*n)).collect::<Vec<_>>();
+                        object.lists("waits", &[]).texts("if_present", &names(with)).texts("if_absent", &names(without))
+                    }
+                    Some((waits, labels)) => object.lists("waits", &waits.names(labels)),
+                    None => object,
+                }
             }
             _ => object.text("name", name_of(number).unwrap_or("")).null("outputs"),
         };

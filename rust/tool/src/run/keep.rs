@@ -8,9 +8,10 @@ use crate::layout::{begins_state, HEAD, RECORD, STATE};
 use crate::log::Log;
 use crate::refusal;
 use crate::replace::{look, replace};
+use crate::sets::Given;
 use crate::status::Status;
 use crate::trouble::{Outcome, Trouble};
-use foldheron::{fresh, instant, instant_logged, Instant};
+use foldheron::{fresh, instant, instant_heard, instant_heard_logged, instant_logged, Instant};
 use std::path::{Path, PathBuf};
 
 pub struct Kept {
@@ -37,13 +38,17 @@ impl Kept {
     }
 
     /// One instant, and its record where it is answered and a log is kept.
-    pub fn instant(&mut self, block: &[u8], inputs: u64) -> Outcome<Instant> {
+    pub fn instant(&mut self, block: &Block, given: Given) -> Outcome<Instant> {
         let log = match &mut self.log {
             Some(log) => log,
-            None => return Ok(instant(block, &mut self.state, inputs)),
+            None => return Ok(one(block, &mut self.state, given)),
         };
+        let (bytes, state, absent) = (&block.bytes, &mut self.state, given.absent(block.labels.all_inputs()));
         let mut record = [0; RECORD];
-        let logged = instant_logged(block, &mut self.state, inputs, &mut record, 0);
+        let logged = match given.unheard {
+            0 => instant_logged(bytes, state, given.present, &mut record, 0),
+            _ => instant_heard_logged(bytes, state, given.present, absent, &mut record, 0),
+        };
         if let Instant::Answered(_) = logged.answer {
             log.append(&record)?;
         }
@@ -67,6 +72,14 @@ impl Kept {
             Some(log) => trouble.advise(log.take_back()),
             None => trouble,
         }
+    }
+}
+
+/// One instant over a state, without a log.
+fn one(block: &Block, state: &mut [u8], given: Given) -> Instant {
+    match given.unheard {
+        0 => instant(&block.bytes, state, given.present),
+        _ => instant_heard(&block.bytes, state, given.present, given.absent(block.labels.all_inputs())),
     }
 }
 

@@ -9,6 +9,7 @@ mod keep;
 mod plain;
 mod progress;
 mod style;
+mod waits;
 pub mod words;
 
 use crate::args::{flag, with, Words};
@@ -29,14 +30,15 @@ use style::{Step, Style, Tally};
 pub static COMMAND: Command = Command {
     name: "run",
     does: "runs a block on sets of inputs",
-    call: "FILE [--inputs FILE | --in SETS] [--plain | --csv | --json] [--expect FILE]\n              [--from STATE] [--to STATE] [--log FILE] [--names FILE | --no-names]",
+    call: "FILE [--inputs FILE | --in SETS] [--plain | --csv | --json] [--expect FILE] [--waits]\n              [--from STATE] [--to STATE] [--log FILE] [--names FILE | --no-names]",
     options: &[
         with("--inputs", "FILE", "sets of 8 bytes each, read as they come; without it, and without --in, inputs.bin beside the block"),
-        with("--in", "SETS", "the sets in words, as \"DEMAND; DEMAND FAULT; -\": semicolons between sets, - for a set without an\ninput; an input is called by its name, or by its number as i0"),
+        with("--in", "SETS", IN_HELP),
         flag("--plain", "exactly the lines of the run program; a missing file is empty, and a line on standard error says so"),
         flag("--csv", "a line an instant with a column for each signal: 1, 0, or x for the outputs of a refused instant"),
         flag("--json", "an object an instant, on a line of its own; the outputs of a refused instant are null"),
         with("--expect", "FILE", "compare with FILE, which has the lines of --plain, and say which is the first that differs;\nrefused instants that are expected count as good"),
+        flag("--waits", "of a 13 with inputs not heard, which input, or which two, would settle it: found by trying every status\nof each; in the table and with --json"),
         with("--from", "STATE", "go on from the state in STATE; without it the run begins afresh"),
         with("--to", "STATE", "save the next state in STATE, which may be the file of --from"),
         with("--log", "FILE", "put a record behind FILE for each answered instant"),
@@ -47,8 +49,14 @@ pub static COMMAND: Command = Command {
     run,
 };
 
+const IN_HELP: &str = "the sets in words, as \"DEMAND; DEMAND FAULT; -\": semicolons between sets, - for a set without an
+input; an input is called by its name, or by its number as i0; ?NAME is an input that is not heard,
+and ? a set of which no input is heard; without a ? what is not named is absent";
+
 const MORE: &str = "In the table + marks what came and - what went: of inputs since the instant before, of outputs since the last answered one.
-In the first instant after --from what was before is not known, and nothing is marked.
+In the first instant after --from what was before is not known, and nothing is marked; nor is an input that was not heard then.
+An instant with inputs not heard is answered where they make no difference; else it is refused with 13. ? marks them, in the
+columns of --csv too, and --json lists them as unheard. The sets of a file have every input heard.
 A refused instant has no outputs: x stands in their place, and the state is as it was, so the next instant goes on from there.
 
 What is saved: the state is written beside STATE, flushed to the disk and put in its place in one step, after the last
@@ -70,7 +78,7 @@ fn run(words: &Words, out: &mut Out) -> Outcome<Status> {
     let mut source = asked.source(&block)?;
     let mut kept = Kept::open(&asked, &block)?;
     let mut style = style::of(&asked, &block)?;
-    let ended = all(&block, &mut source, &mut kept, style.as_mut(), out);
+    let ended = all(&asked, &block, &mut source, &mut kept, style.as_mut(), out);
     match ended.and_then(|tally| kept.save().map(|_| tally)) {
         Ok(tally) => {
             hint(&asked, &block, &tally);
@@ -81,7 +89,7 @@ fn run(words: &Words, out: &mut Out) -> Outcome<Status> {
 }
 
 /// Runs every set, and prints what its style says of it. Before the run waits for inputs, what is printed is written.
-fn all(block: &Block, source: &mut Source, kept: &mut Kept, style: &mut dyn Style, out: &mut Out) -> Outcome<Tally> {
+fn all(asked: &Asked, block: &Block, source: &mut Source, kept: &mut Kept, style: &mut dyn Style, out: &mut Out) -> Outcome<Tally> {
     let mut tally = Tally::default();
     let mut progress = Progress::new(source.total(), style.is_silent());
     style.begin(out)?;
@@ -91,8 +99,10 @@ fn all(block: &Block, source: &mut Source, kept: &mut Kept, style: &mut dyn Styl
         }
         match source.next()? {
             Next::Set(inputs) => {
-                let answer = kept.instant(&block.bytes, inputs)?;
-                let step = Step { number: tally.instants + 1, inputs, answer };
+                let answer = kept.instant(block, inputs)?;
+                let is_looked_for = asked.waits && inputs.unheard != 0 && answer.number() == 13;
+                let waits = Some(()).filter(|_| is_looked_for).map(|_| waits::found(block, kept.state(), inputs));
+                let step = Step { number: tally.instants + 1, inputs, answer, waits };
                 tally.count(&step);
                 style.step(&step, out)?;
                 progress.at(tally.instants);

@@ -1,19 +1,21 @@
 //! The forms in which a run is printed, and what they all are told.
 
 use super::asked::{Asked, Form};
-use super::{csv::Csv, expect::Expect, json::Json, plain::Plain, words::Table};
+use super::{csv::Csv, expect::Expect, json::Json, plain::Plain, waits::Waits, words::Table};
 use crate::block::{Block, Report};
 use crate::layout::SET;
 use crate::output::Out;
+use crate::sets::Given;
 use crate::trouble::Outcome;
 use crate::walk::counted;
 use foldheron::Instant;
 
-/// One instant: its number from 1, its inputs, and the library's answer.
+/// One instant: its number from 1, its inputs, the library's answer, and where it was looked for, what a 13 waits for.
 pub struct Step {
     pub number: u64,
-    pub inputs: u64,
+    pub inputs: Given,
     pub answer: Instant,
+    pub waits: Option<Waits>,
 }
 
 /// What a run came to.
@@ -22,6 +24,8 @@ pub struct Tally {
     pub instants: u64,
     /// Refusals by number, and how often.
     pub refused: Vec<(u16, u64)>,
+    /// Whether some input was not heard in some instant.
+    pub has_unheard: bool,
     /// Bytes left over at the end of the inputs.
     pub short: usize,
     pub state: Vec<u8>,
@@ -30,6 +34,7 @@ pub struct Tally {
 impl Tally {
     pub fn count(&mut self, step: &Step) {
         self.instants += 1;
+        self.has_unheard |= step.inputs.unheard != 0;
         let number = step.answer.number();
         if number == 0 {
             return;

@@ -6,7 +6,7 @@ use crate::labels::Labels;
 use crate::layout::State;
 use crate::output::Out;
 use crate::refusal;
-use crate::sets::{changed, pauses, sentence, UNKNOWN};
+use crate::sets::{changed, changed_inputs, pauses, sentence, Given, UNKNOWN};
 use crate::table::{self, Column, Side};
 use crate::trouble::Outcome;
 use crate::walk::{counted, grouped};
@@ -19,7 +19,7 @@ pub struct Table<'a> {
     labels: &'a Labels,
     table: table::Table,
     /// The inputs of the instant before, and the outputs of the last one that was answered.
-    inputs: Option<u64>,
+    inputs: Option<Given>,
     outputs: Option<u64>,
 }
 
@@ -57,31 +57,35 @@ impl<'a> Table<'a> {
     /// The table of a run; from fresh nothing was present before it, and after a saved state nobody knows.
     pub fn new(labels: &'a Labels, is_fresh: bool) -> Table<'a> {
         let table = table::Table::new(columns(labels, "instant", true));
-        Table { labels, table, inputs: Some(0).filter(|_| is_fresh), outputs: Some(0).filter(|_| is_fresh) }
+        Table { labels, table, inputs: Some(Given::default()).filter(|_| is_fresh), outputs: Some(0).filter(|_| is_fresh) }
     }
 
     /// Why an instant was refused, in a line under its outputs.
     fn why(&self, step: &Step) -> String {
         let labels = self.labels;
         match &step.answer {
-            Instant::NotConstructive(doubt) => self.in_doubt(doubt),
+            Instant::NotConstructive(doubt) => self.in_doubt(doubt, step.inputs.unheard != 0),
             Instant::Clash(first, second) => format!("pauses {} and {} cannot be active together", first, second),
             Instant::Refused(why) if why.number == 11 => {
-                let all = labels.inputs().fold(0, |set, n| set | 1 << n);
-                let more = sentence(step.inputs & !all, |n| labels.input(n));
+                let more = sentence(step.inputs.present & !labels.all_inputs(), |n| labels.input(n));
                 format!("the block has no input {}: it has {}", more, counted(labels.inputs().len() as u64, "input"))
             }
             other => refusal::meaning(other.number()),
         }
     }
 
-    fn in_doubt(&self, doubt: &Doubt) -> String {
+    fn in_doubt(&self, doubt: &Doubt, has_unheard: bool) -> String {
         let name = |n: usize| self.labels.output(n);
         let undecided = self.labels.all_outputs() & !(doubt.present | doubt.absent);
+        let cause = match has_unheard {
+            true => "a signal waits for an input that is not heard or for itself, perhaps by way of others",
+            false => "a signal waits for itself, perhaps by way of others",
+        };
         let waits = match undecided {
+            0 if has_unheard => "a test waits for an input that is not heard, or a local signal for itself, perhaps by way of others".to_string(),
             0 => "a local signal waits for itself, perhaps by way of others".to_string(),
-            one if one.is_power_of_two() => format!("{} is undecided: a signal waits for itself, perhaps by way of others", sentence(one, name)),
-            more => format!("{} are undecided: a signal waits for itself, perhaps by way of others", sentence(more, name)),
+            one if one.is_power_of_two() => format!("{} is undecided: {}", sentence(one, name), cause),
+            more => format!("{} are undecided: {}", sentence(more, name), cause),
         };
         match doubt.present {
             0 => waits,
@@ -98,14 +102,18 @@ impl Style for Table<'_> {
     fn step(&mut self, step: &Step, out: &mut Out) -> Outcome<()> {
         let labels = self.labels;
         let number = step.number.to_string();
-        let inputs = changed(step.inputs, self.inputs, |n| labels.input(n));
+        let inputs = changed_inputs(step.inputs, self.inputs, |n| labels.input(n));
         self.inputs = Some(step.inputs);
         let reaction = match &step.answer {
             Instant::Answered(reaction) => reaction,
             refused => {
                 let title = format!("{}  refused with {}", UNKNOWN, refusal::title(refused.number()));
                 out.line(&self.table.row(&[&number, &inputs, &title]))?;
-                return out.line(&format!("{}   {}", self.table.indent(2), self.why(step)));
+                out.line(&format!("{}   {}", self.table.indent(2), self.why(step)))?;
+                return match &step.waits {
+                    Some(waits) => out.line(&format!("{}   {}", self.table.indent(2), waits.in_words(labels))),
+                    None => Ok(()),
+                };
             }
         };
         let outputs = changed(reaction.present, self.outputs, |n| labels.output(n));
@@ -123,8 +131,10 @@ impl Style for Table<'_> {
             all => format!("{}: {} answered, {}", counted(tally.instants, "instant"), grouped(answered), all.join(", ")),
         };
         out.line(&format!("{}; {}", ends, after(&tally.state)))?;
-        if tally.instants > 0 {
-            out.line("+ came, - went, x no outputs")?;
+        match (tally.instants > 0, tally.has_unheard) {
+            (true, true) => out.line("+ came, - went, ? not heard, x no outputs")?,
+            (true, false) => out.line("+ came, - went, x no outputs")?,
+            _ => {}
         }
         if tally.short > 0 {
             out.line(&short(tally.short))?;

@@ -7,19 +7,19 @@ use Rattle.reaction.proofs.tests.at_inputs.Tie as tie
 use Rattle.reaction.proofs.tests.at_inputs.Reads as reads
 use Rattle.reaction.proofs.tests.at_inputs.Lts as lts
 use Rattle.reaction.proofs.tests.stopped.Reads as stopped-reads
-use Rattle.records.proofs.bits.input_over.Reads as input-over-reads
+use Rattle.reaction.proofs.wrong_inputs.Reads as wrong-inputs-reads
 
-input-over-requires : tie.Need-input-over-requires
-input-over-requires c κs = search needs
+wrong-inputs-requires : tie.Need-wrong-inputs-requires
+wrong-inputs-requires c κs = search needs
 
 stopped-requires : tie.Need-stopped-requires
 stopped-requires c κs = search needs
 
 returns : tie.Need-returns
-returns c = λ tab g o st b. input-way o st (c .before .before .before .args .given) (c .before .before .input-over .ensures) (c .before .if1 .taken) (c .stopped .ensures)
+returns c = λ tab g o st b. input-way o st (c .before .before .before .args .given) (c .before .before .wrong-inputs .ensures) (c .before .if1 .taken) (c .stopped .ensures)
 
 returns-2 : tie.Need-returns-2
-returns-2 c = λ tab g o st b. passed-way o st (c .before .before .args .given) (c .before .input-over .ensures) (c .if1 .left) b
+returns-2 c = λ tab g o st b. passed-way o st (c .before .before .args .given) (c .before .wrong-inputs .ensures) (c .if1 .left) b
 
 pub at-inputs-spec : {M : Type 1} → statement M
-at-inputs-spec = tie.close (tie.spec input-over-requires stopped-requires returns returns-2)
+at-inputs-spec = tie.close (tie.spec wrong-inputs-requires stopped-requires returns returns-2)

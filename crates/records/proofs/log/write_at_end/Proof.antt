@@ -26,7 +26,7 @@ same-length c = search needs
 
 returns : tie.Need-returns
 returns c = let a = c .before .before .before .before .before .args in
-    (refl, lent-on (now (a .log)) (a .end) (record { inputs = a .inputs; present = a .present; code = a .code .0; rounds = a .rounds }) (c .before .before .write-record .ensures))
+    (refl, lent-on (now (a .log)) (a .end) (record { inputs-present = a .present; inputs-absent = a .absent; outputs-present = a .outputs; code = a .code .0; rounds = a .rounds }) (c .before .before .write-record .ensures))
 
 pub write-at-end-spec : {M : Type 1} → statement M
 write-at-end-spec =

@@ -5,8 +5,8 @@ use Rattle.records.proofs.Writing.{log-stored}
 use Rattle.records.proofs.log.write_record.Statement.{statement}
 use Rattle.records.proofs.log.write_record.Tie as tie
 
-cast-t9 : tie.Need-cast-t9
-cast-t9 c = search needs
+cast-number : tie.Need-cast-number
+cast-number c = search needs
 
 slice-aggregate-put-fields : tie.Need-slice-aggregate-put-fields
 slice-aggregate-put-fields c = search needs
@@ -21,13 +21,13 @@ same-length : tie.Need-same-length
 same-length c = search needs
 
 returns : tie.Need-returns
-returns c = let a = c .before .before .before .before .before .before .before .before .args in log-stored (now (a .part)) (record { inputs = a .inputs; present = a .present; code = a .code .0; rounds = a .rounds }) (c .before .before .before .before .before .before .before .before .pre) (c .before .before .put-fields .ensures)
+returns c = let a = c .before .before .before .before .before .before .before .before .args in log-stored (now (a .part)) (record { inputs-present = a .present; inputs-absent = a .absent; outputs-present = a .outputs; code = a .code .0; rounds = a .rounds }) (c .before .before .before .before .before .before .before .before .pre) (c .before .before .put-fields .ensures)
 
 pub write-record-spec : {M : Type 1} → statement M
 write-record-spec =
     tie.close
     (tie.spec
-    cast-t9
+    cast-number
     slice-aggregate-put-fields
     slice-aggregate-put-fields-2
     put-fields-requires

@@ -1,12 +1,12 @@
--- `instant` meets its contract: the answer's fields are the verdict's, and only an answered one writes the state.
+-- `run` meets its contract: the answer's fields are the verdict's, and only an answered one writes the state.
 -- Assumes nothing.
 use mathlib.Core.Path.{sym, _∙_}
 use Rattle.foldheron.proofs.Calls.{was-answered, was-not}
 use borrow.Author.Needs.{needs}
-use Rattle.foldheron.proofs.instant.Statement.{statement}
-use Rattle.foldheron.proofs.instant.Tie as tie
-use Rattle.foldheron.proofs.instant.Reads as reads
-use Rattle.foldheron.proofs.instant.Lts as lts
+use Rattle.foldheron.proofs.run.Statement.{statement}
+use Rattle.foldheron.proofs.run.Tie as tie
+use Rattle.foldheron.proofs.run.Reads as reads
+use Rattle.foldheron.proofs.run.Lts as lts
 use Rattle.reaction.proofs.comes_to.Reads as comes-to-reads
 use Rattle.records.proofs.state.write_next.Reads as write-next-reads
 
@@ -31,8 +31,8 @@ same-length-2 c = search needs
 returns-2 : tie.Need-returns-2
 returns-2 c = (c .before .before .before .before .before .before .before .comes-to .ensures .told-is, c .before .before .write-next .ensures ∙ sym (was-answered _ _ _ _ (c .before .before .before .before .before .before .before .comes-to .ensures) (c .before .before .before .before .enum-told .given .1) .state-is))
 
-pub instant-spec : {M : Type 1} → statement M
-instant-spec =
+pub run-spec : {M : Type 1} → statement M
+run-spec =
     tie.close
     (tie.spec
     comes-to-requires

@@ -1,0 +1,62 @@
+-- `foldheron_instant_heard_logged`: nothing is written at another length; at the answer's, the values of the library's answer are. Assumes nothing.
+use mathlib.Core.Path.{_∙_, refl}
+use lib.ListN.{getD}
+use mir.Syntax.{w64}
+use mir.Val.{Fits}
+use denote.Ref.{now}
+use Rattle.reaction.specs.declared.Given.the-variants.{Two}
+use Rattle.exports.proofs.Laid.{answered, not-answered, at-length, at-another}
+use Rattle.exports.proofs.Counts.{fits, instant-counted}
+use Rattle.records.specs.LogRecord.{no-room}
+use borrow.Author.Needs.{needs}
+use Rattle.exports.proofs.foldheron_instant_heard_logged.Statement.{statement}
+use Rattle.exports.proofs.foldheron_instant_heard_logged.Tie as tie
+use Rattle.exports.proofs.foldheron_instant_heard_logged.Reads as reads
+use Rattle.exports.proofs.foldheron_instant_heard_logged.Lts as lts
+use Rattle.exports.proofs.layout.put_values.Reads as put-values-reads
+use Rattle.exports.proofs.values.instant_heard_logged.Reads as instant-heard-logged-reads
+
+returns : tie.Need-returns
+returns c = (not-answered 11 _ _ (c .if1 .taken), (at-another 11 _ _ _ (c .if1 .taken), at-another 11 _ _ _ (c .if1 .taken)))
+
+instant-heard-logged-requires : tie.Need-instant-heard-logged-requires
+instant-heard-logged-requires c κs = search needs
+
+slice-aggregate-put-values : tie.Need-slice-aggregate-put-values
+slice-aggregate-put-values c = search needs
+
+put-values-requires : tie.Need-put-values-requires
+put-values-requires c κs = search needs
+
+array-read-result : tie.Need-array-read-result
+array-read-result c = search needs
+
+cast-result : tie.Need-cast-result
+cast-result c = fits (c .before .before .before .before .before .before .before .before .before .instant-heard-logged .ensures .0) (instant-counted (now (c .before .before .before .before .before .before .before .before .before .before .before .before .before .before .before .before .before .args .block)) (now (c .before .before .before .before .before .before .before .before .before .before .before .before .before .before .before .before .before .args .state)) (Two (c .before .before .before .before .before .before .before .before .before .before .before .before .before .before .before .before .before .args .present) (c .before .before .before .before .before .before .before .before .before .before .before .before .before .before .before .before .before .args .absent)) (no-room (now (c .before .before .before .before .before .before .before .before .before .before .before .before .before .before .before .before .before .args .log)) (c .before .before .before .before .before .before .before .before .before .before .before .before .before .before .before .before .before .args .end)) _)
+
+same-length : tie.Need-same-length
+same-length c = search needs
+
+same-length-2 : tie.Need-same-length-2
+same-length-2 c = search needs
+
+same-length-3 : tie.Need-same-length-3
+same-length-3 c = search needs
+
+returns-2 : tie.Need-returns-2
+returns-2 c = let e = c .before .before .before .before .before .before .before .before .before .instant-heard-logged .ensures in (answered 11 _ _ refl (c .before .before .before .before .before .before .before .before .before .before .before .before .if1 .left) (e .0) (λ i. let f : Fits w64 (getD (c .before .before .before .before .before .before .before .before .before .instant-heard-logged .result) i 0) = search needs in f .fits) (c .before .before .put-values .ensures) refl, (e .1 .0 ∙ at-length 11 _ _ _ (c .before .before .before .before .before .before .before .before .before .before .before .before .if1 .left), e .1 .1 ∙ at-length 11 _ _ _ (c .before .before .before .before .before .before .before .before .before .before .before .before .if1 .left)))
+
+pub foldheron-instant-heard-logged-spec : {M : Type 1} → statement M
+foldheron-instant-heard-logged-spec =
+    tie.close
+    (tie.spec
+    returns
+    instant-heard-logged-requires
+    slice-aggregate-put-values
+    put-values-requires
+    array-read-result
+    cast-result
+    same-length
+    same-length-2
+    same-length-3
+    returns-2)

@@ -1,0 +1,26 @@
+-- `values::instant_heard`: the answer told, and the state as the library leaves it. Assumes nothing.
+use mathlib.Core.Path.{_∙_, ap}
+use Rattle.reaction.specs.Instants.{Told}
+use Rattle.exports.specs.Calls.{logged-values}
+use borrow.Author.Needs.{needs}
+use Rattle.exports.proofs.values.instant_heard.Statement.{statement}
+use Rattle.exports.proofs.values.instant_heard.Tie as tie
+use Rattle.exports.proofs.values.instant_heard.Reads as reads
+use Rattle.exports.proofs.values.instant_heard.Lts as lts
+use Rattle.exports.proofs.values.told_values.Reads as told-values-reads
+use Rattle.foldheron.proofs.instant_heard.Reads as instant-heard-reads
+
+instant-heard-requires : tie.Need-instant-heard-requires
+instant-heard-requires c κs = search needs
+
+told-values-requires : tie.Need-told-values-requires
+told-values-requires c κs = search needs
+
+same-length : tie.Need-same-length
+same-length c = search needs
+
+returns : tie.Need-returns
+returns c = (c .told-values .ensures ∙ ap (λ (t : Told). logged-values t 0) (c .before .before .before .instant-heard .ensures .0), c .before .before .before .instant-heard .ensures .1)
+
+pub instant-heard-spec : {M : Type 1} → statement M
+instant-heard-spec = tie.close (tie.spec instant-heard-requires told-values-requires same-length returns)
