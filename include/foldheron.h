@@ -61,6 +61,12 @@ extern "C" {
 #define FOLDHERON_ROOM 12            /* fewer than 32 bytes after the log's end, or no such end */
 #define FOLDHERON_NOT_CONSTRUCTIVE 13 /* the instant does not settle its code */
 #define FOLDHERON_INDEX 14           /* no statement of that number */
+/* Those of the shelf's calls, which have an order of their own: it stands at each. */
+#define FOLDHERON_PARTY 18           /* a party above 1 */
+#define FOLDHERON_SHELF 19           /* not the bytes of a shelf */
+#define FOLDHERON_TAKEN 20           /* the party has a block of that name there */
+#define FOLDHERON_QUOTA 21           /* the party would hold more than it may */
+#define FOLDHERON_ABSENT 22          /* the party has no block of that name there */
 #define FOLDHERON_ANSWER 64          /* not as many bytes as this call's answer has */
 
 /* A block has at most so many bytes, a state exactly so many, a log record exactly so many. */
@@ -142,6 +148,38 @@ uint16_t foldheron_instant_heard_logged(const uint8_t *block, size_t block_size,
 #define FOLDHERON_AT_COUNT 24
 uint16_t foldheron_excerpt(const uint8_t *block, size_t block_size, size_t n, uint8_t *answer, size_t answer_size);
 
+/* A shelf: exactly so many lent bytes, on which two parties, 0 and 1, keep blocks under names of their own, which are numbers. An empty shelf is
+ * that many zeros; there is no call that makes one. Each party may hold so many bytes of entries: an entry is 8 bytes and its block. For both
+ * parties together that is the whole shelf, so what either may still install always finds its room.
+ *
+ * On a shelf that began empty and that only these calls changed, what one party is told (number, place, and the bytes that it fetches)
+ * depends on its own calls alone. So no call tells where in the shelf a block lies. The shelf's bytes are both parties' bytes: who may read them
+ * reads all. What is said above of the lent bytes holds here too: the shelf, the block and the answer do not overlap, so a block is not installed
+ * from the shelf itself but fetched first; and no other thread touches the shelf during a call that may write it, or writes it during a fetch. */
+#define FOLDHERON_SHELF_SIZE 65536
+#define FOLDHERON_HELD_MOST 32768
+
+/* Puts a block on the shelf as the party's block of that name, after the last entry. Refused, no byte of the shelf changes; nothing is ever
+ * replaced. The answer, 16 bytes: number and place. Refusals: 18, 19, then 1 to 8 for the block, 20, 21. */
+#define FOLDHERON_INSTALL_SIZE 16
+uint16_t foldheron_install(uint8_t *shelf, size_t shelf_size, uint16_t party, uint16_t name, const uint8_t *block, size_t block_size,
+                           uint8_t *answer, size_t answer_size);
+
+/* Hands back the party's block of that name: it is copied to the front of the lent block, which belongs to the answer and has exactly
+ * FOLDHERON_BLOCK_MOST bytes. With another count of it the call gives back FOLDHERON_ANSWER and changes no byte of anything. Bytes behind the
+ * block stay as they were; refused, all of them do. The answer, 24 bytes: number, place, and how many bytes the block has, 0 where it was
+ * refused. Refusals: 18, 19, then 22. */
+#define FOLDHERON_FETCH_SIZE 24
+#define FOLDHERON_AT_FETCHED 16
+uint16_t foldheron_fetch(const uint8_t *shelf, size_t shelf_size, uint16_t party, uint16_t name, uint8_t *block, size_t block_size,
+                         uint8_t *answer, size_t answer_size);
+
+/* Takes the party's block of that name off the shelf. The entries behind it lie further to the front then, in their order and with their
+ * content, and zeros come behind them, so the room serves again. Refused, no byte of the shelf changes. The answer, 16 bytes: number and
+ * place. Refusals: 18, 19, then 22. */
+#define FOLDHERON_WITHDRAW_SIZE 16
+uint16_t foldheron_withdraw(uint8_t *shelf, size_t shelf_size, uint16_t party, uint16_t name, uint8_t *answer, size_t answer_size);
+
 /* The number of 8 bytes that begins at a byte of an answer. */
 static inline uint64_t foldheron_number(const uint8_t *answer, size_t at)
 {
@@ -170,6 +208,11 @@ static inline const char *foldheron_name(unsigned number)
     case FOLDHERON_NOT_CONSTRUCTIVE: return "NOT CONSTRUCTIVE";
     case FOLDHERON_INDEX: return "INDEX";
     case FOLDHERON_OTHER_BLOCK: return "OTHER BLOCK";
+    case FOLDHERON_PARTY: return "PARTY";
+    case FOLDHERON_SHELF: return "SHELF";
+    case FOLDHERON_TAKEN: return "TAKEN";
+    case FOLDHERON_QUOTA: return "QUOTA";
+    case FOLDHERON_ABSENT: return "ABSENT";
     case FOLDHERON_ANSWER: return "ANSWER";
     default: return NULL;
     }
@@ -195,6 +238,11 @@ struct foldheron_instant_answer {
 struct foldheron_excerpt_answer {
     uint16_t number;
     size_t place, offset, count;
+};
+
+struct foldheron_fetch_answer {
+    uint16_t number;
+    size_t place, count;
 };
 
 static inline struct foldheron_check_answer foldheron_read_check(const uint8_t *answer)
@@ -243,6 +291,15 @@ static inline struct foldheron_excerpt_answer foldheron_read_excerpt(const uint8
     a.place = (size_t)foldheron_number(answer, FOLDHERON_AT_PLACE);
     a.offset = (size_t)foldheron_number(answer, FOLDHERON_AT_OFFSET);
     a.count = (size_t)foldheron_number(answer, FOLDHERON_AT_COUNT);
+    return a;
+}
+
+static inline struct foldheron_fetch_answer foldheron_read_fetch(const uint8_t *answer)
+{
+    struct foldheron_fetch_answer a;
+    a.number = (uint16_t)foldheron_number(answer, FOLDHERON_AT_NUMBER);
+    a.place = (size_t)foldheron_number(answer, FOLDHERON_AT_PLACE);
+    a.count = (size_t)foldheron_number(answer, FOLDHERON_AT_FETCHED);
     return a;
 }
 

@@ -70,6 +70,8 @@ static void try_layout(void)
     EXPECT(foldheron_number(bytes, FOLDHERON_AT_OFFSET) == 2 && foldheron_number(bytes, FOLDHERON_AT_COUNT) == 3);
     EXPECT(FOLDHERON_CHECK_SIZE == 64 && FOLDHERON_FRESH_SIZE == 16 && FOLDHERON_INSTANT_SIZE == 80 && FOLDHERON_EXCERPT_SIZE == 32);
     EXPECT(FOLDHERON_BLOCK_MOST == 3086 && FOLDHERON_STATE_SIZE == 26 && FOLDHERON_RECORD_SIZE == 32);
+    EXPECT(FOLDHERON_INSTALL_SIZE == 16 && FOLDHERON_FETCH_SIZE == 24 && FOLDHERON_SHELF_SIZE == 65536 && FOLDHERON_HELD_MOST == 32768);
+    EXPECT(FOLDHERON_WITHDRAW_SIZE == 16);
 }
 
 /* The structs, against an answer whose n-th number is n. */
@@ -86,6 +88,8 @@ static void try_structs(void)
     EXPECT(i.rounds == 7 && i.code == 8 && i.active == 9 && i.end == 0 && l.end == 10 && l.active == 9);
     struct foldheron_excerpt_answer e = foldheron_read_excerpt(bytes);
     EXPECT(e.number == 0 && e.place == 1 && e.offset == 2 && e.count == 3);
+    struct foldheron_fetch_answer f = foldheron_read_fetch(bytes);
+    EXPECT(f.number == 0 && f.place == 1 && f.count == 2);
 }
 
 /* The names, against document 01's table and what later requests add to it. */
@@ -93,7 +97,8 @@ static void try_names(void)
 {
     static const char *const names[65] = {[1] = "BROKEN", [2] = "KIND", [3] = "EDITION", [4] = "LIMIT", [5] = "SIGNAL", [6] = "EXIT",
                                           [7] = "SHAPE", [8] = "LOOP", [9] = "STATE", [10] = "CLASH", [11] = "INPUT", [12] = "ROOM",
-                                          [13] = "NOT CONSTRUCTIVE", [14] = "INDEX", [17] = "OTHER BLOCK", [64] = "ANSWER"};
+                                          [13] = "NOT CONSTRUCTIVE", [14] = "INDEX", [17] = "OTHER BLOCK", [18] = "PARTY", [19] = "SHELF",
+                                          [20] = "TAKEN", [21] = "QUOTA", [22] = "ABSENT", [64] = "ANSWER"};
     for (unsigned number = 0; number < 70000; number++) {
         const char *wanted = number < 65 ? names[number] : NULL, *name = foldheron_name(number);
         EXPECT(wanted == NULL ? name == NULL : name != NULL && strcmp(name, wanted) == 0);
@@ -246,6 +251,200 @@ static void try_excerpt(void)
     EXPECT(foldheron_excerpt(block, sizeof block, 1, a.bytes, 33) == FOLDHERON_ANSWER && guarded(&a, 0));
 }
 
+/* A shelf as it is, and as it should be, with a guard of 8 bytes on either side. */
+static uint8_t lent_shelf[8 + FOLDHERON_SHELF_SIZE + 8], wanted[sizeof lent_shelf], *const shelf = lent_shelf + 8;
+
+/* The shelf that should be is empty. */
+static void want_empty(void)
+{
+    memset(wanted, 0xA5, sizeof wanted);
+    memset(wanted + 8, 0, FOLDHERON_SHELF_SIZE);
+}
+
+/* Lends the shelf that should be. */
+static void lend_wanted(void) { memcpy(lent_shelf, wanted, sizeof wanted); }
+
+static void empty_shelf(void)
+{
+    want_empty();
+    lend_wanted();
+}
+
+/* Puts an entry at a place of the shelf that should be; answers where the next one begins. */
+static size_t put_entry(size_t at, unsigned party, unsigned name, const uint8_t *bytes, size_t size)
+{
+    uint8_t *entry = wanted + 8 + at;
+    const unsigned head[] = {(unsigned)size + 8, 5, party, name};
+    for (int n = 0; n < 8; n++)
+        entry[n] = (uint8_t)(head[n / 2] >> 8 * (n % 2));
+    memcpy(entry + 8, bytes, size);
+    return at + size + 8;
+}
+
+/* Every byte of the shelf, and of those around it, is as it should be. */
+static int as_wanted(void) { return memcmp(lent_shelf, wanted, sizeof wanted) == 0; }
+
+/* An install on the lent shelf: it is told this number and place. */
+static int installs(unsigned party, unsigned name, const uint8_t *bytes, size_t size, uint16_t number, size_t place)
+{
+    const uint64_t numbers[] = {number, place};
+    struct lent a = lend();
+    uint16_t back = foldheron_install(shelf, FOLDHERON_SHELF_SIZE, (uint16_t)party, (uint16_t)name, bytes, size, a.bytes, FOLDHERON_INSTALL_SIZE);
+    return back == number && told(&a, FOLDHERON_INSTALL_SIZE, numbers);
+}
+
+static void try_install(void)
+{
+    static const uint64_t no_shelf[] = {19, 0}, no_party[] = {18, 0};
+    struct lent a = lend();
+    empty_shelf();
+    EXPECT(foldheron_install(shelf, FOLDHERON_SHELF_SIZE, 0, 7, block, sizeof block, a.bytes, 15) == FOLDHERON_ANSWER && guarded(&a, 0));
+    EXPECT(foldheron_install(shelf, FOLDHERON_SHELF_SIZE - 1, 0, 7, block, sizeof block, a.bytes, 16) == FOLDHERON_SHELF && told(&a, 16, no_shelf));
+    EXPECT(foldheron_install(shelf, FOLDHERON_SHELF_SIZE - 1, 2, 7, block, sizeof block, a.bytes, 16) == FOLDHERON_PARTY && told(&a, 16, no_party));
+    EXPECT(installs(0, 7, block, sizeof block - 1, FOLDHERON_BROKEN, 28) && as_wanted());
+    size_t end = put_entry(0, 0, 7, block, sizeof block);
+    EXPECT(installs(0, 7, block, sizeof block, FOLDHERON_GOOD, 0) && as_wanted());
+    EXPECT(installs(0, 7, pauses, sizeof pauses, FOLDHERON_TAKEN, 0) && as_wanted());
+    end = put_entry(end, 1, 7, pauses, sizeof pauses);
+    EXPECT(installs(1, 7, pauses, sizeof pauses, FOLDHERON_GOOD, 0) && as_wanted());
+    put_entry(end, 0, 65535, block, sizeof block);
+    EXPECT(installs(0, 65535, block, sizeof block, FOLDHERON_GOOD, 0) && as_wanted());
+    EXPECT(installs(65535, 7, block, sizeof block, FOLDHERON_PARTY, 0) && as_wanted());
+    EXPECT(installs(0, 7, block, sizeof block - 1, FOLDHERON_BROKEN, 28) && as_wanted());
+}
+
+/* The shelf that should be has the first count of 2 * 960 entries, by turns of each party, but for one; answers where they end. Of each party 16 have
+ * 42 bytes and 944 have 34, which is all that it may hold. */
+static size_t want_full(unsigned count, unsigned but)
+{
+    size_t end = 0;
+    want_empty();
+    for (unsigned n = 0; n < count; n++) {
+        const uint8_t *bytes = n / 2 < 16 ? block : pauses;
+        if (n != but)
+            end = put_entry(end, n % 2, n / 2, bytes, n / 2 < 16 ? sizeof block : sizeof pauses);
+    }
+    return end;
+}
+
+/* Each party's room to its last byte. */
+static void try_quota(void)
+{
+    size_t end = want_full(2 * 960 - 1, 2 * 960);
+    lend_wanted();
+    EXPECT(end + 34 == FOLDHERON_SHELF_SIZE);
+    EXPECT(installs(0, 960, pauses, sizeof pauses, FOLDHERON_QUOTA, 0) && as_wanted());
+    EXPECT(installs(0, 959, pauses, sizeof pauses, FOLDHERON_TAKEN, 0) && as_wanted());
+    EXPECT(installs(1, 959, block, sizeof block, FOLDHERON_QUOTA, 0) && as_wanted());
+    put_entry(end, 1, 959, pauses, sizeof pauses);
+    EXPECT(installs(1, 959, pauses, sizeof pauses, FOLDHERON_GOOD, 0) && as_wanted());
+    EXPECT(installs(1, 960, pauses, sizeof pauses, FOLDHERON_QUOTA, 0) && as_wanted());
+}
+
+/* Shelves that are none: each has one byte changed that makes it so. */
+static void try_no_shelf(void)
+{
+    static const struct { size_t at; uint8_t byte; } faults[] = {
+        {0, 43}, {0, 0}, {2, 4}, {4, 2}, {8, 13}, {8 + 14, 7}, {42, 7}, {42 + 4, 0}, {84, 1}, {FOLDHERON_SHELF_SIZE - 1, 1}};
+    empty_shelf();
+    put_entry(put_entry(0, 0, 7, block, sizeof block), 1, 7, block, sizeof block);
+    for (size_t n = 0; n < sizeof faults / sizeof faults[0]; n++) {
+        uint8_t *fault = wanted + 8 + faults[n].at, was = *fault;
+        *fault = faults[n].byte;
+        lend_wanted();
+        EXPECT(installs(0, 8, block, sizeof block, FOLDHERON_SHELF, 0) && as_wanted());
+        EXPECT(installs(0, 8, block, sizeof block - 1, FOLDHERON_SHELF, 0) && as_wanted());
+        EXPECT(installs(2, 8, block, sizeof block, FOLDHERON_PARTY, 0) && as_wanted());
+        *fault = was;
+    }
+}
+
+/* A fetch from the lent shelf: it is told this number and count, and these bytes; no other byte changes. */
+static int fetches(unsigned party, unsigned name, uint16_t number, const uint8_t *bytes, size_t size)
+{
+    static uint8_t into[FOLDHERON_BLOCK_MOST + 8], filled[sizeof into];
+    const uint64_t numbers[] = {number, 0, size};
+    struct lent a = lend();
+    memset(into, 0xA5, sizeof into);
+    memcpy(filled, into, sizeof filled);
+    memcpy(filled, bytes, size);
+    uint16_t back = foldheron_fetch(shelf, FOLDHERON_SHELF_SIZE, (uint16_t)party, (uint16_t)name, into, FOLDHERON_BLOCK_MOST, a.bytes, FOLDHERON_FETCH_SIZE);
+    return back == number && told(&a, FOLDHERON_FETCH_SIZE, numbers) && memcmp(into, filled, sizeof into) == 0 && as_wanted();
+}
+
+static void try_fetch(void)
+{
+    static const uint64_t no_shelf[] = {19, 0, 0};
+    static uint8_t into[FOLDHERON_BLOCK_MOST + 1];
+    struct lent a = lend();
+    empty_shelf();
+    EXPECT(fetches(0, 7, FOLDHERON_ABSENT, block, 0) && fetches(2, 7, FOLDHERON_PARTY, block, 0));
+    put_entry(put_entry(0, 1, 7, pauses, sizeof pauses), 0, 256, block, sizeof block);
+    lend_wanted();
+    EXPECT(fetches(1, 7, FOLDHERON_GOOD, pauses, sizeof pauses) && fetches(0, 256, FOLDHERON_GOOD, block, sizeof block));
+    EXPECT(fetches(0, 7, FOLDHERON_ABSENT, block, 0) && fetches(1, 256, FOLDHERON_ABSENT, block, 0));
+    for (size_t size = FOLDHERON_BLOCK_MOST - 1; size <= FOLDHERON_BLOCK_MOST + 1; size += 2)
+        EXPECT(foldheron_fetch(shelf, FOLDHERON_SHELF_SIZE, 1, 7, into, size, a.bytes, FOLDHERON_FETCH_SIZE) == FOLDHERON_ANSWER && guarded(&a, 0));
+    EXPECT(foldheron_fetch(shelf, FOLDHERON_SHELF_SIZE, 1, 7, into, FOLDHERON_BLOCK_MOST, a.bytes, 16) == FOLDHERON_ANSWER && guarded(&a, 0));
+    EXPECT(foldheron_fetch(shelf, FOLDHERON_SHELF_SIZE - 1, 1, 7, into, FOLDHERON_BLOCK_MOST, a.bytes, FOLDHERON_FETCH_SIZE) == FOLDHERON_SHELF);
+    EXPECT(told(&a, FOLDHERON_FETCH_SIZE, no_shelf) && into[0] == 0 && as_wanted());
+}
+
+/* A withdrawal from the lent shelf: it is told this number. */
+static int withdraws(unsigned party, unsigned name, uint16_t number)
+{
+    const uint64_t numbers[] = {number, 0};
+    struct lent a = lend();
+    uint16_t back = foldheron_withdraw(shelf, FOLDHERON_SHELF_SIZE, (uint16_t)party, (uint16_t)name, a.bytes, FOLDHERON_WITHDRAW_SIZE);
+    return back == number && told(&a, FOLDHERON_WITHDRAW_SIZE, numbers);
+}
+
+/* The shelf that should be has those of three entries whose bits are set, in their order. */
+static void want_entries(unsigned which)
+{
+    size_t end = 0;
+    want_empty();
+    if (which & 1)
+        end = put_entry(end, 0, 7, block, sizeof block);
+    if (which & 2)
+        end = put_entry(end, 1, 7, cycle, sizeof cycle);
+    if (which & 4)
+        put_entry(end, 0, 8, pauses, sizeof pauses);
+}
+
+/* Each of the three entries, from a shelf with any of them: those that are left keep their content and order, and zeros come behind them. */
+static void try_withdraw(void)
+{
+    static const unsigned parties[] = {0, 1, 0}, names[] = {7, 7, 8};
+    static const uint64_t no_shelf[] = {19, 0};
+    struct lent a = lend();
+    for (unsigned which = 0; which < 8; which++)
+        for (unsigned n = 0; n < 3; n++) {
+            want_entries(which);
+            lend_wanted();
+            want_entries(which & ~(1u << n));
+            EXPECT(withdraws(parties[n], names[n], which >> n & 1 ? FOLDHERON_GOOD : FOLDHERON_ABSENT) && as_wanted());
+        }
+    want_entries(7);
+    lend_wanted();
+    EXPECT(withdraws(2, 7, FOLDHERON_PARTY) && withdraws(1, 8, FOLDHERON_ABSENT) && as_wanted());
+    EXPECT(foldheron_withdraw(shelf, FOLDHERON_SHELF_SIZE, 0, 7, a.bytes, 17) == FOLDHERON_ANSWER && guarded(&a, 0) && as_wanted());
+    EXPECT(foldheron_withdraw(shelf, FOLDHERON_SHELF_SIZE - 1, 0, 7, a.bytes, 16) == FOLDHERON_SHELF && told(&a, 16, no_shelf) && as_wanted());
+}
+
+/* A shelf that is full to its last byte: the room of what a party withdraws serves that party again, and no byte more of it. */
+static void try_room(void)
+{
+    want_full(2 * 960, 2 * 960);
+    lend_wanted();
+    EXPECT(installs(0, 960, pauses, sizeof pauses, FOLDHERON_QUOTA, 0) && as_wanted());
+    size_t end = want_full(2 * 960, 2 * 100);
+    EXPECT(withdraws(0, 100, FOLDHERON_GOOD) && as_wanted() && end + 34 == FOLDHERON_SHELF_SIZE);
+    EXPECT(installs(1, 960, pauses, sizeof pauses, FOLDHERON_QUOTA, 0) && installs(0, 960, block, sizeof block, FOLDHERON_QUOTA, 0) && as_wanted());
+    put_entry(end, 0, 960, pauses, sizeof pauses);
+    EXPECT(installs(0, 960, pauses, sizeof pauses, FOLDHERON_GOOD, 0) && as_wanted());
+}
+
 int main(void)
 {
     try_layout();
@@ -260,6 +459,12 @@ int main(void)
     try_heard();
     try_heard_logged();
     try_excerpt();
+    try_install();
+    try_quota();
+    try_no_shelf();
+    try_fetch();
+    try_withdraw();
+    try_room();
     printf("calls: %d wrong\n", wrong);
     return wrong != 0;
 }

@@ -3,6 +3,7 @@
 
 use foldheron::{check, excerpt, fresh, instant, instant_heard, instant_heard_logged, instant_logged, name_of};
 use foldheron::{Doubt, Instant, Logged, Reaction, Refusal, Summary};
+use foldheron::{fetch, install, withdraw, BLOCK_MOST, HELD_MOST, SHELF};
 use std::sync::atomic::{AtomicUsize, Ordering};
 
 static WRONG: AtomicUsize = AtomicUsize::new(0);
@@ -159,6 +160,65 @@ fn try_heard_logged() {
     expect!(log[..5] == [0xA5; 5] && log[37..69] == record(0, 1, 0, 0) && log[69..] == [0xA5; 27]);
 }
 
+/// A shelf of these entries, laid out by hand: party, name and block.
+fn shelf_of(entries: &[(u16, u16, &[u8])]) -> Vec<u8> {
+    let mut shelf = Vec::new();
+    for (party, name, block) in entries {
+        for field in [8 + block.len() as u16, 5, *party, *name] {
+            shelf.extend_from_slice(&field.to_le_bytes());
+        }
+        shelf.extend_from_slice(block);
+    }
+    shelf.resize(SHELF, 0);
+    shelf
+}
+
+/// Installs and fetches from the empty shelf on: each byte of the shelf, and what is told, the first refusal that applies.
+fn try_shelf() {
+    expect!((18..23).filter_map(name_of).collect::<Vec<_>>().join(",") == "PARTY,SHELF,TAKEN,QUOTA,ABSENT");
+    let mut shelf = vec![0; SHELF];
+    expect!(install(&mut shelf, 0, 7, &BLOCK) == Ok(()) && shelf == shelf_of(&[(0, 7, &BLOCK)]));
+    expect!(install(&mut shelf, 1, 7, &CYCLE) == Ok(()) && install(&mut shelf, 0, u16::MAX, &BLOCK) == Ok(()));
+    let all = shelf_of(&[(0, 7, &BLOCK), (1, 7, &CYCLE), (0, u16::MAX, &BLOCK)]);
+    expect!(install(&mut shelf, 0, 7, &PAUSES) == Err(refused(20, 0)));
+    expect!(install(&mut shelf, 0, 7, &BLOCK[..33]) == Err(refused(1, 28)));
+    expect!(install(&mut shelf, 2, 7, &BLOCK[..33]) == Err(refused(18, 0)));
+    expect!(install(&mut shelf[..SHELF - 1], 0, 7, &BLOCK[..33]) == Err(refused(19, 0)));
+    expect!(install(&mut shelf[..SHELF - 1], 2, 7, &BLOCK) == Err(refused(18, 0)) && shelf == all);
+    let mut into = [0xA5; BLOCK_MOST];
+    expect!(fetch(&shelf, 1, u16::MAX, &mut into) == Err(refused(22, 0)));
+    expect!(fetch(&shelf, 2, 7, &mut into) == Err(refused(18, 0)));
+    expect!(fetch(&shelf[1..], 0, 7, &mut into) == Err(refused(19, 0)));
+    expect!(into == [0xA5; BLOCK_MOST]);
+    expect!(fetch(&shelf, 1, 7, &mut into) == Ok(&CYCLE[..]) && into[CYCLE.len()..] == [0xA5; BLOCK_MOST - CYCLE.len()]);
+    expect!(fetch(&shelf, 0, u16::MAX, &mut into) == Ok(&BLOCK[..]));
+}
+
+/// A party that holds 32,718 bytes of its 32,768: one entry of 42 bytes fits, and no second; the other party's room is its own.
+fn try_quota() {
+    let mine: Vec<(u16, u16, &[u8])> = (0..779).map(|name| (0, name, &BLOCK[..])).collect();
+    let mut shelf = shelf_of(&mine);
+    expect!(779 * 42 + 50 == HELD_MOST);
+    expect!(install(&mut shelf, 0, 900, &BLOCK) == Ok(()));
+    expect!(install(&mut shelf, 0, 901, &BLOCK) == Err(refused(21, 0)) && install(&mut shelf, 0, 900, &BLOCK) == Err(refused(20, 0)));
+    expect!(install(&mut shelf, 1, 901, &BLOCK) == Ok(()));
+}
+
+/// Every way to withdraw the three entries one after the other: what is left keeps its content and order, and zeros come behind it.
+fn try_withdraw() {
+    let all: [(u16, u16, &[u8]); 3] = [(0, 7, &BLOCK), (1, 7, &CYCLE), (0, 8, &PAUSES)];
+    for order in [[0, 1, 2], [0, 2, 1], [1, 0, 2], [1, 2, 0], [2, 0, 1], [2, 1, 0]] {
+        let (mut left, mut shelf) = (all.to_vec(), shelf_of(&all));
+        for (party, name, _) in order.map(|n: usize| all[n]) {
+            left.retain(|entry| (entry.0, entry.1) != (party, name));
+            expect!(withdraw(&mut shelf, 2, name) == Err(refused(18, 0)) && withdraw(&mut shelf[1..], 1, name) == Err(refused(19, 0)));
+            expect!(withdraw(&mut shelf, party, name) == Ok(()) && shelf == shelf_of(&left));
+            expect!(withdraw(&mut shelf, party, name) == Err(refused(22, 0)) && shelf == shelf_of(&left));
+        }
+        expect!(install(&mut shelf, 1, 7, &CYCLE) == Ok(()) && shelf == shelf_of(&all[1..2]));
+    }
+}
+
 fn try_excerpt() {
     expect!(excerpt(&BLOCK, 0) == Ok(&BLOCK[14..]));
     expect!(excerpt(&BLOCK, 1) == Ok(&BLOCK[20..]));
@@ -183,6 +243,9 @@ fn try_names() {
 
 fn main() {
     try_check();
+    try_shelf();
+    try_quota();
+    try_withdraw();
     try_fresh();
     try_instant();
     try_refusals();

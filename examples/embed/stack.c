@@ -21,6 +21,12 @@ static const uint8_t *top;
 static ucontext_t outside, inside;
 static uint32_t chance = 1;
 
+/* The shelf's calls are numbered after the others. */
+enum { INSTALL = CALLS, FETCH, WITHDRAW, ALL };
+static const char *const shelf_names[] = {"install", "fetch", "withdraw"};
+static uint8_t shelf[FOLDHERON_SHELF_SIZE], fetched[FOLDHERON_BLOCK_MOST];
+static size_t shelf_most[ALL - CALLS];
+
 /* A number below this one. */
 static unsigned any(unsigned below)
 {
@@ -71,6 +77,9 @@ static void run(void)
     uint8_t a[FOLDHERON_LOGGED_SIZE];
     top = a + sizeof a;
     switch (call) {
+    case INSTALL: number = foldheron_install(shelf, sizeof shelf, 0, 0, block, block_size, a, FOLDHERON_INSTALL_SIZE); break;
+    case FETCH: number = foldheron_fetch(shelf, sizeof shelf, 0, 0, fetched, sizeof fetched, a, FOLDHERON_FETCH_SIZE); break;
+    case WITHDRAW: number = foldheron_withdraw(shelf, sizeof shelf, 0, 0, a, FOLDHERON_WITHDRAW_SIZE); break;
     case 0: number = foldheron_check(block, block_size, a, FOLDHERON_CHECK_SIZE); break;
     case 1: number = foldheron_fresh(block, block_size, state, sizeof state, a, FOLDHERON_FRESH_SIZE); break;
     case 2: number = foldheron_instant(block, block_size, state, sizeof state, inputs, a, FOLDHERON_INSTANT_SIZE); break;
@@ -88,7 +97,7 @@ static void run(void)
 /* Runs a call and counts the bytes from its caller's answer down to the lowest that is no longer painted. */
 static uint16_t measure(int which)
 {
-    size_t low = 0;
+    size_t low = 0, *so_far = which < CALLS ? &most[which] : &shelf_most[which - CALLS];
     call = which;
     memset(painted, PAINT, sizeof painted);
     getcontext(&inside);
@@ -101,8 +110,8 @@ static uint16_t measure(int which)
         low++;
     size_t took = (size_t)(top - (painted + low));
     over += took > FOLDHERON_STACK_MOST;
-    if (took > most[which])
-        most[which] = took;
+    if (took > *so_far)
+        *so_far = took;
     return number;
 }
 
@@ -123,6 +132,16 @@ static unsigned try_block(void)
     return answered;
 }
 
+/* The shelf's calls: the block on an empty shelf, and once more, for it is read where it lies then. */
+static void try_shelf(void)
+{
+    memset(shelf, 0, sizeof shelf);
+    measure(INSTALL);
+    measure(INSTALL);
+    measure(FETCH);
+    measure(WITHDRAW);
+}
+
 /* A path of one kind, or of any: locals and traps as far as they may nest. */
 static unsigned try_path(unsigned only)
 {
@@ -137,6 +156,7 @@ static unsigned try_path(unsigned only)
         kinds[at] = (unsigned char)kind;
     }
     build(kinds, locals);
+    try_shelf();
     return try_block();
 }
 
@@ -151,6 +171,8 @@ int main(int count, char **words)
         answered += try_path(0);
     for (int n = 0; count > 1 && n < CALLS; n++)
         printf("%s: %lu bytes\n", names[n], (unsigned long)most[n]);
+    for (int n = 0; count > 1 && n < ALL - CALLS; n++)
+        printf("%s: %lu bytes\n", shelf_names[n], (unsigned long)shelf_most[n]);
     if (count > 1)
         printf("%u instants answered\n", answered);
     printf("stack: %d calls over %d bytes\n", over, FOLDHERON_STACK_MOST);

@@ -5,9 +5,10 @@ use std::fs;
 use std::io::{self, Write};
 
 use crate::block::decode;
-use crate::cases::{cases, Call, Case};
+use crate::cases::{cases, standing, Call, Case};
 use crate::family::Family;
 use crate::fault::Fault;
+use crate::reason::Asked;
 use crate::text::write_statement;
 use crate::values::Heard;
 
@@ -36,6 +37,10 @@ pub fn named(words: &[String]) -> Result<Vec<Case>, String> {
 /// A case as bytes: its head, the block, the state, the log.
 pub fn bytes(case: &Case) -> Vec<u8> {
     let none: &[u8] = &[];
+    // A shelf is lent whole, but the zeros at its end are only counted.
+    let on_shelf = |kind: u8, shelf: &[u8], party: u16, name: u16| {
+        (kind, none, none, vec![party as u64, name as u64, shelf.len() as u64, standing(shelf) as u64])
+    };
     let (kind, state, log, numbers) = match &case.call {
         Call::Check => (1, none, none, vec![0, 0]),
         Call::Fresh { state } => (2, &state[..], none, vec![0, 0]),
@@ -46,12 +51,20 @@ pub fn bytes(case: &Case) -> Vec<u8> {
         Call::HeardLogged { state, heard, log, end } => {
             (7, &state[..], &log[..], vec![heard.present, *end, heard.absent, 0])
         }
+        Call::Reason { state, heard, asked } => {
+            let (question, about) = asked.numbers();
+            (8, &state[..], none, vec![heard.present, about, heard.absent, question])
+        }
+        Call::Install { shelf, party, name } => on_shelf(9, shelf, *party, *name),
+        Call::Fetch { shelf, party, name } => on_shelf(10, shelf, *party, *name),
+        Call::Withdraw { shelf, party, name } => on_shelf(11, shelf, *party, *name),
+        Call::Maze { inputs } => (12, none, none, vec![*inputs, 0, 0, 0]),
     };
     let mut all = vec![kind, state.len() as u8];
     all.extend((log.len() as u16).to_le_bytes());
     all.extend((case.block.len() as u32).to_le_bytes());
     numbers.iter().for_each(|&number| all.extend(u64::to_le_bytes(number)));
-    [&all[..], &case.block[..], state, log].concat()
+    [&all[..], &case.block[..], state, log, case.shelf()].concat()
 }
 
 /// Reads cases back.
@@ -80,10 +93,13 @@ fn first(bytes: &[u8]) -> Option<(Case, &[u8])> {
     let block_size = u32::from_le_bytes([head[4], head[5], head[6], head[7]]) as usize;
     let state_at = size + block_size;
     let log_at = state_at + head[1] as usize;
-    let end = log_at + log_size;
+    let (shelf_size, stands) = if (9..12).contains(&head[0]) { (number(2) as usize, number(3) as usize) } else { (0, 0) };
+    let end = log_at + log_size + stands;
     let block = bytes.get(size..state_at)?.to_vec();
     let state = bytes.get(state_at..log_at)?.to_vec();
-    let log = bytes.get(log_at..end)?.to_vec();
+    let log = bytes.get(log_at..log_at + log_size)?.to_vec();
+    let mut shelf = bytes.get(log_at + log_size..end)?.to_vec();
+    shelf.resize(shelf_size, 0);
     let call = match head[0] {
         1 => Call::Check,
         2 => Call::Fresh { state },
@@ -92,6 +108,11 @@ fn first(bytes: &[u8]) -> Option<(Case, &[u8])> {
         5 => Call::Excerpt { index: other },
         6 => Call::Heard { state, heard },
         7 => Call::HeardLogged { state, heard, log, end: other },
+        8 => Call::Reason { state, heard, asked: Asked::of_numbers(number(3), other)? },
+        9 => Call::Install { shelf, party: inputs as u16, name: other as u16 },
+        10 => Call::Fetch { shelf, party: inputs as u16, name: other as u16 },
+        11 => Call::Withdraw { shelf, party: inputs as u16, name: other as u16 },
+        12 => Call::Maze { inputs },
         _ => return None,
     };
     Some((Case { block, call }, &bytes[end..]))

@@ -8,12 +8,18 @@ use crate::family::Family;
 use crate::fault::Fault;
 use crate::generate::{some_active, some_block, some_inputs, some_phase, Wish};
 use crate::heard_cases::{heard_edges, some_heard_case};
+use crate::maze::maze;
+use crate::mazes::{maze_edges, some_maze_case};
 use crate::mutate::some_mixed_block;
 use crate::reaction::Phase;
+use crate::reason::{reason, Asked};
+use crate::shelf::{Shelf, TRUE};
+use crate::shelf_cases::{shelf_edges, some_shelf_case};
 use crate::state::{
     check, excerpt, fresh, instant, instant_heard, instant_heard_with_log, instant_with_log, state_record, Answer, Told,
 };
 use crate::values::Heard;
+use crate::why_cases::{some_why_case, why_edges};
 
 #[derive(Clone, Debug)]
 pub enum Call {
@@ -24,6 +30,11 @@ pub enum Call {
     Heard { state: Vec<u8>, heard: Heard },
     HeardLogged { state: Vec<u8>, heard: Heard, log: Vec<u8>, end: u64 },
     Excerpt { index: u64 },
+    Reason { state: Vec<u8>, heard: Heard, asked: Asked },
+    Install { shelf: Vec<u8>, party: u16, name: u16 },
+    Fetch { shelf: Vec<u8>, party: u16, name: u16 },
+    Withdraw { shelf: Vec<u8>, party: u16, name: u16 },
+    Maze { inputs: u64 },
 }
 
 #[derive(Clone, Debug)]
@@ -38,6 +49,17 @@ fn hex(bytes: &[u8]) -> String {
         return "-".to_string();
     }
     bytes.iter().map(|byte| format!("{byte:02x}")).collect()
+}
+
+/// How many bytes of a shelf stand before the zeros at its end.
+pub fn standing(shelf: &[u8]) -> usize {
+    shelf.iter().rposition(|&byte| byte != 0).map_or(0, |last| last + 1)
+}
+
+/// A shelf's bytes up to the last that is not 0, and how many zeros come after it.
+fn hex_shelf(shelf: &[u8]) -> String {
+    let stands = standing(shelf);
+    format!("{}+{:x}", hex(&shelf[..stands]), shelf.len() - stands)
 }
 
 /// Number, place, pair, present, absent, undecided, code, rounds, active.
@@ -58,6 +80,11 @@ impl Case {
             Call::Heard { .. } => "heard",
             Call::HeardLogged { .. } => "heardlogged",
             Call::Excerpt { .. } => "excerpt",
+            Call::Reason { .. } => "reason",
+            Call::Install { .. } => "install",
+            Call::Fetch { .. } => "fetch",
+            Call::Withdraw { .. } => "withdraw",
+            Call::Maze { .. } => "maze",
         }
     }
 
@@ -78,6 +105,17 @@ impl Case {
                 format!("{name} {block} {} {present:x} {absent:x} {} {end:x}", hex(state), hex(log))
             }
             Call::Excerpt { index } => format!("{name} {block} {index:x}"),
+            Call::Reason { state, heard: Heard { present, absent }, asked } => {
+                let (question, about) = asked.numbers();
+                format!("{name} {block} {} {present:x} {absent:x} {question:x} {about:x}", hex(state))
+            }
+            Call::Maze { inputs } => format!("{name} {block} {inputs:x}"),
+            Call::Install { shelf, party, name: own } => {
+                format!("{name} {} {party:x} {own:x} {block}", hex_shelf(shelf))
+            }
+            Call::Fetch { shelf, party, name: own } | Call::Withdraw { shelf, party, name: own } => {
+                format!("{name} {} {party:x} {own:x}", hex_shelf(shelf))
+            }
         }
     }
 
@@ -107,6 +145,47 @@ impl Case {
                 let from = if part.is_empty() { 0 } else { part.as_ptr() as usize - whole };
                 format!("{:x} {:x} {from:x} {}", a.number, a.place, hex(part))
             }
+            Call::Reason { state, heard, asked } => {
+                let a = reason(&self.block, state, *heard, *asked, fault);
+                format!("{:x} {:x} {:x} {:x} {:x}", a.number, a.place, a.first, a.second, a.statement)
+            }
+            Call::Maze { inputs } => {
+                let (a, [wins, loses, draws]) = maze(&self.block, *inputs, fault);
+                format!("{:x} {:x} {wins:x} {loses:x} {draws:x}", a.number, a.place)
+            }
+            Call::Install { .. } | Call::Fetch { .. } | Call::Withdraw { .. } => self.on_shelf(fault),
+        }
+    }
+
+    /// What a call on a shelf gives back, and the shelf after one that writes.
+    fn on_shelf(&self, fault: Fault) -> String {
+        let rules = Shelf { sizes: TRUE, fault };
+        match &self.call {
+            Call::Install { shelf, party, name } => {
+                let mut shelf = shelf.clone();
+                let a = rules.install(&mut shelf, *party, *name, &self.block);
+                format!("{:x} {:x} {}", a.number, a.place, hex_shelf(&shelf))
+            }
+            Call::Fetch { shelf, party, name } => {
+                let (a, part) = rules.fetch(shelf, *party, *name);
+                format!("{:x} {:x} {}", a.number, a.place, hex(part))
+            }
+            Call::Withdraw { shelf, party, name } => {
+                let mut shelf = shelf.clone();
+                let a = rules.withdraw(&mut shelf, *party, *name);
+                format!("{:x} {:x} {}", a.number, a.place, hex_shelf(&shelf))
+            }
+            _ => String::new(),
+        }
+    }
+
+    /// The bytes of the lent shelf that stand before its zeros.
+    pub fn shelf(&self) -> &[u8] {
+        match &self.call {
+            Call::Install { shelf, .. } | Call::Fetch { shelf, .. } | Call::Withdraw { shelf, .. } => {
+                &shelf[..standing(shelf)]
+            }
+            _ => &[],
         }
     }
 
@@ -143,6 +222,9 @@ pub fn cases(family: Family, count: usize, seeds: &[u64]) -> Vec<Case> {
         (0..share).map(move |_| match family {
             Family::Base => some_case(&mut chance),
             Family::Heard => some_heard_case(&mut chance),
+            Family::Why => some_why_case(&mut chance),
+            Family::Shelf => some_shelf_case(&mut chance),
+            Family::Maze => some_maze_case(&mut chance),
         })
     });
     edge_cases(family).into_iter().chain(random).take(count).collect()
@@ -160,6 +242,9 @@ pub fn family_edges(family: Family) -> Vec<EdgeCall> {
     match family {
         Family::Base => edge_calls(),
         Family::Heard => heard_edges(),
+        Family::Why => why_edges(),
+        Family::Shelf => shelf_edges(),
+        Family::Maze => maze_edges(),
     }
 }
 

@@ -5,6 +5,7 @@
 use crate::block::{Block, Form, Statement};
 use crate::net::{Net, Wire};
 use crate::reaction::Phase;
+use crate::reason::Reached;
 use crate::values::{signal_bit, Heard};
 
 #[derive(Clone, Copy)]
@@ -38,6 +39,17 @@ pub struct Circuit {
     /// By the number of their pauses.
     registers: Vec<Register>,
     codes: Vec<Wire>,
+    /// By the number of their statements.
+    probes: Vec<Probe>,
+}
+
+/// What is asked of a statement: whether it is started, or resumed, and whether its test is undecided.
+struct Probe {
+    go: Wire,
+    res: Wire,
+    sel: Wire,
+    form: Form,
+    operand: u16,
 }
 
 /// What an instant of a circuit comes to; a register that is not known leaves no next set.
@@ -59,12 +71,21 @@ impl Circuit {
         let all = inputs + outputs + block.header.locals;
         let signals = (0..all).map(|s| if s < inputs { net.given() } else { net.zero() }).collect();
         let mut circuit =
-            Circuit { net, go, res, inputs, outputs, signals, registers: Vec::new(), codes: Vec::new() };
+            Circuit { net, go, res, inputs, outputs, signals, registers: Vec::new(), codes: Vec::new(), probes: Vec::new() };
         circuit.codes = circuit.put(&block.root, Ins { go, res, susp, kill }).codes;
         circuit
     }
 
+    /// Statements are put in preorder, so each finds its probe by its number.
     fn put(&mut self, p: &Statement, ins: Ins) -> Outs {
+        let probe = Probe { go: ins.go, res: ins.res, sel: ins.res, form: p.form, operand: p.operand };
+        self.probes.push(probe);
+        let outs = self.put_form(p, ins);
+        self.probes[p.number].sel = outs.sel;
+        outs
+    }
+
+    fn put_form(&mut self, p: &Statement, ins: Ins) -> Outs {
         match p.form {
             Form::Nothing => self.leaf(0, ins.go),
             Form::Exit => self.leaf(p.operand as usize + 2, ins.go),
@@ -194,12 +215,7 @@ impl Circuit {
 
     /// The same where the wire of an input that is in neither set is not known.
     pub fn settle_heard(&self, phase: Phase, heard: Heard) -> Settled {
-        let active = if let Phase::Running(active) = phase { active } else { 0 };
-        let mut given = vec![(self.go, phase == Phase::Fresh), (self.res, active != 0)];
-        let known = (0..self.inputs).filter(|&s| (heard.present | heard.absent) & signal_bit(s) != 0);
-        given.extend(known.map(|s| (self.signals[s as usize], heard.present & signal_bit(s) != 0)));
-        given.extend(self.registers.iter().enumerate().map(|(n, register)| (register.now, active >> n & 1 == 1)));
-        let values = self.net.settle(&given);
+        let values = self.values(phase, heard);
         let outputs = self.inputs..self.inputs + self.outputs;
         let signals = |value: bool| {
             let has = |s: &u16| values[self.signals[*s as usize]] == Some(value);
@@ -218,5 +234,33 @@ impl Circuit {
             can: codes(|value| value != Some(false)),
             next: next.sum::<Option<u128>>(),
         }
+    }
+
+    /// Every wire at the fixed point.
+    fn values(&self, phase: Phase, heard: Heard) -> Vec<Option<bool>> {
+        let active = if let Phase::Running(active) = phase { active } else { 0 };
+        let mut given = vec![(self.go, phase == Phase::Fresh), (self.res, active != 0)];
+        let known = (0..self.inputs).filter(|&s| (heard.present | heard.absent) & signal_bit(s) != 0);
+        given.extend(known.map(|s| (self.signals[s as usize], heard.present & signal_bit(s) != 0)));
+        given.extend(self.registers.iter().enumerate().map(|(n, register)| (register.now, active >> n & 1 == 1)));
+        self.net.settle(&given)
+    }
+
+    /// The numbers of the statements that are surely started or resumed, and of the undecided tests among them.
+    pub fn reached(&self, phase: Phase, heard: Heard) -> Reached {
+        let values = self.values(phase, heard);
+        let on = |wire: Wire| values[wire] == Some(true);
+        let mut reached = Reached::default();
+        for (n, probe) in self.probes.iter().enumerate() {
+            let (started, resumed) = (on(probe.go), on(probe.res) && on(probe.sel));
+            if started || resumed {
+                reached.all.insert(n);
+            }
+            let tests = probe.form == Form::Present && started || probe.form == Form::Suspend && resumed;
+            if tests && values[self.signals[probe.operand as usize]].is_none() {
+                reached.undecided.insert(n);
+            }
+        }
+        reached
     }
 }

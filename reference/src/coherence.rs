@@ -6,22 +6,23 @@ use crate::codes::{down, exit_code, Depth};
 use crate::reaction::{Phase, Reaction};
 use crate::values::{signal_bit, signal_bits, Run};
 
-/// One way a statement is executed: emits done, completion code, pauses kept.
+/// One way a statement is executed: emits done, completion code, pauses kept, and which statements, of the first 128.
 #[derive(Clone, Copy, PartialEq, Eq, Debug)]
 pub struct Outcome {
     pub signals: u64,
     pub code: u32,
     pub kept: u128,
+    pub executed: u128,
 }
 
 impl Outcome {
     fn code(code: u32) -> Outcome {
-        Outcome { signals: 0, code, kept: 0 }
+        Outcome { signals: 0, code, kept: 0, executed: 0 }
     }
 
-    /// What the reaction shows: the state that it leaves has pauses only with code 1.
+    /// What the reaction shows: the state that it leaves has pauses only with code 1, and not what was executed.
     pub fn shown(self) -> Outcome {
-        Outcome { kept: if self.code == 1 { self.kept } else { 0 }, ..self }
+        Outcome { kept: if self.code == 1 { self.kept } else { 0 }, executed: 0, ..self }
     }
 }
 
@@ -119,7 +120,9 @@ fn execute(slip: Slip, p: &Statement, run: Run, present: u64) -> Vec<Outcome> {
     };
     // A statement with a code other than 1 keeps no pause.
     let keeps = |o: &Outcome| o.code == 1 || slip == Slip::OtherCodesKeep;
-    outcomes.into_iter().map(|o| Outcome { kept: if keeps(&o) { o.kept } else { 0 }, ..o }).collect()
+    let own = pause_bit(p.number);
+    let whole = |o: Outcome| Outcome { kept: if keeps(&o) { o.kept } else { 0 }, executed: o.executed | own, ..o };
+    outcomes.into_iter().map(whole).collect()
 }
 
 fn branch(slip: Slip, p: &Statement, run: Run, present: u64) -> &Statement {
@@ -172,7 +175,8 @@ fn go_on(slip: Slip, first: Vec<Outcome>, second: &Statement, present: u64) -> V
             continue;
         }
         for other in execute(slip, second, Run::Started, present) {
-            all.push(Outcome { signals: one.signals | other.signals, ..other });
+            let executed = one.executed | other.executed;
+            all.push(Outcome { signals: one.signals | other.signals, executed, ..other });
         }
     }
     all
@@ -194,6 +198,7 @@ fn parallel(slip: Slip, p: &Statement, run: Run, present: u64) -> Vec<Outcome> {
                 signals: one.signals | other.signals,
                 code: if slip == Slip::SmallerCode { one.code.min(other.code) } else { one.code.max(other.code) },
                 kept: one.kept | other.kept,
+                executed: one.executed | other.executed,
             });
         }
     }

@@ -2,12 +2,15 @@
 
 use std::collections::HashMap;
 
-use crate::block::{decode, Block, Form, Statement};
+use crate::block::{decode, Block, Form, Statement, Token};
 use crate::calls::told;
 use crate::cases::{Call, Case};
 use crate::family::{families, Family};
 use crate::fault::Fault;
 use crate::met::{holds, taken, Met};
+use crate::shelf::TRUE;
+use crate::shelf_model::Model;
+use crate::values::signal_bits;
 
 /// A case with what it came to.
 struct Seen<'a> {
@@ -33,6 +36,71 @@ const HEARD: [Sort; 7] = [
     ("running with inputs not heard", |seen| seen.phase() == Some(1) && seen.unheard() > Some(0)),
     ("logged with inputs not heard", |seen| seen.logged() && seen.number() == 0 && seen.unheard() > Some(0)),
 ];
+
+/// The sorts of reasons.
+const WHY: [Sort; 13] = [
+    ("why refused, told", |seen| seen.told(0)),
+    ("why refused, not so", |seen| seen.asked() == Some(0) && seen.number() == 16),
+    ("why present, told", |seen| seen.told(1)),
+    ("why present, not so", |seen| seen.asked() == Some(1) && seen.number() == 16),
+    ("why not executed, told", |seen| seen.told(2)),
+    ("why not executed, not so", |seen| seen.asked() == Some(2) && seen.number() == 16),
+    ("a suspend named", |seen| seen.told(0) && seen.names(|p, _| p.form == Form::Suspend)),
+    ("a test of an input not heard named", |seen| seen.told(0) && seen.names(|p, b| p.operand < b.header.inputs)),
+    ("a test of a local named", |seen| {
+        seen.told(0) && seen.names(|p, b| p.operand >= b.header.inputs + b.header.outputs)
+    }),
+    ("an emit that is not its signal's first named", |seen| seen.told(1) && seen.names(|p, b| !first_emit(p, b))),
+    ("the emit itself named", |seen| seen.told(2) && seen.names(|p, _| p.form == Form::Emit)),
+    ("a statement above the emit named", |seen| seen.told(2) && seen.names(|p, _| p.form != Form::Emit)),
+    ("the root of a finished block named", |seen| {
+        seen.told(2) && seen.lent().get(8) == Some(&2) && seen.names(|p, _| p.number == 0)
+    }),
+];
+
+/// The sorts of calls on a shelf that are not refused with 19.
+const SHELVES: [Sort; 10] = [
+    ("an empty shelf", |seen| seen.shelved(|model, _| model.entries.is_empty())),
+    ("entries of both parties", |seen| seen.shelved(|model, _| model.held(0) > 0 && model.held(1) > 0)),
+    ("a name at both parties", |seen| {
+        seen.shelved(|model, _| model.entries.iter().any(|one| model.entries.iter().any(|other| twins(one, other))))
+    }),
+    ("a block installed after others", |seen| seen.number() == 0 && seen.is("install") && seen.shelved(|m, _| m.entries.len() > 1)),
+    ("a quota filled to the last byte", |seen| seen.shelved(|model, _| model.held(0) == TRUE.party)),
+    ("a shelf filled to the last byte", |seen| seen.shelved(|model, _| model.held(0) + model.held(1) == TRUE.shelf)),
+    ("the largest block installed", |seen| seen.number() == 0 && seen.is("install") && seen.case.block.len() == 3086),
+    ("an entry withdrawn before others", |seen| {
+        seen.number() == 0 && seen.is("withdraw") && seen.shelved(|model, case| model.entries.last().map_or(false, |last| !asks(case, last)))
+    }),
+    ("the last entry withdrawn", |seen| {
+        seen.number() == 0 && seen.is("withdraw") && seen.shelved(|model, case| model.entries.last().map_or(false, |last| asks(case, last)))
+    }),
+    ("a block fetched that is not the first", |seen| {
+        seen.number() == 0 && seen.is("fetch") && seen.shelved(|model, case| !asks(case, &model.entries[0]))
+    }),
+];
+
+/// The sorts of mazes: number, place, and who wins, loses and draws.
+const MAZES: [Sort; 5] = [
+    ("an output wins", |seen| seen.ends(2)),
+    ("an output loses", |seen| seen.ends(3)),
+    ("an output draws", |seen| seen.ends(4)),
+    ("outputs win, lose and draw", |seen| seen.ends(2) && seen.ends(3) && seen.ends(4)),
+    ("inputs win and lose", |seen| seen.is("maze") && seen.number() == 0 && seen.inputs(2) && seen.inputs(3)),
+];
+
+/// Whether a fetch or a withdrawal is of this entry.
+fn asks(case: &Case, entry: &(u16, u16, Vec<u8>)) -> bool {
+    match case.call {
+        Call::Fetch { party, name, .. } | Call::Withdraw { party, name, .. } => (party, name) == (entry.0, entry.1),
+        _ => false,
+    }
+}
+
+/// Whether two entries have one name at two parties.
+fn twins(one: &(u16, u16, Vec<u8>), other: &(u16, u16, Vec<u8>)) -> bool {
+    one.0 != other.0 && one.1 == other.1
+}
 
 const SORTS: [Sort; 24] = [
     ("fresh states", |seen| seen.phase() == Some(0)),
@@ -97,6 +165,56 @@ impl<'a> Seen<'a> {
         }
     }
 
+    /// Which question was asked.
+    fn asked(&self) -> Option<u64> {
+        match &self.case.call {
+            Call::Reason { asked, .. } => Some(asked.numbers().0),
+            _ => None,
+        }
+    }
+
+    /// Whether this question was asked and a statement named.
+    fn told(&self, question: u64) -> bool {
+        self.asked() == Some(question) && self.number() == 0
+    }
+
+    /// Whether the statement named is such.
+    fn names(&self, such: fn(&Statement, &Block) -> bool) -> bool {
+        let block = self.block.as_ref();
+        block.map_or(false, |block| block.root.find(self.words[4] as usize).map_or(false, |p| such(p, block)))
+    }
+
+    /// The state lent to a question.
+    fn lent(&self) -> &[u8] {
+        match &self.case.call {
+            Call::Reason { state, .. } => state,
+            _ => &[],
+        }
+    }
+
+    /// Whether the word at this place has an output in a maze that was given.
+    fn ends(&self, at: usize) -> bool {
+        let outputs = |block: &Block| signal_bits(block.header.inputs, block.header.outputs);
+        self.is("maze") && self.number() == 0 && self.block.as_ref().map_or(0, outputs) & self.words[at] != 0
+    }
+
+    fn inputs(&self, at: usize) -> bool {
+        self.block.as_ref().map_or(0, |block| signal_bits(0, block.header.inputs)) & self.words[at] != 0
+    }
+
+    fn is(&self, call: &str) -> bool {
+        self.case.name() == call
+    }
+
+    /// Whether the lent shelf is a good one, and such.
+    fn shelved(&self, such: fn(&Model, &Case) -> bool) -> bool {
+        let shelf = match &self.case.call {
+            Call::Install { shelf, .. } | Call::Fetch { shelf, .. } | Call::Withdraw { shelf, .. } => shelf,
+            _ => return false,
+        };
+        Model::of_bytes(shelf, TRUE).map_or(false, |model| such(&model, self.case))
+    }
+
     fn logged(&self) -> bool {
         matches!(self.case.call, Call::Logged { .. } | Call::HeardLogged { .. })
     }
@@ -136,19 +254,29 @@ fn exits_far(p: &Statement) -> bool {
     p.form == Form::Exit && p.operand >= 2 || p.parts.iter().any(exits_far)
 }
 
+/// Whether an emit is the first of its signal in the block.
+fn first_emit(p: &Statement, block: &Block) -> bool {
+    let same = |token: &Token| *token == (p.form, p.operand);
+    block.root.tokens().iter().position(same) == Some(p.number)
+}
+
 /// Whether a call can give this number at all.
 fn possible(call: &str, number: usize) -> bool {
     match call {
         "check" => number <= 8,
         "fresh" => number <= 9,
         "instant" | "heard" => number <= 13 && number != 12 || number == 17,
+        "reason" => number <= 11 || number == 16 || number == 17,
+        "maze" => number <= 8 || number == 11 || number == 26,
+        "install" => number <= 8 || (18..=21).contains(&number),
+        "fetch" | "withdraw" => [0, 18, 19, 22].contains(&number),
         "logged" | "heardlogged" => number <= 13 || number == 17,
         _ => number <= 8 || number == 14,
     }
 }
 
 /// The greatest number that a call gives.
-const LAST: usize = 17;
+const LAST: usize = 26;
 
 fn numbered(call: &str, number: usize) -> String {
     format!("{call} {number}")
@@ -158,7 +286,7 @@ fn numbered(call: &str, number: usize) -> String {
 pub fn sorts(case: &Case) -> Vec<String> {
     let seen = Seen::new(case);
     let mut sorts = vec![numbered(case.name(), seen.number())];
-    let named = SORTS.iter().chain(&HEARD);
+    let named = SORTS.iter().chain(&HEARD).chain(&WHY).chain(&SHELVES).chain(&MAZES);
     sorts.extend(named.filter(|sort| (sort.1)(&seen)).map(|sort| sort.0.to_string()));
     sorts
 }
@@ -168,6 +296,9 @@ fn named_sorts(families: &[Family]) -> Vec<&'static str> {
     let of = |family: &Family| match family {
         Family::Base => &SORTS[..],
         Family::Heard => &HEARD[..],
+        Family::Why => &WHY[..],
+        Family::Shelf => &SHELVES[..],
+        Family::Maze => &MAZES[..],
     };
     families.iter().flat_map(of).map(|sort| sort.0).collect()
 }

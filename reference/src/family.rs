@@ -1,7 +1,7 @@
 //! Families of calls: those of the statement, and those that a later request added. Each has cases, sorts and faults of its own.
 
 use crate::cases::{Call, Case};
-use crate::fault::{Fault, CHECKS, HEARD, LENT, RULES};
+use crate::fault::{Fault, CHECKS, HEARD, LENT, MAZES, RULES, SHELVES, WHY};
 
 #[derive(Clone, Copy, PartialEq, Eq, Debug)]
 pub enum Family {
@@ -9,9 +9,15 @@ pub enum Family {
     Base,
     /// The calls that take inputs present and inputs absent.
     Heard,
+    /// The call that says why.
+    Why,
+    /// The calls on a shelf.
+    Shelf,
+    /// The maze of the first instant.
+    Maze,
 }
 
-pub const FAMILIES: [Family; 2] = [Family::Base, Family::Heard];
+pub const FAMILIES: [Family; 5] = [Family::Base, Family::Heard, Family::Why, Family::Shelf, Family::Maze];
 
 impl Family {
     /// The family that a word names.
@@ -23,6 +29,9 @@ impl Family {
         match self {
             Family::Base => "base",
             Family::Heard => "heard",
+            Family::Why => "why",
+            Family::Shelf => "shelf",
+            Family::Maze => "maze",
         }
     }
 
@@ -30,6 +39,9 @@ impl Family {
         match self {
             Family::Base => &["check", "fresh", "instant", "logged", "excerpt"],
             Family::Heard => &["heard", "heardlogged"],
+            Family::Why => &["reason"],
+            Family::Shelf => &["install", "fetch", "withdraw"],
+            Family::Maze => &["maze"],
         }
     }
 
@@ -38,6 +50,9 @@ impl Family {
         match self {
             Family::Base => 20_000,
             Family::Heard => 8000,
+            Family::Why => 8000,
+            Family::Shelf => 1600,
+            Family::Maze => 4000,
         }
     }
 
@@ -46,12 +61,18 @@ impl Family {
         match self {
             Family::Base => [RULES, CHECKS, LENT].concat(),
             Family::Heard => HEARD.to_vec(),
+            Family::Why => WHY.to_vec(),
+            Family::Shelf => SHELVES.to_vec(),
+            Family::Maze => MAZES.to_vec(),
         }
     }
 
     fn of(case: &Case) -> Family {
         match case.call {
             Call::Heard { .. } | Call::HeardLogged { .. } => Family::Heard,
+            Call::Reason { .. } => Family::Why,
+            Call::Install { .. } | Call::Fetch { .. } | Call::Withdraw { .. } => Family::Shelf,
+            Call::Maze { .. } => Family::Maze,
             _ => Family::Base,
         }
     }

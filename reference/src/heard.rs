@@ -23,7 +23,7 @@ const TOLD: [Fault; 4] =
     [Fault::UnknownInputAbsent, Fault::UnknownInputPresent, Fault::UnknownInputRefuses, Fault::HeardTurnedRound];
 
 /// Every way to hear of so many inputs: each present, absent or not heard.
-fn hearings(inputs: u16) -> Vec<Heard> {
+pub fn hearings(inputs: u16) -> Vec<Heard> {
     let mut all = vec![Heard { present: 0, absent: 0 }];
     for s in 0..inputs {
         let bit = 1 << s;
@@ -34,7 +34,7 @@ fn hearings(inputs: u16) -> Vec<Heard> {
 }
 
 /// Whether one hears all that the other does, and perhaps more.
-fn goes_on(less: Heard, more: Heard) -> bool {
+pub fn goes_on(less: Heard, more: Heard) -> bool {
     less.present & !more.present == 0 && less.absent & !more.absent == 0
 }
 

@@ -21,7 +21,7 @@ pub fn some_heard(inputs: u16, chance: &mut Chance) -> Heard {
 }
 
 /// Legal sets, but now and then with a bit too many in one of them, or one in both.
-fn maybe_bad_heard(inputs: u16, chance: &mut Chance) -> Heard {
+pub fn maybe_bad_heard(inputs: u16, chance: &mut Chance) -> Heard {
     let mut heard = some_heard(inputs, chance);
     let bit = match chance.below(3) {
         0 => 1u64.checked_shl(inputs as u32).unwrap_or(0),
@@ -38,7 +38,7 @@ fn maybe_bad_heard(inputs: u16, chance: &mut Chance) -> Heard {
 }
 
 /// Blocks with some inputs, with many, without any, and at a boundary.
-fn some_input_block(chance: &mut Chance) -> (Vec<u8>, Block) {
+pub fn some_input_block(chance: &mut Chance) -> (Vec<u8>, Block) {
     match chance.weighed(&[60, 22, 6, 6, 6]) {
         0 => {
             let wish = Wish { inputs: chance.pick(&[1, 1, 2, 2, 3, 4]), ..Wish::some(chance, 2, 24) };

@@ -24,6 +24,8 @@ mod heard;
 mod heard_cases;
 mod known;
 mod loops;
+mod maze;
+mod mazes;
 mod mesh;
 mod met;
 mod mutate;
@@ -32,11 +34,16 @@ mod older;
 mod orders;
 mod proof;
 mod reaction;
+mod reason;
 mod row;
 mod rules;
 mod run;
 mod scope;
 mod selftest;
+mod shelf;
+mod shelf_cases;
+mod shelf_model;
+mod shelves;
 mod shrink;
 mod smallest;
 mod state;
@@ -45,6 +52,8 @@ mod states;
 mod sweep;
 mod text;
 mod values;
+mod why;
+mod why_cases;
 mod worked;
 
 use std::env;
@@ -61,6 +70,9 @@ const USAGE: &str = "subcommands:
   circuits [N SEED] N random blocks (4000, seed 1) and all of up to 5 statements as circuits
   states [SIZE N SEED]  states lent to other blocks: all blocks up to SIZE statements (3) and N random ones (4000, seed 1)
   heard [SIZE N SEED]  inputs not heard: all blocks up to SIZE statements (4) and N random ones (2000, seed 1)
+  why [SIZE N SEED] reasons beside circuits and executions: all blocks up to SIZE statements (4) and N random ones (3000, seed 1)
+  shelf [CALLS N SEED]  a shelf beside its model: all histories of CALLS calls (4) on a small one, N random ones (60, seed 1)
+  maze [SIZE N SEED]  mazes beside the rounds: all blocks of the form up to SIZE statements (8) and N random ones (4000, seed 1)
   bite [CASES]      a case for each fault
   run FOLDER        the run program
   cases [CASES]     lines of calls with their complete answers
@@ -74,7 +86,8 @@ const USAGE: &str = "subcommands:
   proof N SEED      the same as a module of the proof language
   antt-bite SEED    the smallest row for each wrong rule
   selftest          all of these that can fail
-CASES are [FAMILY] N SEED.. (seeds 1 2 3 4) or a file of calls; families are base (20000 cases) and heard (8000)";
+CASES are [FAMILY] N SEED.. (seeds 1 2 3 4) or a file of calls; families are base (20000 cases), heard
+and why (8000 each), shelf (1600) and maze (4000)";
 
 fn main() {
     let words: Vec<String> = env::args().skip(1).collect();
@@ -97,6 +110,9 @@ fn main() {
         Some("orders") => orders::print_orders(number(1, 5) as usize, number(2, 8000) as usize, number(3, 1)),
         Some("states") => states::print_states(number(1, 3) as usize, number(2, 4000) as usize, number(3, 1)),
         Some("heard") => heard::print_heard(number(1, 4) as usize, number(2, 2000) as usize, number(3, 1)),
+        Some("why") => why::print_why(number(1, 4) as usize, number(2, 3000) as usize, number(3, 1)),
+        Some("shelf") => shelves::print_shelf(number(1, 4) as usize, number(2, 60) as usize, number(3, 1)),
+        Some("maze") => mazes::print_maze(number(1, 8) as usize, number(2, 4000) as usize, number(3, 1)),
         Some("older") => older::print_older(number(1, 40_000) as usize, number(2, 1)),
         Some("older-smallest") => older::print_smallest(number(1, 1)),
         Some("circuits") => circuits::print_circuits(5, number(1, 4000) as usize, number(2, 1)),

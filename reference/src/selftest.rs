@@ -13,14 +13,17 @@ use crate::fault::Fault;
 use crate::heard::print_heard;
 use crate::generate::{some_inputs, some_phase};
 use crate::mutate::some_mixed_block;
+use crate::mazes::print_maze;
 use crate::older::print_older;
 use crate::orders::print_orders;
+use crate::shelves::print_shelf;
 use crate::states::print_states;
 use crate::sweep::{sweep, Counts};
+use crate::why::print_why;
 use crate::worked::print_worked;
 
 /// Worked cases, edges, coherence, orders of settling and circuits over all small and some random blocks, the older rule,
-/// states lent to other blocks, inputs not heard, and the faults.
+/// states lent to other blocks, inputs not heard, reasons, shelves, mazes, and the faults.
 pub fn selftest() -> bool {
     let worked = print_worked();
     let edges = print_edges();
@@ -31,8 +34,11 @@ pub fn selftest() -> bool {
     let circuits = print_circuits(5, 4000, 1);
     let states = print_states(3, 4000, 1);
     let heard = print_heard(4, 2000, 1);
+    let why = print_why(4, 3000, 1);
+    let shelf = print_shelf(4, 40, 1);
+    let maze = print_maze(7, 4000, 1);
     let all = FAMILIES.iter().filter(|&&family| !print_family(family)).count() == 0;
-    worked && edges && coherent && random && orders && older && circuits && states && heard && all
+    worked && edges && coherent && random && orders && older && circuits && states && heard && why && shelf && maze && all
 }
 
 /// The cases of a family: kept as bytes, of every sort, and such that they tell every fault.

@@ -14,6 +14,7 @@ pub const INPUT: u16 = 11;
 pub const ROOM: u16 = 12;
 pub const NOT_CONSTRUCTIVE: u16 = 13;
 pub const INDEX: u16 = 14;
+pub const QUESTION: u16 = 16;
 pub const OTHER_BLOCK: u16 = 17;
 
 pub const STATE_SIZE: usize = 26;
@@ -33,12 +34,14 @@ pub struct Answer {
     pub rounds: u32,
     pub active: u32,
     pub end: u64,
+    /// The statement that a reason names.
+    pub statement: usize,
     /// Of a good block: version, inputs, outputs, locals, statements, pauses.
     pub summary: [usize; 6],
 }
 
 impl Answer {
-    fn refused(number: u16) -> Answer {
+    pub fn refused(number: u16) -> Answer {
         Answer { number, ..Answer::default() }
     }
 
@@ -238,7 +241,7 @@ fn settle(block: &Block, state: &mut [u8], heard: Heard, reaction: Reaction, fau
 }
 
 /// The block and the state of an instant, tested in order: 1 to 8, then 9, 17, 10, 11 and, with a log, 12.
-fn prepare(
+pub fn prepare(
     block: &[u8], state: &[u8], told: Told, log: Option<(usize, u64)>, fault: Fault,
 ) -> Result<(Block, Phase, Heard), Answer> {
     let block = decode(block, fault).map_err(Answer::of_block)?;

@@ -1,8 +1,9 @@
-// Checks blocks, fresh states, states of other blocks, inputs, logs and excerpts at the boundaries of each refusal, with the numbers of document 01 written by hand, and says
+// Checks blocks, fresh states, states of other blocks, inputs, logs, excerpts and a shelf at the boundaries of each refusal, with the numbers written by hand, and says
 // of each case what came and whether it is what was expected. The blocks stand in the file stdin, a line for each: the name of the case, a
 // bar, the number and the place expected, and how the block is made (see pages::block).
 mod lines;
 mod pages;
+mod shelves;
 
 use foldheron::Begun;
 use foldheron::Checked;
@@ -17,7 +18,7 @@ use lines::part;
 use lines::word;
 use pages::block;
 
-fn number(w: Why) -> u64 {
+pub(crate) fn number(w: Why) -> u64 {
     match w {
         Why::Broken => 1,
         Why::Kind => 2,
@@ -34,11 +35,16 @@ fn number(w: Why) -> u64 {
         Why::NotConstructive => 13,
         Why::Index => 14,
         Why::OtherBlock => 17,
+        Why::Party => 18,
+        Why::Shelf => 19,
+        Why::Taken => 20,
+        Why::Quota => 21,
+        Why::Absent => 22,
     }
 }
 
 // A line: what came, and whether it was expected.
-fn say(name: &[u8], came: u64, place: usize, number: u64, at: usize) {
+pub(crate) fn say(name: &[u8], came: u64, place: usize, number: u64, at: usize) {
     io::write_all(STDOUT_FILENO, name);
     io::print_decimal(STDOUT_FILENO, came);
     io::write_all(STDOUT_FILENO, b" ");
@@ -111,7 +117,7 @@ fn wide(x: u8) -> u64 {
     x as u64
 }
 
-fn byte(bytes: &[u8], i: usize) -> u64 {
+pub(crate) fn byte(bytes: &[u8], i: usize) -> u64 {
     if i < bytes.len() { wide(bytes[i]) } else { 256 }
 }
 
@@ -151,7 +157,7 @@ fn fresh_states() {
 }
 
 // Another byte at a place.
-fn changed(bytes: &mut [u8], at: usize, other: u8) {
+pub(crate) fn changed(bytes: &mut [u8], at: usize, other: u8) {
     if at < bytes.len() {
         bytes[at] = other;
     }
@@ -186,10 +192,85 @@ fn named_states() {
     on_state(b"another phase ", &good, 8, 3, 9);
 }
 
+// An instant on the bytes of a state as they are.
+fn on_bytes(name: &[u8], good: &[u8], state: &mut [u8], expected: u64) {
+    told(name, foldheron::instant(good, state, 0), expected);
+}
+
+// All of STATE comes before OTHER BLOCK, and that before CLASH. The second block is pause; pause.
+fn other_states() {
+    let good = nothing();
+    let old =
+        b"\x16\x00\x02\x00\x00\x00\x00\x00\x00\x00\x00\x00\x00\x00\x00\x00\x00\x00\x00\x00\x00\x00";
+    let mut short = *old;
+    on_bytes(b"an old record of 22 bytes ", &good, &mut short, 9);
+    let mut both = state_of(6, 2, 0, 0);
+    on_bytes(b"another version and another count ", &good, &mut both, 17);
+    let mut beyond = state_of(6, 1, 1, 1);
+    on_bytes(
+        b"another version, and a bit at or above the pause count ",
+        &good,
+        &mut beyond,
+        9,
+    );
+    let two =
+        b"\x0e\x00\x01\x00\x01\x00\x05\x00\x00\x00\x00\x00\x00\x00\x04\x00\x15\x00\x04\x00\x11\x00\x04\x00\x11\x00";
+    let mut clash = state_of(5, 3, 1, 3);
+    on_bytes(b"two pauses of a sequence ", two, &mut clash, 10);
+    let mut other = state_of(6, 3, 1, 3);
+    on_bytes(
+        b"two pauses of a sequence, and another version ",
+        two,
+        &mut other,
+        17,
+    );
+}
+
+// A state record by its version, statement count, phase and the lowest byte of its pauses.
+fn state_of(version: u8, statements: u8, phase: u8, pauses: u8) -> [u8; 26] {
+    let mut state = [0u8; 26];
+    state[0] = 26;
+    state[2] = 2;
+    state[4] = version;
+    state[6] = statements;
+    state[8] = phase;
+    state[10] = pauses;
+    state
+}
+
 // A block with an input 0 and an output 1: present 0 then emit 1 else nothing.
 fn tested() -> [u8; 30] {
     [
-        14, 0, 1, 0, 1, 0, 5, 0, 1, 0, 1, 0, 0, 0, 6, 0, 19, 0, 0, 0, 6, 0, 18, 0, 1, 0, 4, 0, 16, 0,
+        14,
+        0,
+        1,
+        0,
+        1,
+        0,
+        5,
+        0,
+        1,
+        0,
+        1,
+        0,
+        0,
+        0,
+        6,
+        0,
+        19,
+        0,
+        0,
+        0,
+        6,
+        0,
+        18,
+        0,
+        1,
+        0,
+        4,
+        0,
+        16,
+        0,
     ]
 }
 
@@ -197,7 +278,11 @@ fn tested() -> [u8; 30] {
 fn on_inputs(name: &[u8], good: &[u8], present: u64, absent: u64, expected: u64) {
     let mut state = [0u8; 26];
     begun(b"fresh ", good, &mut state, 26, 0, 0);
-    told(name, foldheron::instant_heard(good, &mut state, present, absent), expected);
+    told(
+        name,
+        foldheron::instant_heard(good, &mut state, present, absent),
+        expected,
+    );
 }
 
 // INPUT of two sets; with the input not heard the code is not known.
@@ -255,7 +340,9 @@ fn main() {
     cases(part(&text, n));
     fresh_states();
     named_states();
+    other_states();
     heard_inputs();
     rooms();
     excerpts();
+    shelves::all();
 }

@@ -75,3 +75,24 @@ pub fn block(page: &mut [u8], given: &[u16], count: usize) -> usize {
         _ => word(given, 3) as usize,
     }
 }
+
+// A nothing, or two in a sequence.
+fn inside(page: &mut [u8], at: usize, two: bool) -> usize {
+    if two {
+        let first = statement(page, at, 21, 0);
+        let second = statement(page, first, 16, 0);
+        return statement(page, second, 16, 0);
+    }
+    statement(page, at, 16, 0)
+}
+
+// A block of so many suspends one inside the other, and inside them a nothing, or two in a sequence: 18 bytes and 6 for each suspend, or 8 more.
+pub fn chain(page: &mut [u8], suspends: usize, two: bool) -> usize {
+    let mut at = header(page, 1, 0, 0);
+    let mut i: usize = 0;
+    while i < suspends {
+        at = statement(page, at, 20, 0);
+        i += 1;
+    }
+    inside(page, at, two)
+}

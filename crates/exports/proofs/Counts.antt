@@ -21,7 +21,9 @@ use Rattle.reaction.specs.declared.Given.{Given}
 use Rattle.foldheron.specs.declared.Part.{Part}
 use Rattle.foldheron.specs.Answers.{check-owed, begun-owed, part-owed, part-values, absent-part}
 use Rattle.foldheron.proofs.Calls.{Leaves, leaves}
-use Rattle.exports.specs.Calls.{told-values, logged-values}
+use Rattle.shelf.specs.Answered.{shelved-owed}
+use Rattle.shelf.proofs.Told.{install-small, fetch-small, withdraw-small}
+use Rattle.exports.specs.Calls.{told-values, logged-values, install-owed, fetch-owed, withdraw-owed}
 
 -- So many values, the first of which is a number given back.
 pub record Counted (size : ℕ) (xs : List ℕ) : Type 0 where
@@ -98,3 +100,15 @@ first-of (suc n) (x ∷ l) f (suc i) = first-of n l (λ j. f (suc j)) i
 
 pub same-number : {vs : List ℕ} {t : Told} → vs ≡ logged-values t 0 → getD vs 0 0 ≡ getD (take 10 vs) 0 0
 same-number e = ap (λ (l : List ℕ). getD l 0 0) e ∙ sym (ap (λ (l : List ℕ). getD (take 10 l) 0 0) e)
+
+-- The calls on a shelf.
+pub install-counted : (s : List ℕ) (p n : ℕ) (b : List ℕ) → Counted 2 (install-owed s p n b)
+unfolding shelved-owed
+install-counted s p n b = record { counted = refl; small = install-small s p n b }
+
+pub fetch-counted : (s : List ℕ) (p n : ℕ) → Counted 3 (fetch-owed s p n)
+fetch-counted s p n = record { counted = refl; small = fetch-small s p n }
+
+pub withdraw-counted : (s : List ℕ) (p n : ℕ) → Counted 2 (withdraw-owed s p n)
+unfolding shelved-owed
+withdraw-counted s p n = record { counted = refl; small = withdraw-small s p n }

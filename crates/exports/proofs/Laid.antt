@@ -10,7 +10,7 @@ use lib.Seq.{drop-cons, drop-length, sets}
 use borrow.Author.Tests.{eq-eqb, ne-eqb}
 use Rattle.records.specs.Numerals.{in-bytes}
 use Rattle.records.proofs.Bytes.{length-in-bytes, sets-append, sets-front}
-use Rattle.exports.specs.Layout.{laid, lent, ANSWER, Answers}
+use Rattle.exports.specs.Layout.{laid, lent, ANSWER, Answers, BLOCK-MOST, lent-both, AnswersBoth}
 
 pub length-laid : (xs : List ℕ) → length (laid xs) ≡ 8 * length xs
 unfolding laid
@@ -77,3 +77,34 @@ not-answered count xs a n = record {
   answer = at-another count a (laid xs) a n;
   whole = λ d. absurd (n d);
 }
+
+-- A block lent beside the answer, and another number of bytes for it.
+pub block-at-length : {A : Type 0} (count : ℕ) (b a : List ℕ) (x y : A) → length b ≡ BLOCK-MOST → lent count a x y ≡ lent-both count b a x y
+unfolding lent-both
+block-at-length count b a x y e = sym (ap (λ (t : Bool). cond t (lent count a x y) y) (eq-eqb (length b) BLOCK-MOST e))
+
+pub block-at-another : {A : Type 0} (count : ℕ) (b a : List ℕ) (x y : A) → (length b ≡ BLOCK-MOST → ⊥) → y ≡ lent-both count b a x y
+unfolding lent-both
+block-at-another count b a x y e = sym (ap (λ (t : Bool). cond t (lent count a x y) y) (ne-eqb (length b) BLOCK-MOST e))
+
+pub answered-both : (count : ℕ) (b xs a : List ℕ) {a' : List ℕ} {r : ℕ} → length b ≡ BLOCK-MOST → Answers count xs a a' r → AnswersBoth count b xs a a' r
+answered-both count b xs a e w = record {
+  number = w .number ∙ block-at-length count b a (getD xs 0 0) ANSWER e;
+  answer = w .answer ∙ block-at-length count b a (laid xs) a e;
+  whole = λ d. w .whole;
+}
+
+pub no-block-lent : (count : ℕ) (b xs a : List ℕ) → (length b ≡ BLOCK-MOST → ⊥) → AnswersBoth count b xs a a ANSWER
+no-block-lent count b xs a n = record {
+  number = block-at-another count b a (getD xs 0 0) ANSWER n;
+  answer = block-at-another count b a (laid xs) a n;
+  whole = λ d. absurd (n d);
+}
+
+-- A block copied to the front.
+pub copied-over : (part out : List ℕ) {p out' : List ℕ} → p ≡ part → length part ≤ length out → out' ≡ sets out 0 p → out' ≡ part ++ drop (length part) out
+copied-over part out e l q = q ∙ ap (sets out 0) e ∙ sets-front part out l
+
+-- Three values that are known one by one.
+pub three-values : {a b c x y z : ℕ} → a ≡ x → b ≡ y → c ≡ z → a ∷ b ∷ c ∷ [] ≡ x ∷ y ∷ z ∷ []
+three-values p q r = λ i. p i ∷ q i ∷ r i ∷ []

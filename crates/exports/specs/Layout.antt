@@ -26,3 +26,18 @@ pub record Answers (count : ℕ) (values a a' : List ℕ) (r : ℕ) : Type 0 whe
   pub number : r ≡ lent count a (getD values 0 0) ANSWER
   pub answer : a' ≡ lent count a (laid values) a
   pub whole : length a ≡ 8 * count → (i : ℕ) → getD values i 0 < 2 ^ 64
+
+-- How many bytes are lent for a block that is handed back: as many as a block has at most.
+abbrev pub BLOCK-MOST : ℕ
+BLOCK-MOST = 3086
+
+-- The one where both are lent the bytes that they have, a block that is handed back and the answer; else the other.
+unfoldable pub lent-both : {A : Type 0} → ℕ → List ℕ → List ℕ → A → A → A
+unfolding lent
+lent-both count block answer x y = cond (eqb (length block) BLOCK-MOST) (lent count answer x y) y
+
+-- The same for a call that hands back a block: with another number of bytes lent for it, nothing is written anywhere either.
+pub record AnswersBoth (count : ℕ) (block values a a' : List ℕ) (r : ℕ) : Type 0 where
+  pub number : r ≡ lent-both count block a (getD values 0 0) ANSWER
+  pub answer : a' ≡ lent-both count block a (laid values) a
+  pub whole : length block ≡ BLOCK-MOST → length a ≡ 8 * count → (i : ℕ) → getD values i 0 < 2 ^ 64

@@ -10,8 +10,8 @@ ghost use Rattle.block.specs.Format.{reading};
 ghost use Rattle.reaction.specs.Instants.{told, state-after, log-after, end-after, instant-verdict, logged-verdict, heard-verdict, heard-logged-verdict};
 ghost use Rattle.reaction.specs.declared.Given.the-variants.{All, Two};
 ghost use Rattle.foldheron.specs.Answers.{check-owed, begun-owed, state-owed, part-owed, part-values};
-ghost use Rattle.exports.specs.Layout.{lent, Answers};
-ghost use Rattle.exports.specs.Calls.{told-values, logged-values};
+ghost use Rattle.exports.specs.Layout.{lent, Answers, lent-both, AnswersBoth};
+ghost use Rattle.exports.specs.Calls.{told-values, logged-values, install-owed, install-leaves, fetch-owed, fetch-leaves, withdraw-owed, withdraw-leaves};
 
 const ANSWER: u16 = 64;
 
@@ -140,6 +140,68 @@ pub extern "C" fn foldheron_excerpt(block: &[u8], n: usize, answer: &mut [u8]) -
         return ANSWER;
     }
     let values = values::excerpt(block, n);
+    put_values(answer, &values);
+    values[0] as u16
+}
+
+// 16 bytes: the number and the place.
+#[no_mangle]
+pub extern "C" fn foldheron_install(
+    shelf: &mut [u8],
+    party: u16,
+    name: u16,
+    block: &[u8],
+    answer: &mut [u8],
+) -> u16
+    ensures { λ r. ⌜ Answers 2 (install-owed (now (shelf .entry)) party name (now (block .entry))) (now (answer .entry)) (now (answer .exit)) r ⌝ }
+    ensures { λ _. ⌜ now (shelf .exit) ≡ lent 2 (now (answer .entry)) (install-leaves (now (shelf .entry)) party name (now (block .entry))) (now (shelf .entry)) ⌝ }
+{
+    if answer.len() != 16 {
+        return ANSWER;
+    }
+    let values = values::install(shelf, party, name, block);
+    put_values(answer, &values);
+    values[0] as u16
+}
+
+// 24 bytes: the number, the place, and how many bytes the block has, which is copied to the front of 3,086 lent bytes.
+#[no_mangle]
+pub extern "C" fn foldheron_fetch(
+    shelf: &[u8],
+    party: u16,
+    name: u16,
+    block: &mut [u8],
+    answer: &mut [u8],
+) -> u16
+    ensures { λ r. ⌜ AnswersBoth 3 (now (block .entry)) (fetch-owed (now (shelf .entry)) party name) (now (answer .entry)) (now (answer .exit)) r ⌝ }
+    ensures { λ _. ⌜ now (block .exit) ≡ lent-both 3 (now (block .entry)) (now (answer .entry)) (fetch-leaves (now (shelf .entry)) party name (now (block .entry))) (now (block .entry)) ⌝ }
+{
+    if block.len() != 3086 {
+        return ANSWER;
+    }
+    if answer.len() != 24 {
+        return ANSWER;
+    }
+    let values = values::fetch(shelf, party, name, block);
+    put_values(answer, &values);
+    values[0] as u16
+}
+
+// 16 bytes: the number and the place.
+#[no_mangle]
+pub extern "C" fn foldheron_withdraw(
+    shelf: &mut [u8],
+    party: u16,
+    name: u16,
+    answer: &mut [u8],
+) -> u16
+    ensures { λ r. ⌜ Answers 2 (withdraw-owed (now (shelf .entry)) party name) (now (answer .entry)) (now (answer .exit)) r ⌝ }
+    ensures { λ _. ⌜ now (shelf .exit) ≡ lent 2 (now (answer .entry)) (withdraw-leaves (now (shelf .entry)) party name) (now (shelf .entry)) ⌝ }
+{
+    if answer.len() != 16 {
+        return ANSWER;
+    }
+    let values = values::withdraw(shelf, party, name);
     put_values(answer, &values);
     values[0] as u16
 }

@@ -3,14 +3,18 @@
 use foldheron::Begun;
 use foldheron::Checked;
 use foldheron::Instant;
+use foldheron::Shelved;
 use foldheron::number_of;
+use records::parts::copy_at;
 ghost use mathlib.Core.Path.{_≡_};
+ghost use lib.ListN.{length};
 ghost use Rattle.block.specs.Format.{reading};
 ghost use Rattle.reaction.specs.Instants.{told, state-after, log-after, end-after, instant-verdict, logged-verdict, heard-verdict, heard-logged-verdict};
 ghost use Rattle.reaction.specs.declared.Given.the-variants.{All, Two};
 ghost use Rattle.foldheron.specs.Answers.{check-owed, begun-owed, state-owed, part-owed, part-values};
 ghost use Rattle.reaction.specs.Answers.{instant-told};
-ghost use Rattle.exports.specs.Calls.{logged-values};
+ghost use Rattle.shelf.specs.Answered.{shelved-values};
+ghost use Rattle.exports.specs.Calls.{logged-values, install-owed, install-leaves, fetch-owed, fetch-leaves, withdraw-owed, withdraw-leaves};
 
 // Number, place, version, inputs, outputs, locals, statements, pauses.
 pub(crate) fn check(block: &[u8]) -> [u64; 8]
@@ -165,4 +169,41 @@ pub(crate) fn excerpt(block: &[u8], n: usize) -> [u64; 4]
         part.offset as u64,
         part.size as u64,
     ]
+}
+
+// Number, place.
+fn shelved(answer: Shelved) -> [u64; 2]
+    ensures { λ r. ⌜ r ≡ shelved-values answer ⌝ }
+{
+    match answer {
+        Shelved::Done => [0, 0],
+        Shelved::TurnedDown(why, place) => [number_of(why) as u64, place as u64],
+    }
+}
+
+pub(crate) fn install(shelf: &mut [u8], party: u16, name: u16, block: &[u8]) -> [u64; 2]
+    ensures { λ r. ⌜ r ≡ install-owed (now (shelf .entry)) party name (now (block .entry)) ⌝ }
+    ensures { λ _. ⌜ now (shelf .exit) ≡ install-leaves (now (shelf .entry)) party name (now (block .entry)) ⌝ }
+{
+    shelved(foldheron::install(shelf, party, name, block))
+}
+
+// Number, place, and how many bytes the block has, which is copied to the front of the lent ones.
+pub(crate) fn fetch(shelf: &[u8], party: u16, name: u16, block: &mut [u8]) -> [u64; 3]
+    requires { ⌜ length (now block) ≡ 3086 ⌝ }
+    ensures { λ r. ⌜ r ≡ fetch-owed (now (shelf .entry)) party name ⌝ }
+    ensures { λ _. ⌜ now (block .exit) ≡ fetch-leaves (now (shelf .entry)) party name (now (block .entry)) ⌝ }
+{
+    let mut number: u16 = 0;
+    let mut place: usize = 0;
+    let part = foldheron::fetch(shelf, party, name, &mut number, &mut place);
+    copy_at(block, 0, part);
+    [number as u64, place as u64, part.len() as u64]
+}
+
+pub(crate) fn withdraw(shelf: &mut [u8], party: u16, name: u16) -> [u64; 2]
+    ensures { λ r. ⌜ r ≡ withdraw-owed (now (shelf .entry)) party name ⌝ }
+    ensures { λ _. ⌜ now (shelf .exit) ≡ withdraw-leaves (now (shelf .entry)) party name ⌝ }
+{
+    shelved(foldheron::withdraw(shelf, party, name))
 }

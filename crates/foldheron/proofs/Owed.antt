@@ -29,7 +29,7 @@ use Rattle.block.proofs.GoodReadings.{Sound, sound}
 use Rattle.block.proofs.Places.{At, at-number, has-row}
 use Rattle.block.proofs.Offsets.{tabled-listed, offset-below, offset-most}
 use Rattle.foldheron.specs.Answers.{check-values, check-owed, begun-values, begun-owed, state-owed, absent-part, part-owed, part-lies}
-use Rattle.foldheron.specs.Parts.{LiesAt}
+use Rattle.records.specs.Parts.{LiesAt}
 use Rattle.foldheron.specs.declared.Begun.{Begun}
 use Rattle.foldheron.specs.declared.Begun.the-variants.{Fresh, TurnedDown}
 use Rattle.foldheron.specs.declared.Part.{Part}

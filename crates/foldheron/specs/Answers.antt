@@ -14,7 +14,7 @@ use Rattle.records.specs.StateRecord.{state-size, state-record}
 use Rattle.foldheron.specs.declared.Begun.{Begun}
 use Rattle.foldheron.specs.declared.Begun.the-variants.{Fresh, TurnedDown}
 use Rattle.foldheron.specs.declared.Part.{Part}
-use Rattle.foldheron.specs.Parts.{LiesAt}
+use Rattle.records.specs.Parts.{LiesAt}
 
 -- A check's answer: number and place, then version, inputs, outputs, locals, statements and pauses.
 unfoldable pub check-values : Checked → List ℕ

@@ -1,4 +1,5 @@
-// What users call: the check of a block, a fresh state for it, one instant, one with a log record, and an excerpt of a block.
+// What users call: the check of a block, a fresh state for it, one instant, one with a log record, an excerpt of a block, and the calls on a
+// shelf of blocks: install, fetch and withdraw.
 pub use block::kinds::Code;
 use block::kinds::wide;
 pub use block::whole::Checked;
@@ -12,13 +13,18 @@ pub use reaction::Reaction;
 use reaction::comes_to;
 use records::log::no_room;
 use records::log::write_at_end;
+use records::parts::cut;
 use records::state::write_next;
 use records::state::write_state;
 pub use refusals::Why;
 pub use refusals::number_of;
+pub use shelf::Shelved;
+pub use shelf::fetch;
+pub use shelf::install;
+pub use shelf::withdraw;
 ghost use mathlib.Core.Path.{_≡_};
 ghost use mathlib.Core.Bool.{false};
-ghost use Prim.Native.Nat.{_+_, _-_, _≤_, _<_};
+ghost use Prim.Native.Nat.{_+_, _≤_, _<_};
 ghost use lib.ListN.{length, getD};
 ghost use Rattle.block.specs.Format.{reading};
 ghost use Rattle.records.specs.LogRecord.{no-room};
@@ -26,7 +32,6 @@ ghost use Rattle.reaction.specs.declared.Given.the-variants.{All, Two};
 ghost use Rattle.reaction.specs.Instants.{told, state-after, log-after, end-after, verdict, instant-verdict, logged-verdict, heard-verdict, heard-logged-verdict};
 ghost use Rattle.reaction.specs.Answers.{instant-told};
 ghost use Rattle.foldheron.specs.Answers.{check-values, check-owed, begun-values, begun-owed, state-owed, absent-part, part-owed, part-lies};
-ghost use Rattle.foldheron.specs.Parts.{LiesAt};
 
 // A fresh state was written, or why it was not and where.
 pub enum Begun {
@@ -124,14 +129,6 @@ pub fn part_of(block: &[u8], n: usize) -> Part
             }
         }
     }
-}
-
-// The lent bytes from start to end themselves, no copy of them.
-fn cut<'a>(lent: &'a [u8], start: usize, end: usize) -> &'a [u8]
-    requires { ⌜ (start ≤ end) × (end ≤ length (now lent)) ⌝ }
-    ensures { λ r. ⌜ LiesAt r (lent .entry) start (end - start) ⌝ }
-{
-    &lent[start..end]
 }
 
 // The part of the block that holds statement n and all below it: numbers 1 to 8, then 14; refused, an empty part.

@@ -32,7 +32,7 @@ use Rattle.foldheron.proofs.Calls.{Leaves, leaves}
 use Rattle.promises.proofs.OneAnswer.{remade}
 
 -- A refusal of a block has its name.
-named-in-block : (b : List ℕ) (n at : ℕ) → reading b ≡ turned-down n at → number (why-of n) ≡ n
+pub named-in-block : (b : List ℕ) (n at : ℕ) → reading b ≡ turned-down n at → number (why-of n) ≡ n
 named-in-block b n at e = let r = numbers b n at e in number-back n (of-a-block n (r .0) (r .1))
 
 pub a-check : (b : List ℕ) → (r : Checked) × (check-values r ≡ check-owed (reading b))

@@ -4,20 +4,26 @@ use mathlib.Core.Path.{_≡_}
 use mathlib.Core.Bool.{false}
 use mathlib.Core.List.{List}
 use Prim.Native.Nat.{ℕ}
+use lib.ListN.{length}
 use Rattle.block.specs.Format.{reading}
 use Rattle.reaction.specs.Instants.{told, state-after, log-after, end-after, verdict}
 use Rattle.records.specs.LogRecord.{no-room}
 use Rattle.reaction.specs.declared.Given.{Given}
+use Rattle.records.specs.Parts.{LiesAt}
+use Rattle.shelf.specs.Calls as shelf
+use Rattle.shelf.specs.Answered.{shelved-values, shelved-owed, lies-from}
 use Rattle.refusals.specs.declared.Why.{Why}
 use Rattle.block.specs.declared.whole.Checked.{Checked}
 use Rattle.foldheron.specs.declared.Begun.{Begun}
 use Rattle.foldheron.specs.declared.Part.{Part}
 use Rattle.reaction.specs.declared.Instant.{Instant}
 use Rattle.foldheron.specs.declared.Logged.{Logged}
+use Rattle.shelf.specs.declared.Shelved.{Shelved}
 use Rattle.reaction.specs.Answers.{instant-told}
 use Rattle.refusals.specs.Refusals.{number}
 use Rattle.foldheron.specs.Answers.{check-values, check-owed, begun-values, begun-owed, state-owed, part-owed, part-lies}
-use Rattle.promises.specs.Calls.{_holds_, CheckCalled, FreshCalled, CalledFor, LoggedFor, with-set, with-two, PartCalled, ExcerptCalled, NumberCalled}
+use Rattle.promises.specs.Calls.{_holds_, CheckCalled, FreshCalled, CalledFor, LoggedFor, with-set, with-two, PartCalled, ExcerptCalled}
+use Rattle.promises.specs.Calls.{InstallCalled, FetchCalled, WithdrawCalled, NumberCalled}
 
 module _ (b : List ℕ) where
   pub check-says : {r : Checked} → CheckCalled b r → check-values r ≡ check-owed (reading b)
@@ -63,6 +69,28 @@ module _ (b : List ℕ) where
 
     pub excerpt-place : p ≡ part-owed (reading b) n .place
     excerpt-place = c .call .learnt .1 .1
+
+module _ {s : List ℕ} {party name : ℕ} where
+  pub install-says : {b s′ : List ℕ} {r : Shelved} → InstallCalled s party name b r s′
+      → (shelved-values r ≡ shelved-owed (shelf.told s (shelf.install party name b))) × (s′ ≡ shelf.left s (shelf.install party name b))
+  install-says c = c .call .learnt
+
+  pub withdraw-says : {s′ : List ℕ} {r : Shelved} → WithdrawCalled s party name r s′
+      → (shelved-values r ≡ shelved-owed (shelf.told s (shelf.withdraw party name))) × (s′ ≡ shelf.left s (shelf.withdraw party name))
+  withdraw-says c = c .call .learnt
+
+  module _ {part : List ℕ} {k p : ℕ} (c : FetchCalled s party name part k p) where
+    pub fetch-part : part ≡ shelf.told s (shelf.fetch party name) .part
+    fetch-part = c .call .learnt .0
+
+    pub fetch-lies : LiesAt (c .call .places 3 holds part) (c .call .places 0 holds s) (lies-from s party name) (length (shelf.told s (shelf.fetch party name) .part))
+    fetch-lies = c .call .learnt .1 .0
+
+    pub fetch-number : k ≡ shelf.told s (shelf.fetch party name) .number
+    fetch-number = c .call .learnt .1 .1 .0
+
+    pub fetch-place : p ≡ shelf.told s (shelf.fetch party name) .place
+    fetch-place = c .call .learnt .1 .1 .1
 
 pub number-says : {why : Why} {k : ℕ} → NumberCalled why k → k ≡ number why
 number-says c = c .call .learnt

@@ -13,4 +13,6 @@ pub mod FirstRefusal
 pub mod LoggedRuns
 pub mod Demand1
 pub mod Heard
+pub mod ShelfAnswers
+pub mod Shelves
 pub mod Promises

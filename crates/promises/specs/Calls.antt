@@ -16,6 +16,7 @@ use Rattle.reaction.specs.declared.Given.{Given}
 use Rattle.reaction.specs.declared.Given.the-variants.{All, Two}
 use Rattle.reaction.specs.declared.Instant.{Instant}
 use Rattle.foldheron.specs.declared.Logged.{Logged}
+use Rattle.shelf.specs.declared.Shelved.{Shelved}
 use Rattle.reaction.specs.Answers.{instant-told}
 use Rattle.refusals.proofs.number_of.Reads as number_of
 use Rattle.foldheron.proofs.check.Reads as check
@@ -26,6 +27,9 @@ use Rattle.foldheron.proofs.instant.Reads as instant
 use Rattle.foldheron.proofs.instant_logged.Reads as instant_logged
 use Rattle.foldheron.proofs.instant_heard.Reads as instant_heard
 use Rattle.foldheron.proofs.instant_heard_logged.Reads as instant_heard_logged
+use Rattle.shelf.proofs.install.Reads as install
+use Rattle.shelf.proofs.fetch.Reads as fetch
+use Rattle.shelf.proofs.withdraw.Reads as withdraw
 
 -- Where something lent lies in memory, and a reference to what it holds.
 pub record Place : Type 0 where
@@ -89,6 +93,22 @@ pub record ExcerptCalled (b : List ℕ) (n : ℕ) (part : List ℕ) (k p : ℕ) 
   pub place-before : ℕ
   pub call : Call 3 λ κs at.
       excerpt.Learnt κs (at 0 holds b, (n, (at 1 holds number-before, (at 2 holds place-before, tt)))) (at 3 holds part) (at 0 holds b, (n, (at 1 holds k, (at 2 holds p, tt))))
+
+-- `install` of the block b under a party's name on the lent shelf s answers r and leaves s′.
+pub record InstallCalled (s : List ℕ) (party name : ℕ) (b : List ℕ) (r : Shelved) (s′ : List ℕ) : Type 0 where
+  pub call : Call 2 λ κs at. install.Learnt κs (at 0 holds s, (party, (name, (at 1 holds b, tt)))) r (at 0 holds s′, (party, (name, (at 1 holds b, tt))))
+
+-- `fetch` of a party's name hands back a part of the shelf s with these bytes, and leaves the number k and the place p in the two that are lent for them.
+pub record FetchCalled (s : List ℕ) (party name : ℕ) (part : List ℕ) (k p : ℕ) : Type 0 where
+  pub number-before : ℕ
+  pub place-before : ℕ
+  pub call : Call 3 λ κs at.
+      fetch.Learnt κs (at 0 holds s, (party, (name, (at 1 holds number-before, (at 2 holds place-before, tt))))) (at 3 holds part)
+      (at 0 holds s, (party, (name, (at 1 holds k, (at 2 holds p, tt)))))
+
+-- `withdraw` of a party's name on the lent shelf s answers r and leaves s′.
+pub record WithdrawCalled (s : List ℕ) (party name : ℕ) (r : Shelved) (s′ : List ℕ) : Type 0 where
+  pub call : Call 1 λ κs at. withdraw.Learnt κs (at 0 holds s, (party, (name, tt))) r (at 0 holds s′, (party, (name, tt)))
 
 -- `number_of` a refusal answers k.
 pub record NumberCalled (why : Why) (k : ℕ) : Type 0 where

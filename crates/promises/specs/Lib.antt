@@ -4,3 +4,4 @@ pub mod Calls
 pub mod Tests
 pub mod FirstRecord
 pub mod Demand1
+pub mod Shelves

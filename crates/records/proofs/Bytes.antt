@@ -6,7 +6,7 @@ use Prim.Native.Nat.{ℕ, zero, suc, _+_, _-_, _*_, _/_, _%_, _^_, _≤_, _<_}
 use native.Mathlib.Nat.{pow-suc, pow-le-pow-right, zero-lt-suc, add-zero, zero-add, add-suc, suc-add}
 use native.Mathlib.Omega.{arith}
 use lib.ListN.{length, getD, take, drop, set}
-use lib.Seq.{drop-cons, sets, sets-eq}
+use lib.Seq.{drop-cons, sets, sets-eq, paste, paste-suc, take-length}
 use Rattle.records.specs.Numerals.{Bytes, in-bytes, as-number, field}
 
 -- A field, from its first byte on.
@@ -89,3 +89,15 @@ small-begin n = let e : n - n ≡ 0 = omega arith in subst (λ (k : ℕ). 0 < 25
 
 pub field-end : (s : List ℕ) (at n k : ℕ) → k ≤ 0 → field s (at + k) (n - k) ≡ field s at n
 field-end s at n k h = let a : at + k ≡ at = omega arith in let b : n - k ≡ n = omega arith in ap₂ (field s) a b
+
+-- A copy that is at its end.
+pub copied : (d : List ℕ) (at : ℕ) (s : List ℕ) (i : ℕ) → i ≤ length s → length s ≤ i → at + length s ≤ length d → paste d at s i ≡ sets d at s
+copied d at s i l h m =
+    let e : i ≡ length s = omega arith in
+    ap (paste d at s) e ∙ ap (λ (x : List ℕ). take at d ++ x ++ drop (at + length s) d) (take-length s) ∙ sym (sets-eq s d at m)
+
+pub copy-more : (d : List ℕ) (at : ℕ) (s : List ℕ) (i : ℕ) {x : List ℕ} → x ≡ paste d at s i → at + length s ≤ length d → i < length s
+    → set x (at + i) (getD s i 0) ≡ paste d at s (i + 1)
+copy-more d at s i e m h =
+    let n : suc i ≡ i + 1 = omega arith in
+    ap (λ (y : List ℕ). set y (at + i) (getD s i 0)) e ∙ paste-suc d at s i 0 (omega arith) h ∙ ap (paste d at s) n

@@ -1,4 +1,5 @@
 pub mod Numerals
+pub mod Parts
 pub mod Fields
 pub mod StateRecord
 pub mod Held

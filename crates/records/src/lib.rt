@@ -4,4 +4,5 @@ pub mod clash;
 pub mod fields;
 pub mod log;
 pub mod numerals;
+pub mod parts;
 pub mod state;

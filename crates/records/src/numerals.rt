@@ -6,7 +6,7 @@ ghost use lib.Seq.{sets};
 ghost use Rattle.records.specs.Numerals.{in-bytes, field};
 
 // The number in n bytes from a place on, the highest byte first into the sum.
-pub(crate) fn number_at(s: &[u8], at: usize, n: usize) -> u64
+pub fn number_at(s: &[u8], at: usize, n: usize) -> u64
     requires { ⌜ (at + n ≤ length (now s)) × (n ≤ 8) ⌝ }
     ensures { λ r. ⌜ r ≡ field (now (s .entry)) at n ⌝ }
 {

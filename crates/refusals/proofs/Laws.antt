@@ -8,7 +8,7 @@ use lib.Dec.{T, eqb}
 use borrow.Author.Tests.{eq-eqb, ne-eqb}
 use native.Mathlib.Decide.{ℕ-discrete}
 use Rattle.refusals.specs.declared.Why.{Why}
-use Rattle.refusals.specs.declared.Why.the-variants.{Broken, Kind, Edition, Limit, Signal, Exit, Shape, Loop, State, Clash, Input, Room, NotConstructive, Index, OtherBlock}
+use Rattle.refusals.specs.declared.Why.the-variants.{Broken, Kind, Edition, Limit, Signal, Exit, Shape, Loop, State, Clash, Input, Room, NotConstructive, Index, OtherBlock, Party, Shelf, Taken, Quota, Absent}
 use Rattle.refusals.specs.Refusals.{number, refusals, has-number, first-with, has-refusal, why-of}
 
 number-in : (ws : List Why) (n : ℕ) → T (has-number ws n) → number (first-with ws n) ≡ n
@@ -69,6 +69,11 @@ why-back Room = refl
 why-back NotConstructive = refl
 why-back Index = refl
 why-back OtherBlock = refl
+why-back Party = refl
+why-back Shelf = refl
+why-back Taken = refl
+why-back Quota = refl
+why-back Absent = refl
 
 pub numbers-differ : (v w : Why) → number v ≡ number w → v ≡ w
 numbers-differ v w e = sym (why-back v) ∙ ap why-of e ∙ why-back w

@@ -4,7 +4,7 @@ use mathlib.Core.List.{List, [], _∷_}
 use Prim.Native.Nat.{ℕ}
 use lib.Dec.{eqb}
 use Rattle.refusals.specs.declared.Why.{Why}
-use Rattle.refusals.specs.declared.Why.the-variants.{Broken, Kind, Edition, Limit, Signal, Exit, Shape, Loop, State, Clash, Input, Room, NotConstructive, Index, OtherBlock}
+use Rattle.refusals.specs.declared.Why.the-variants.{Broken, Kind, Edition, Limit, Signal, Exit, Shape, Loop, State, Clash, Input, Room, NotConstructive, Index, OtherBlock, Party, Shelf, Taken, Quota, Absent}
 
 -- The numbers given back when a call is turned down.
 unfoldable pub number : Why → ℕ
@@ -23,10 +23,15 @@ number Room = 12
 number NotConstructive = 13
 number Index = 14
 number OtherBlock = 17
+number Party = 18
+number Shelf = 19
+number Taken = 20
+number Quota = 21
+number Absent = 22
 
 -- All of them, by rising numbers.
 abbrev pub refusals : List Why
-refusals = Broken ∷ Kind ∷ Edition ∷ Limit ∷ Signal ∷ Exit ∷ Shape ∷ Loop ∷ State ∷ Clash ∷ Input ∷ Room ∷ NotConstructive ∷ Index ∷ OtherBlock ∷ []
+refusals = Broken ∷ Kind ∷ Edition ∷ Limit ∷ Signal ∷ Exit ∷ Shape ∷ Loop ∷ State ∷ Clash ∷ Input ∷ Room ∷ NotConstructive ∷ Index ∷ OtherBlock ∷ Party ∷ Shelf ∷ Taken ∷ Quota ∷ Absent ∷ []
 
 -- Whether one of a list has a number, and which one has it first; INDEX, where none has it.
 unfoldable pub has-number : List Why → ℕ → Bool

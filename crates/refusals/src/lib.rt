@@ -19,6 +19,11 @@ pub enum Why {
     NotConstructive,
     Index,
     OtherBlock,
+    Party,
+    Shelf,
+    Taken,
+    Quota,
+    Absent,
 }
 
 // The refusal of a number.
@@ -41,6 +46,11 @@ pub fn refusal(n: u16) -> Why
         13 => Why::NotConstructive,
         14 => Why::Index,
         17 => Why::OtherBlock,
+        18 => Why::Party,
+        19 => Why::Shelf,
+        20 => Why::Taken,
+        21 => Why::Quota,
+        22 => Why::Absent,
         _ => Why::Index,
     }
 }
@@ -65,5 +75,10 @@ pub fn number_of(why: Why) -> u16
         Why::NotConstructive => 13,
         Why::Index => 14,
         Why::OtherBlock => 17,
+        Why::Party => 18,
+        Why::Shelf => 19,
+        Why::Taken => 20,
+        Why::Quota => 21,
+        Why::Absent => 22,
     }
 }

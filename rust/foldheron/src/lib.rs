@@ -46,6 +46,11 @@ pub fn name_of(number: u16) -> Option<&'static str> {
         13 => "NOT CONSTRUCTIVE",
         14 => "INDEX",
         17 => "OTHER BLOCK",
+        18 => "PARTY",
+        19 => "SHELF",
+        20 => "TAKEN",
+        21 => "QUOTA",
+        22 => "ABSENT",
         _ => return None,
     })
 }
@@ -119,6 +124,11 @@ pub const STATE: usize = 26;
 /// How many bytes a log record has.
 pub const RECORD: usize = 32;
 
+/// How many bytes a shelf has. An empty one is that many zeros.
+pub const SHELF: usize = 65_536;
+/// How many bytes of entries each of its two parties may hold: of each entry 8 and its block's.
+pub const HELD_MOST: usize = 32_768;
+
 /// Checks a block.
 pub fn check(block: &[u8]) -> Result<Summary, Refusal> {
     let a = raw::check(block);
@@ -169,6 +179,25 @@ pub fn excerpt(block: &[u8], n: usize) -> Result<&[u8], Refusal> {
     refusal(&a)?;
     let offset = number(&a, 2) as usize;
     Ok(&block[offset..offset + number(&a, 3) as usize])
+}
+
+/// Puts a block on the shelf as the party's block of that name, after the last entry. Refused, no byte of the shelf changes.
+pub fn install(shelf: &mut [u8], party: u16, name: u16, block: &[u8]) -> Result<(), Refusal> {
+    refusal(&raw::install(shelf, party, name, block))
+}
+
+/// The party's block of that name: copied into the lent bytes, of which the part that it fills is handed back. A part of the shelf itself would
+/// tell where it lies, and that depends on what the other party has installed. Refused, no lent byte changes.
+pub fn fetch<'a>(shelf: &[u8], party: u16, name: u16, into: &'a mut [u8; BLOCK_MOST]) -> Result<&'a [u8], Refusal> {
+    let a = raw::fetch(shelf, party, name, into);
+    refusal(&a)?;
+    Ok(&into[..number(&a, 2) as usize])
+}
+
+/// Takes the party's block of that name off the shelf and closes the gap: the entries behind it keep their content and order. Refused, no byte
+/// of the shelf changes.
+pub fn withdraw(shelf: &mut [u8], party: u16, name: u16) -> Result<(), Refusal> {
+    refusal(&raw::withdraw(shelf, party, name))
 }
 
 /// The n-th number of an answer.

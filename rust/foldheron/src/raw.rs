@@ -24,6 +24,13 @@ extern "C" {
         log_len: usize, end: usize, answer: *mut u8, answer_len: usize,
     ) -> u16;
     fn foldheron_excerpt(block: *const u8, block_len: usize, n: usize, answer: *mut u8, answer_len: usize) -> u16;
+    fn foldheron_install(
+        shelf: *mut u8, shelf_len: usize, party: u16, name: u16, block: *const u8, block_len: usize, answer: *mut u8, answer_len: usize,
+    ) -> u16;
+    fn foldheron_fetch(
+        shelf: *const u8, shelf_len: usize, party: u16, name: u16, block: *mut u8, block_len: usize, answer: *mut u8, answer_len: usize,
+    ) -> u16;
+    fn foldheron_withdraw(shelf: *mut u8, shelf_len: usize, party: u16, name: u16, answer: *mut u8, answer_len: usize) -> u16;
 }
 
 /// The answer, which begins with the number that was given back. It does not where the archive asks for answers of another length.
@@ -83,5 +90,28 @@ pub fn instant_heard_logged(block: &[u8], state: &mut [u8], present: u64, absent
 pub fn excerpt(block: &[u8], n: usize) -> [u8; 32] {
     let mut answer = [0; 32];
     let number = unsafe { foldheron_excerpt(block.as_ptr(), block.len(), n, answer.as_mut_ptr(), answer.len()) };
+    told(number, answer)
+}
+
+pub fn install(shelf: &mut [u8], party: u16, name: u16, block: &[u8]) -> [u8; 16] {
+    let mut answer = [0; 16];
+    let (lent, size) = (shelf.as_mut_ptr(), shelf.len());
+    let (into, length) = (answer.as_mut_ptr(), answer.len());
+    let number = unsafe { foldheron_install(lent, size, party, name, block.as_ptr(), block.len(), into, length) };
+    told(number, answer)
+}
+
+pub fn fetch(shelf: &[u8], party: u16, name: u16, block: &mut [u8]) -> [u8; 24] {
+    let mut answer = [0; 24];
+    let (lent, size) = (block.as_mut_ptr(), block.len());
+    let (into, length) = (answer.as_mut_ptr(), answer.len());
+    let number = unsafe { foldheron_fetch(shelf.as_ptr(), shelf.len(), party, name, lent, size, into, length) };
+    told(number, answer)
+}
+
+pub fn withdraw(shelf: &mut [u8], party: u16, name: u16) -> [u8; 16] {
+    let mut answer = [0; 16];
+    let (lent, size) = (shelf.as_mut_ptr(), shelf.len());
+    let number = unsafe { foldheron_withdraw(lent, size, party, name, answer.as_mut_ptr(), answer.len()) };
     told(number, answer)
 }

@@ -1,7 +1,7 @@
 //! The likely cause of a refused block, and what to do about it. Where something can be tried it is tried: a file whose pairs of bytes are turned
 //! round and that is then good was written high byte first.
 
-use crate::layout::{begins_log_record, begins_state, eight, two, Header, BLOCK_MOST, HEADER, RECORD, SET};
+use crate::layout::{begins_entry, begins_log_record, begins_state, eight, two, Header, BLOCK_MOST, HEADER, RECORD, SET};
 use crate::walk::counted;
 use foldheron::{check, Refusal};
 
@@ -94,6 +94,9 @@ fn other_record(block: &[u8], _: &Refusal) -> Option<Cause> {
     }
     if begins_log_record(block) {
         return cause("this is a log, not a block", "foldheron log shows it; name the block's file here");
+    }
+    if begins_entry(block) {
+        return cause("this is a shelf, not a block", "foldheron shelf fetches a block from it; name the block's file here");
     }
     None
 }

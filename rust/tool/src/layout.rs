@@ -1,6 +1,7 @@
-//! The bytes of a block, a state and a log record: every length, offset and kind stands here and nowhere else in the program.
+//! The bytes of a block, a state, a log record and a shelf: every length, offset and kind stands here and nowhere else in the program.
 
 pub use foldheron::{BLOCK_MOST, RECORD, STATE};
+pub use foldheron::{HELD_MOST, SHELF};
 
 /// A state of the versions before 2.0.0, which does not name its block.
 pub const OLD_STATE: usize = 22;
@@ -13,6 +14,9 @@ pub const HEADER: usize = 14;
 pub const HEADER_KIND: u16 = 1;
 pub const STATE_KIND: u16 = 2;
 pub const LOG_KIND: u16 = 3;
+pub const ENTRY_KIND: u16 = 5;
+/// What an entry of a shelf has before its block: a head, the party, the name.
+pub const ENTRY: usize = HEAD + 4;
 /// An input set.
 pub const SET: usize = 8;
 
@@ -190,9 +194,60 @@ pub fn begins_state(bytes: &[u8], length: u64) -> bool {
     two(bytes, 0).map(u64::from) == Some(length) && two(bytes, 2) == Some(STATE_KIND)
 }
 
+/// Whether the bytes begin with the head of an entry, as those of a shelf do that is not empty.
+pub fn begins_entry(bytes: &[u8]) -> bool {
+    two(bytes, 2) == Some(ENTRY_KIND) && two(bytes, 0).map_or(false, |length| usize::from(length) > ENTRY)
+}
+
+/// An entry of a shelf.
+#[derive(Clone, Copy, PartialEq, Eq, Debug)]
+pub struct Entry<'a> {
+    pub party: u16,
+    pub name: u16,
+    pub block: &'a [u8],
+}
+
+impl Entry<'_> {
+    /// How many bytes it has with its block.
+    pub fn length(&self) -> usize {
+        ENTRY + self.block.len()
+    }
+}
+
+/// The entries of a shelf from its front on, as far as there are any.
+pub fn entries(shelf: &[u8]) -> Vec<Entry<'_>> {
+    let mut all: Vec<Entry> = Vec::new();
+    let mut at = 0;
+    while let Some(entry) = entry_at(shelf, at) {
+        at += entry.length();
+        all.push(entry);
+    }
+    all
+}
+
+fn entry_at(shelf: &[u8], at: usize) -> Option<Entry<'_>> {
+    let length = usize::from(two(shelf, at)?);
+    if two(shelf, at + 2)? != ENTRY_KIND {
+        return None;
+    }
+    let block = shelf.get(at + ENTRY..at + length)?;
+    Some(Entry { party: two(shelf, at + HEAD)?, name: two(shelf, at + HEAD + 2)?, block })
+}
+
 #[cfg(test)]
 mod tests {
     use super::*;
+
+    #[test]
+    fn entries_of_a_shelf() {
+        let shelf = [9, 0, 5, 0, 1, 0, 7, 1, 77, 10, 0, 5, 0, 0, 0, 7, 0, 1, 2, 0, 0, 0, 0, 0, 0, 0, 0];
+        let found: Vec<_> = entries(&shelf).iter().map(|entry| (entry.party, entry.name, entry.block.to_vec(), entry.length())).collect();
+        assert_eq!(found, [(1, 263, vec![77], 9), (0, 7, vec![1, 2], 10)]);
+        for length in 0..shelf.len() {
+            assert_eq!(entries(&shelf[..length]).len(), usize::from(length >= 9) + usize::from(length >= 19));
+        }
+        assert!(entries(&[7, 0, 5, 0, 0, 0, 0, 0, 0]).is_empty() && entries(&[9, 0, 4, 0, 0, 0, 0, 0, 0]).is_empty());
+    }
 
     #[test]
     fn a_log_record() {

@@ -8,7 +8,7 @@ use Rattle.foldheron.proofs.excerpt.Statement.{statement}
 use Rattle.foldheron.proofs.excerpt.Tie as tie
 use Rattle.foldheron.proofs.excerpt.Reads as reads
 use Rattle.foldheron.proofs.excerpt.Lts as lts
-use Rattle.foldheron.proofs.cut.Reads as cut-reads
+use Rattle.records.proofs.parts.cut.Reads as cut-reads
 use Rattle.foldheron.proofs.part_of.Reads as part-of-reads
 
 part-of-requires : tie.Need-part-of-requires

@@ -53,6 +53,21 @@ enum-told-14 c = search needs
 enum-told-15 : tie.Need-enum-told-15
 enum-told-15 c = search needs
 
+enum-told-16 : tie.Need-enum-told-16
+enum-told-16 c = search needs
+
+enum-told-17 : tie.Need-enum-told-17
+enum-told-17 c = search needs
+
+enum-told-18 : tie.Need-enum-told-18
+enum-told-18 c = search needs
+
+enum-told-19 : tie.Need-enum-told-19
+enum-told-19 c = search needs
+
+enum-told-20 : tie.Need-enum-told-20
+enum-told-20 c = search needs
+
 returns : tie.Need-returns
 unfolding number
 returns c = ap number (sym (c .enum-told .given .1))
@@ -113,6 +128,26 @@ returns-15 : tie.Need-returns-15
 unfolding number
 returns-15 c = ap number (sym (c .enum-told15 .given .1))
 
+returns-16 : tie.Need-returns-16
+unfolding number
+returns-16 c = ap number (sym (c .enum-told16 .given .1))
+
+returns-17 : tie.Need-returns-17
+unfolding number
+returns-17 c = ap number (sym (c .enum-told17 .given .1))
+
+returns-18 : tie.Need-returns-18
+unfolding number
+returns-18 c = ap number (sym (c .enum-told18 .given .1))
+
+returns-19 : tie.Need-returns-19
+unfolding number
+returns-19 c = ap number (sym (c .enum-told19 .given .1))
+
+returns-20 : tie.Need-returns-20
+unfolding number
+returns-20 c = ap number (sym (c .enum-told20 .given .1))
+
 pub number-of-spec : {M : Type 1} → statement M
 number-of-spec =
     tie.close
@@ -132,6 +167,11 @@ number-of-spec =
     enum-told-13
     enum-told-14
     enum-told-15
+    enum-told-16
+    enum-told-17
+    enum-told-18
+    enum-told-19
+    enum-told-20
     returns
     returns-2
     returns-3
@@ -146,4 +186,9 @@ number-of-spec =
     returns-12
     returns-13
     returns-14
-    returns-15)
+    returns-15
+    returns-16
+    returns-17
+    returns-18
+    returns-19
+    returns-20)

@@ -69,8 +69,28 @@ unfolding number first-with
 returns-15 c = ap why-of (sym (c .match .keys15))
 
 returns-16 : tie.Need-returns-16
+unfolding number first-with
+returns-16 c = ap why-of (sym (c .match .keys16))
+
+returns-17 : tie.Need-returns-17
+unfolding number first-with
+returns-17 c = ap why-of (sym (c .match .keys17))
+
+returns-18 : tie.Need-returns-18
+unfolding number first-with
+returns-18 c = ap why-of (sym (c .match .keys18))
+
+returns-19 : tie.Need-returns-19
+unfolding number first-with
+returns-19 c = ap why-of (sym (c .match .keys19))
+
+returns-20 : tie.Need-returns-20
+unfolding number first-with
+returns-20 c = ap why-of (sym (c .match .keys20))
+
+returns-21 : tie.Need-returns-21
 unfolding number NoneOf
-returns-16 c = none-of _ refusals _ (c .match .rest) .1
+returns-21 c = none-of _ refusals _ (c .match .rest) .1
 
 pub refusal-spec : {M : Type 1} → statement M
 refusal-spec =
@@ -91,4 +111,9 @@ refusal-spec =
     returns-13
     returns-14
     returns-15
-    returns-16)
+    returns-16
+    returns-17
+    returns-18
+    returns-19
+    returns-20
+    returns-21)

@@ -10,6 +10,7 @@ pub mod excerpt;
 pub mod help;
 pub mod log;
 pub mod names;
+pub mod shelf;
 pub mod show;
 pub mod state;
 
@@ -25,8 +26,17 @@ pub struct Command {
     pub run: fn(&Words, &mut Out) -> Outcome<Status>,
 }
 
-pub static COMMANDS: [&Command; 8] =
-    [&check::COMMAND, &show::COMMAND, &crate::run::COMMAND, &excerpt::COMMAND, &state::COMMAND, &log::COMMAND, &names::COMMAND, &help::COMMAND];
+pub static COMMANDS: [&Command; 9] = [
+    &check::COMMAND,
+    &show::COMMAND,
+    &crate::run::COMMAND,
+    &excerpt::COMMAND,
+    &state::COMMAND,
+    &log::COMMAND,
+    &names::COMMAND,
+    &shelf::COMMAND,
+    &help::COMMAND,
+];
 
 pub fn find(name: &str) -> Outcome<&'static Command> {
     COMMANDS.iter().copied().find(|command| command.name == name).ok_or_else(|| unknown(name))

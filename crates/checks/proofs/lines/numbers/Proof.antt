@@ -31,34 +31,53 @@ digit-requires : tie.Need-digit-requires Inv-loop μ-loop
 digit-requires c κs = tt
 
 mul-x : tie.Need-mul-x Inv-loop μ-loop
-mul-x c = omega (arith, c .before .before .before .before .loop .inv .0)
+mul-x c =
+    let at-loop = c .before .before .before .before in
+    omega (arith, at-loop .loop .inv .0)
 
 add-x : tie.Need-add-x Inv-loop μ-loop
-add-x c = omega (arith, c .before .before .before .before .loop .inv .0, c .before .digit .ensures)
+add-x c =
+    let at-digit = c .before in
+    let at-loop = at-digit .before .before .before in
+    omega (arith, at-loop .loop .inv .0, at-digit .digit .ensures)
 
 loop-less : tie.Need-loop-less Inv-loop μ-loop
-loop-less c = omega (arith, c .before .before .before .loop-test .taken)
+loop-less c =
+    let at-loop-test = c .before .before .before in
+    omega (arith, at-loop-test .loop-test .taken)
 
 loop-again : tie.Need-loop-again Inv-loop μ-loop
-loop-again c = (omega arith, c .before .before .before .before .loop .inv .1)
+loop-again c =
+    let at-loop = c .before .before .before .before in
+    (omega arith, at-loop .loop .inv .1)
 
 cast-store : tie.Need-cast-store Inv-loop μ-loop
-cast-store c = omega (arith, c .before .before .before .before .before .loop .inv .0)
+cast-store c =
+    let at-loop = c .before .before .before .before .before in
+    omega (arith, at-loop .loop .inv .0)
 
 store-requires : tie.Need-store-requires Inv-loop μ-loop
 store-requires c κs = tt
 
 same-length : tie.Need-same-length Inv-loop μ-loop
-same-length c = c .before .before .before .store .kept .0 ∙ c .before .before .before .before .before .before .before .before .before .loop .inv .1
+same-length c =
+    let at-store = c .before .before .before in
+    let at-loop = at-store .before .before .before .before .before .before in
+    at-store .store .kept .0 ∙ at-loop .loop .inv .1
 
 returns : tie.Need-returns Inv-loop μ-loop
 returns c = tt
 
 loop-less-2 : tie.Need-loop-less-2 Inv-loop μ-loop
-loop-less-2 c = omega (arith, c .before .before .before .before .before .before .before .before .loop-test .taken)
+loop-less-2 c =
+    let at-loop-test = c .before .before .before .before .before .before .before .before in
+    omega (arith, at-loop-test .loop-test .taken)
 
 loop-again-2 : tie.Need-loop-again-2 Inv-loop μ-loop
-loop-again-2 c = (omega arith, c .before .before .before .store .kept .0 ∙ c .before .before .before .before .before .before .before .before .before .loop .inv .1)
+loop-again-2 c =
+    let at-store = c .before .before .before in
+    let at-loop = at-store .before .before .before .before .before .before in
+    (omega arith, at-store .store .kept .0 ∙ at-loop .loop .inv .1)
 
 same-length-2 : tie.Need-same-length-2 Inv-loop μ-loop
 same-length-2 c = c .before .loop .inv .1

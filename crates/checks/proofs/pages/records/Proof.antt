@@ -37,7 +37,10 @@ word-requires-4 : tie.Need-word-requires-4 Inv-loop μ-loop
 word-requires-4 c κs = tt
 
 add-word : tie.Need-add-word Inv-loop μ-loop
-add-word c = omega (arith, c .before .before .loop-test .taken, c .before .before .before .before .before .before .before .before .before .before .before .before .before .fits .count)
+add-word c =
+    let at-loop-test = c .before .before in
+    let at-fits = at-loop-test .before .before .before .before .before .before .before .before .before .before .before in
+    omega (arith, at-loop-test .loop-test .taken, at-fits .fits .count)
 
 word-requires-5 : tie.Need-word-requires-5 Inv-loop μ-loop
 word-requires-5 c κs = tt
@@ -46,25 +49,42 @@ statement-requires : tie.Need-statement-requires Inv-loop μ-loop
 statement-requires c κs = tt
 
 sub-if1 : tie.Need-sub-if1 Inv-loop μ-loop
-sub-if1 c = omega (arith, c .before .before .before .before .before .before .loop-test .taken)
+sub-if1 c =
+    let at-loop-test = c .before .before .before .before .before .before in
+    omega (arith, at-loop-test .loop-test .taken)
 
 same-length : tie.Need-same-length Inv-loop μ-loop
-same-length c = c .before .before .before .statement .kept .0 ∙ c .before .before .before .before .before .before .before .before .loop .inv ∙ c .before .before .before .before .before .before .before .before .before .before .before .header .kept .0
+same-length c =
+    let at-statement = c .before .before .before in
+    let at-loop = at-statement .before .before .before .before .before in
+    let at-header = at-loop .before .before .before in
+    at-statement .statement .kept .0 ∙ at-loop .loop .inv ∙ at-header .header .kept .0
 
 returns : tie.Need-returns Inv-loop μ-loop
 returns c = tt
 
 add-i : tie.Need-add-i Inv-loop μ-loop
-add-i c = omega (arith, c .before .before .before .before .before .before .before .loop-test .taken, c .if1 .left, c .before .before .before .before .before .before .before .before .before .before .before .before .before .before .before .before .before .before .fits .count)
+add-i c =
+    let at-loop-test = c .before .before .before .before .before .before .before in
+    let at-fits = at-loop-test .before .before .before .before .before .before .before .before .before .before .before in
+    omega (arith, at-loop-test .loop-test .taken, c .if1 .left, at-fits .fits .count)
 
 loop-less : tie.Need-loop-less Inv-loop μ-loop
-loop-less c = omega (arith, c .before .before .before .before .before .before .before .loop-test .taken, c .if1 .left)
+loop-less c =
+    let at-loop-test = c .before .before .before .before .before .before .before in
+    omega (arith, at-loop-test .loop-test .taken, c .if1 .left)
 
 loop-again : tie.Need-loop-again Inv-loop μ-loop
-loop-again c = c .before .before .before .statement .kept .0 ∙ c .before .before .before .before .before .before .before .before .loop .inv
+loop-again c =
+    let at-statement = c .before .before .before in
+    let at-loop = at-statement .before .before .before .before .before in
+    at-statement .statement .kept .0 ∙ at-loop .loop .inv
 
 same-length-2 : tie.Need-same-length-2 Inv-loop μ-loop
-same-length-2 c = c .before .loop .inv ∙ c .before .before .before .before .header .kept .0
+same-length-2 c =
+    let at-loop = c .before in
+    let at-header = at-loop .before .before .before in
+    at-loop .loop .inv ∙ at-header .header .kept .0
 
 returns-2 : tie.Need-returns-2 Inv-loop μ-loop
 returns-2 c = tt

@@ -18,7 +18,11 @@ returns-2 : tie.Need-returns-2
 returns-2 c = search needs
 
 put-record-requires : tie.Need-put-record-requires
-put-record-requires c κs = omega (arith, c .before .before .if1 .left, c .before .if2 .left, length-small (c .before .before .before .before .args .kind))
+put-record-requires c κs =
+    let at-if2 = c .before in
+    let at-if1 = at-if2 .before in
+    let args = at-if1 .before .before .args in
+    omega (arith, at-if1 .if1 .left, at-if2 .if2 .left, length-small (args .kind))
 
 same-length : tie.Need-same-length
 same-length c = search needs

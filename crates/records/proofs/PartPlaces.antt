@@ -7,7 +7,7 @@ use native.Mathlib.Omega.{arith}
 use lib.ListN.{length, take, drop}
 use denote.Ref.{RefT}
 use denote.Slice.{slice-vals, sliceVal}
-use Rattle.foldheron.specs.Parts.{LiesAt}
+use Rattle.records.specs.Parts.{LiesAt}
 
 pub one-offset : {r lent : RefT (List ℕ)} {a b m n : ℕ} → LiesAt r lent a m → LiesAt r lent b n → a ≡ b
 one-offset l k = omega (arith, l .from-offset, k .from-offset)

@@ -1,0 +1,31 @@
+-- `values::fetch`: what the library hands back, copied to the front of the lent bytes, which have room for any block. Assumes nothing.
+use mathlib.Core.Path.{_≡_, ap}
+use Prim.Native.Nat.{_≤_}
+use native.Mathlib.Omega.{arith}
+use lib.ListN.{length}
+use denote.Ref.{now}
+use Rattle.shelf.specs.Calls.{fetch, told}
+use Rattle.shelf.proofs.Told.{fetched-size}
+use Rattle.exports.proofs.Laid.{copied-over, three-values}
+use borrow.Author.Needs.{needs}
+use Rattle.exports.proofs.values.fetch.Statement.{statement}
+use Rattle.exports.proofs.values.fetch.Tie as tie
+use Rattle.exports.proofs.values.fetch.Reads as reads
+use Rattle.exports.proofs.values.fetch.Lts as lts
+use Rattle.records.proofs.parts.copy_at.Reads as copy-at-reads
+use Rattle.shelf.proofs.fetch.Reads as fetch-reads
+
+fetch-requires : tie.Need-fetch-requires
+fetch-requires c κs = search needs
+
+copy-at-requires : tie.Need-copy-at-requires
+copy-at-requires c κs = let a = c .before .before .before .before .before .before .args in let l = fetched-size (now (a .shelf)) (record { byte = λ i. c .before .before .before .before .before .shared-slice-known .given i .fits }) (a .party) (a .name) in let e = ap length (c .before .fetch .ensures .0) in omega (arith, l, e, c .before .before .before .before .before .before .pre)
+
+same-length : tie.Need-same-length
+same-length c = search needs
+
+returns : tie.Need-returns
+returns c = let a = c .before .before .before .before .before .before .before .before .before .before .args in let f = c .before .before .before .before .before .fetch .ensures in let l = fetched-size (now (a .shelf)) (record { byte = λ i. c .before .before .before .before .before .before .before .before .before .shared-slice-known .given i .fits }) (a .party) (a .name) in let m : length (told (now (a .shelf)) (fetch (a .party) (a .name)) .part) ≤ length (now (a .block)) = omega (arith, l, c .before .before .before .before .before .before .before .before .before .before .pre) in (three-values (f .1 .1 .0) (f .1 .1 .1) (ap length (f .0)), copied-over _ _ (f .0) m (c .before .before .before .copy-at .ensures))
+
+pub fetch-spec : {M : Type 1} → statement M
+fetch-spec = tie.close (tie.spec fetch-requires copy-at-requires same-length returns)

@@ -1,0 +1,24 @@
+-- `values::withdraw`: the library's answer as its values, and the shelf as the library leaves it. Assumes nothing.
+use mathlib.Core.Path.{_∙_}
+use borrow.Author.Needs.{needs}
+use Rattle.exports.proofs.values.withdraw.Statement.{statement}
+use Rattle.exports.proofs.values.withdraw.Tie as tie
+use Rattle.exports.proofs.values.withdraw.Reads as reads
+use Rattle.exports.proofs.values.withdraw.Lts as lts
+use Rattle.exports.proofs.values.shelved.Reads as shelved-reads
+use Rattle.shelf.proofs.withdraw.Reads as withdraw-reads
+
+withdraw-requires : tie.Need-withdraw-requires
+withdraw-requires c κs = search needs
+
+shelved-requires : tie.Need-shelved-requires
+shelved-requires c κs = search needs
+
+same-length : tie.Need-same-length
+same-length c = search needs
+
+returns : tie.Need-returns
+returns c = (c .shelved .ensures ∙ c .before .before .before .withdraw .ensures .0, c .before .before .before .withdraw .ensures .1)
+
+pub withdraw-spec : {M : Type 1} → statement M
+withdraw-spec = tie.close (tie.spec withdraw-requires shelved-requires same-length returns)

@@ -1,0 +1,14 @@
+pub mod Lists
+pub mod Legality
+pub mod ReadBack
+pub mod OnlyShelf
+pub mod Answers
+pub mod Rule
+pub mod Conservation
+pub mod Passing
+pub mod Walking
+pub mod Stored
+pub mod Fetched
+pub mod Gaps
+pub mod Told
+pub mod Examples
