@@ -3,66 +3,23 @@ use mathlib.Core.Path.{_≡_, refl, sym, _∙_, ap, subst}
 use mathlib.Core.Bool.{_&&_}
 use mathlib.Core.List.{List, _∷_, _++_}
 use Prim.Native.Nat.{ℕ, zero, suc, _+_, _-_, _≤_, _<_}
-use native.Mathlib.Nat.{add-zero, zero-add, suc-add, add-assoc}
+use native.Mathlib.Nat.{add-zero, zero-add, add-assoc}
 use native.Mathlib.Numerals.{one-add}
 use native.Mathlib.Decide.{decLt}
 use native.Mathlib.Omega.{arith}
 use lib.Dec.{eqb}
-use lib.ListN.{length, getD, length-append, List·getD-append}
+use lib.ListN.{length, getD, List·getD-append}
 use lib.Seq.{getD-append-add}
 use Rattle.sets.specs.Numbers.{Numbers, union, without, only-if, maxima, downs}
 use Rattle.sets.specs.Words.{bits}
 use Rattle.rules.specs.Statements.{depth, code, Stmt, nothing, pause, emit, present?_then_else_, suspend_on_, _⨾_, loop, _parallel_, trap, exit, local}
 use Rattle.rules.specs.Loops.{codes-of}
+use Rattle.rules.proofs.Preorder.{only-child, first-child, second-child}
+-- Known from the rules, and handed on.
+pub use Rattle.rules.proofs.Preorder.{first-is, all-counted, some-statement}
 use Rattle.block.specs.Table.{Table, Row, Has, kind-of, operand-of, statements, Small}
 use Rattle.block.specs.Format.{preorder, numbered, endless}
 use Rattle.block.specs.Codes.{codes-for, Fed}
-
--- The first of them is the statement itself.
-pub first-is : (p : Stmt) → numbered p 0 ≡ p
-unfolding preorder
-first-is nothing = refl
-first-is (pause n) = refl
-first-is (emit s) = refl
-first-is (present? s then p else q) = refl
-first-is (suspend p on s) = refl
-first-is (p ⨾ q) = refl
-first-is (loop p) = refl
-first-is (p parallel q) = refl
-first-is (trap p) = refl
-first-is (exit d) = refl
-first-is (local s p) = refl
-
-both-length : (p q : Stmt) → length (preorder p) ≡ statements p → length (preorder q) ≡ statements q → suc (length (preorder p ++ preorder q)) ≡ 1 + statements p + statements q
-both-length p q e f = omega (arith, length-append (preorder p) (preorder q), e, f)
-
-pub all-counted : (p : Stmt) → length (preorder p) ≡ statements p
-unfolding preorder statements
-all-counted nothing = refl
-all-counted (pause n) = refl
-all-counted (emit s) = refl
-all-counted (present? s then p else q) = both-length p q (all-counted p) (all-counted q)
-all-counted (suspend p on s) = omega (arith, all-counted p)
-all-counted (p ⨾ q) = both-length p q (all-counted p) (all-counted q)
-all-counted (loop p) = omega (arith, all-counted p)
-all-counted (p parallel q) = both-length p q (all-counted p) (all-counted q)
-all-counted (trap p) = omega (arith, all-counted p)
-all-counted (exit d) = refl
-all-counted (local s p) = omega (arith, all-counted p)
-
-pub some-statement : (p : Stmt) → 0 < statements p
-unfolding statements
-some-statement nothing = omega arith
-some-statement (pause n) = omega arith
-some-statement (emit s) = omega arith
-some-statement (present? s then p else q) = omega arith
-some-statement (suspend p on s) = omega arith
-some-statement (p ⨾ q) = omega arith
-some-statement (loop p) = omega arith
-some-statement (p parallel q) = omega arith
-some-statement (trap p) = omega arith
-some-statement (exit d) = omega arith
-some-statement (local s p) = omega arith
 
 -- The table's row of a statement that it has.
 pub has-row : {tab : Table} {i : ℕ} (p : Stmt) → Has tab i p → Row tab i p
@@ -117,31 +74,20 @@ module _ {tab : Table} where
   at-one {base} t p e n h s rest (suc i) l =
       let l₁ : i < statements p = omega (arith, n) in
       subst (At tab base t) (one-add i)
-      (at-later t p 1 i (omega (arith, n)) (λ m k. ap (λ (j : ℕ). numbered t j) (one-add m) ∙ ap (λ (ps : List Stmt). getD ps (suc m) nothing) e) l₁ (rest i l₁))
+      (at-later t p 1 i (omega (arith, n)) (λ m k. only-child t p e m) l₁ (rest i l₁))
 
   at-two : {base : ℕ} (t p q : Stmt) → preorder t ≡ t ∷ preorder p ++ preorder q → statements t ≡ 1 + statements p + statements q → Has tab base t → Small t
       → ((i : ℕ) → i < statements p → At tab (base + 1) p i) → ((i : ℕ) → i < statements q → At tab (base + 1 + statements p) q i) → (i : ℕ) → i < statements t → At tab base t i
   at-two t p q e n h s one two zero l = at-first t h s
   at-two {base} t p q e n h s one two (suc i) l = go (decLt i (statements p))
     where
-      first : (m : ℕ) → m < statements p → numbered t (1 + m) ≡ numbered p m
-      first m k =
-          ap (λ (j : ℕ). numbered t j) (one-add m) ∙ ap (λ (ps : List Stmt). getD ps (suc m) nothing) e
-          ∙ List·getD-append (preorder p) (preorder q) nothing m (omega (arith, all-counted p))
-
-      second : (m : ℕ) → m < statements q → numbered t (1 + statements p + m) ≡ numbered q m
-      second m k =
-          ap (λ (j : ℕ). numbered t j) (ap (λ (j : ℕ). j + m) (one-add (statements p)) ∙ suc-add (statements p) m)
-          ∙ ap (λ (ps : List Stmt). getD ps (suc (statements p + m)) nothing) e
-          ∙ ap (λ (j : ℕ). getD (preorder p ++ preorder q) (j + m) nothing) (sym (all-counted p)) ∙ getD-append-add (preorder p) (preorder q) m nothing
-
       go : Dec (i < statements p) → At tab base t (suc i)
-      go (yes k) = subst (At tab base t) (one-add i) (at-later t p 1 i (omega (arith, n)) first k (one i k))
+      go (yes k) = subst (At tab base t) (one-add i) (at-later t p 1 i (omega (arith, n)) (first-child t p q e) k (one i k))
       go (no k) =
           let d : ℕ = i - statements p in
           let k₁ : d < statements q = omega (arith, n) in
           subst (At tab base t) (omega arith)
-          (at-later t q (1 + statements p) d (omega (arith, n)) second k₁ (subst (λ (j : ℕ). At tab j q d) (add-assoc base 1 (statements p)) (two d k₁)))
+          (at-later t q (1 + statements p) d (omega (arith, n)) (λ m l. second-child t p q e m) k₁ (subst (λ (j : ℕ). At tab j q d) (add-assoc base 1 (statements p)) (two d k₁)))
 
   at-leaf : {base : ℕ} (t : Stmt) → statements t ≡ 1 → Has tab base t → Small t → (i : ℕ) → i < statements t → At tab base t i
   at-leaf t n h s zero l = at-first t h s

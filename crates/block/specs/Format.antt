@@ -1,12 +1,15 @@
 -- The block file and its reading: "The block file" of document 01, with the numbers 1 to 8 and their places. The reading is a
 -- function of the block's bytes. Assumes nothing.
 use mathlib.Core.Bool.{Bool, false, not, cond, _&&_, _||_}
-use mathlib.Core.List.{List, [], _∷_, _++_}
+use mathlib.Core.List.{List, [], _∷_}
 use mathlib.Core.Option.{Option, none, some}
 use Prim.Native.Nat.{ℕ, zero, suc, _+_, _-_, _*_}
 use lib.Dec.{eqb, ltb, leb}
 use lib.ListN.{length, getD, take}
 use Rattle.sets.specs.Numbers.{Numbers, empty, single, union, listed, lowest}
+-- The records follow in preorder; who knows the format takes the order from here.
+unfoldable pub use Rattle.rules.specs.Statements.{preorder}
+pub use Rattle.rules.specs.Statements.{numbered}
 use Rattle.rules.specs.Statements.{depth, Stmt, nothing, pause, emit, present?_then_else_, suspend_on_, _⨾_, loop, _parallel_, trap, exit, local}
 use Rattle.rules.specs.Loops.{codes-of}
 use Rattle.block.specs.Table.{kind-of, statements}
@@ -218,23 +221,6 @@ read (suc room) b h a r =
     let x = operand-at b (r .place) in
     let whole = with-children (children-of k) (read room b h (inside k x a)) k x (r .pauses) (past k r) in
     cond (eqb n 0) whole (refused n (r .place))
-
--- The statements of a tree in preorder: the statement number n with all below it.
-unfoldable pub preorder : Stmt → List Stmt
-preorder nothing = nothing ∷ []
-preorder (pause n) = pause n ∷ []
-preorder (emit s) = emit s ∷ []
-preorder (present? s then p else q) = (present? s then p else q) ∷ preorder p ++ preorder q
-preorder (suspend p on s) = (suspend p on s) ∷ preorder p
-preorder (p ⨾ q) = (p ⨾ q) ∷ preorder p ++ preorder q
-preorder (loop p) = loop p ∷ preorder p
-preorder (p parallel q) = (p parallel q) ∷ preorder p ++ preorder q
-preorder (trap p) = trap p ∷ preorder p
-preorder (exit d) = exit d ∷ []
-preorder (local s p) = local s p ∷ preorder p
-
-abbrev pub numbered : Stmt → ℕ → Stmt
-numbered p n = getD (preorder p) n nothing
 
 -- How many bytes the records of some statements take.
 unfoldable pub bytes : List Stmt → ℕ

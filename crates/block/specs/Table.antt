@@ -4,6 +4,8 @@ use mathlib.Core.Path.{_≡_}
 use mathlib.Core.List.{List}
 use Prim.Native.Nat.{ℕ, _+_, _<_}
 use lib.ListN.{getD}
+-- The sizes are counts of statements; who knows the table takes the count from here.
+unfoldable pub use Rattle.rules.specs.Statements.{statements}
 use Rattle.rules.specs.Statements.{depth, Stmt, nothing, pause, emit, present?_then_else_, suspend_on_, _⨾_, loop, _parallel_, trap, exit, local}
 
 pub record Table : Type 0 where
@@ -38,20 +40,6 @@ operand-of (p parallel q) = 0
 operand-of (trap p) = 0
 operand-of (exit (depth d)) = d
 operand-of (local s p) = s
-
--- How many statements there are, the statement itself and all below it.
-unfoldable pub statements : Stmt → ℕ
-statements nothing = 1
-statements (pause n) = 1
-statements (emit s) = 1
-statements (present? s then p else q) = 1 + statements p + statements q
-statements (suspend p on s) = 1 + statements p
-statements (p ⨾ q) = 1 + statements p + statements q
-statements (loop p) = 1 + statements p
-statements (p parallel q) = 1 + statements p + statements q
-statements (trap p) = 1 + statements p
-statements (exit d) = 1
-statements (local s p) = 1 + statements p
 
 -- The table's row at i is the statement's.
 pub record Row (tab : Table) (i : ℕ) (p : Stmt) : Type 0 where

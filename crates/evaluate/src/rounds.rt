@@ -53,7 +53,7 @@ pub struct Reacted {
 }
 
 // The signals below a number.
-pub(crate) fn below(n: u16) -> u64
+pub fn below(n: u16) -> u64
     requires { ⌜ n ≤ 64 ⌝ }
     ensures { λ r. ⌜ ((k : ℕ) → bits r k ≡ ltb k n) ⌝ }
 {

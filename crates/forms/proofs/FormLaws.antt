@@ -1,5 +1,5 @@
 -- The forms of a statement, started and resumed: one case for each kind. Assumes nothing.
-use mathlib.Core.Path.{_≡_, refl, sym, ap, _∙_, subst, subst₂}
+use mathlib.Core.Path.{_≡_, refl, sym, ap, ap₂, _∙_, subst, subst₂}
 use mathlib.Core.Bool.{Bool, true, false, cond}
 use mathlib.Core.List.{List}
 use Prim.Native.Nat.{ℕ, _+_, _≤_, _<_}
@@ -16,7 +16,7 @@ use Rattle.forms.specs.declared.form.Going.the-variants.{Started, Resume
 use Rattle.forms.specs.declared.form.Task.{Task}
 use Rattle.forms.specs.declared.form.Form.{Form}
 use Rattle.forms.specs.declared.form.Form.the-variants.{Done, Stay, Keep, Say, Leave, Test, Catch, Scope, Chain, Beside, Same}
-use Rattle.forms.specs.Forms.{At, Placed, Live, step-of, Does, Shows, Under, TasksUnder, Formed}
+use Rattle.forms.specs.Forms.{At, Placed, Live, step-of, Does, Shows, Under, TasksUnder, task, started-as, resumed-as, form-for, Formed}
 
 -- Every statement has one of the eleven kinds.
 pub some-kind : (t : Stmt) → (kind-of t ≡ 16 → ⊥) → (kind-of t ≡ 17 → ⊥) → (kind-of t ≡ 18 → ⊥) → (kind-of t ≡ 19 → ⊥) → (kind-of t ≡ 20 → ⊥) → (kind-of t ≡ 21 → ⊥)
@@ -33,10 +33,6 @@ some-kind (p parallel q) f0 f1 f2 f3 f4 f5 f6 f7 f8 f9 f10 = f7 refl
 some-kind (trap p) f0 f1 f2 f3 f4 f5 f6 f7 f8 f9 f10 = f8 refl
 some-kind (exit d) f0 f1 f2 f3 f4 f5 f6 f7 f8 f9 f10 = f9 refl
 some-kind (local s p) f0 f1 f2 f3 f4 f5 f6 f7 f8 f9 f10 = f10 refl
-
--- A statement by its number, and how it is taken.
-abbrev pub task : ℕ → Going → Task
-task j g = record { at = j; going = g }
 
 pub in-table : {tab : Table} {i : ℕ} → Placed tab i → i < 512
 in-table {i = i} h = omega (arith, h .there .room, statements-pos (h .tree))
@@ -67,17 +63,18 @@ first-kid {tab} {i} m p e l h k s = record {
   after = omega arith;
 }
 
+-- The second child's number: all of the first is passed over.
+second-at : (tab : Table) (i : ℕ) {n : ℕ} (p q : Stmt) → Second tab i n → i + (1 + statements p + statements q) ≤ 512 → Has tab (i + 1) p → n ≡ i + 1 + statements p
+second-at tab i p q f l k = f (omega (arith, statements-pos p)) ∙ ap (λ (x : ℕ). i + 1 + x) (row p k .its-size)
+
 second-kid : {tab : Table} {i n : ℕ} (m : ℕ) (p q : Stmt) → Second tab i n → getD (tab .sizes) i 0 ≡ m → m ≡ 1 + statements p + statements q → i + m ≤ 512
     → Has tab (i + 1) p → Has tab (i + 1 + statements p) q → Small q → Kid tab i n q
 second-kid {tab} {i} {n} m p q f e l h k g s =
-    subst (λ (j : ℕ). Kid tab i j q) (sym place) (record {
+    subst (λ (j : ℕ). Kid tab i j q) (sym (second-at tab i p q f (omega arith) k)) (record {
       there = record { has = g; small = s; room = omega arith };
       smaller = omega (arith, row q g .its-size);
       after = omega arith;
     })
-  where
-    place : n ≡ i + 1 + statements p
-    place = f (omega (arith, statements-pos p)) ∙ ap (λ (x : ℕ). i + 1 + x) (row p k .its-size)
 
 -- What is known of a statement's numbers and children.
 unfoldable pub Kids : Table → ℕ → ℕ → Stmt → Type 0
@@ -158,10 +155,24 @@ module _ (tab : Table) (i n : ℕ) where
   started-under (exit (depth d)) k = tt
   started-under (local s p) k = kid-under Started (k .1)
 
+  started-is : Second tab i n → (t : Stmt) → At tab i t → started-form (kind-of t) (operand-of t) (task (i + 1) Started) (task n Started) ≡ started-as i t
+  unfolding started-as Has statements kind-of operand-of
+  started-is f nothing h = refl
+  started-is f (pause m) h = refl
+  started-is f (emit s) h = refl
+  started-is f (present? s then p else q) h = ap (λ (j : ℕ). Test s (task (i + 1) Started) (task j Started)) (second-at tab i p q f (h .room) (h .has .1))
+  started-is f (suspend p on s) h = refl
+  started-is f (p ⨾ q) h = ap (λ (j : ℕ). Chain (task (i + 1) Started) (task j Started)) (second-at tab i p q f (h .room) (h .has .1))
+  started-is f (loop p) h = refl
+  started-is f (p parallel q) h = ap (λ (j : ℕ). Beside (task (i + 1) Started) (task j Started)) (second-at tab i p q f (h .room) (h .has .1))
+  started-is f (trap p) h = refl
+  started-is f (exit (depth d)) h = refl
+  started-is f (local s p) h = refl
+
 -- The code's arm for the kind k.
 pub started-formed : {tab : Table} {i n : ℕ} → Placed tab i → Second tab i n → (k : ℕ) → getD (tab .kinds) i 0 ≡ k → (live : List Bool)
     → Formed tab live (task i Started) (started-form k (getD (tab .operands) i 0) (task (i + 1) Started) (task n Started))
-unfolding step-of
+unfolding step-of form-for
 started-formed {tab} {i} {n} pl f k e live = record {
   tasks-under = subst₂ (λ (x y : ℕ). TasksUnder tab i (started-form x y (task (i + 1) Started) (task n Started)))
       (sym (row (pl .tree) (pl .there .has) .its-kind) ∙ e) (sym (row (pl .tree) (pl .there .has) .its-operand))
@@ -171,6 +182,9 @@ started-formed {tab} {i} {n} pl f k e live = record {
       (subst₂ (λ (x y : ℕ). Shows tab A (started-form x y (task (i + 1) Started) (task n Started)) (started (d .tree)))
       (sym (row (d .tree) (d .there .has) .its-kind) ∙ e) (sym (row (d .tree) (d .there .has) .its-operand))
       (started-shows tab i n A (d .tree) (kids f (d .tree) (d .there))));
+  is-it = λ A l t h.
+      subst₂ (λ (x y : ℕ). started-form x y (task (i + 1) Started) (task n Started) ≡ started-as i t)
+      (sym (row t (h .has) .its-kind) ∙ e) (sym (row t (h .has) .its-operand)) (started-is tab i n f t h);
 }
 
 -- Resumed.
@@ -259,10 +273,29 @@ module _ (tab : Table) (i n : ℕ) where
   resumed-under lp lq (exit (depth d)) k = tt
   resumed-under lp lq (local s p) k = kid-under Resumed (k .1)
 
+  resumed-is : (A : Numbers) (lp lq : Bool) → Flags tab A i n lp lq → Second tab i n → (t : Stmt) → At tab i t → Kids tab i n t
+      → resumed-form (kind-of t) (operand-of t) i n lp lq ≡ resumed-as A i t
+  unfolding resumed-as Has Kids statements kind-of operand-of
+  resumed-is A lp lq f g nothing h k = refl
+  resumed-is A lp lq f g (pause m) h k = refl
+  resumed-is A lp lq f g (emit s) h k = refl
+  resumed-is A lp lq f g (present? s then p else q) h k =
+      ap₂ (λ (b : Bool) (j : ℕ). Same (cond b (task (i + 1) Resumed) (task j Resumed))) (f .on-first p (k .1 .there)) (second-at tab i p q g (h .room) (h .has .1))
+  resumed-is A lp lq f g (suspend p on s) h k = refl
+  resumed-is A lp lq f g (p ⨾ q) h k =
+      ap₂ (λ (b : Bool) (j : ℕ). cond b (Chain (task (i + 1) Resumed) (task j Started)) (Same (task j Resumed))) (f .on-first p (k .0 .there)) (second-at tab i p q g (h .room) (h .has .1))
+  resumed-is A lp lq f g (loop p) h k = refl
+  resumed-is A lp lq f g (p parallel q) h k =
+      ap₂ (λ (b c : Bool). Beside (arm-task b (i + 1)) (arm-task c n)) (f .on-first p (k .0 .there)) (f .on-next q (k .1 .after) (k .1 .there))
+      ∙ ap (λ (j : ℕ). Beside (arm-task (active A p) (i + 1)) (arm-task (active A q) j)) (second-at tab i p q g (h .room) (h .has .1))
+  resumed-is A lp lq f g (trap p) h k = refl
+  resumed-is A lp lq f g (exit (depth d)) h k = refl
+  resumed-is A lp lq f g (local s p) h k = refl
+
 pub resumed-formed : {tab : Table} {i n : ℕ} → Placed tab i → Second tab i n → {live : List Bool} {lp lq : Bool}
     → (i + 1 < 512 → lp ≡ getD live (i + 1) false) → (n < 512 → lq ≡ getD live n false) → (k : ℕ) → getD (tab .kinds) i 0 ≡ k
     → Formed tab live (task i Resumed) (resumed-form k (getD (tab .operands) i 0) i n lp lq)
-unfolding step-of
+unfolding step-of form-for
 resumed-formed {tab} {i} {n} pl f {live} {lp} {lq} g h k e = record {
   tasks-under = subst₂ (λ (x y : ℕ). TasksUnder tab i (resumed-form x y i n lp lq))
       (sym (row (pl .tree) (pl .there .has) .its-kind) ∙ e) (sym (row (pl .tree) (pl .there .has) .its-operand))
@@ -272,6 +305,9 @@ resumed-formed {tab} {i} {n} pl f {live} {lp} {lq} g h k e = record {
       (subst₂ (λ (x y : ℕ). Shows tab A (resumed-form x y i n lp lq) (resumed A (d .tree)))
       (sym (row (d .tree) (d .there .has) .its-kind) ∙ e) (sym (row (d .tree) (d .there .has) .its-operand))
       (resumed-shows tab i n A lp lq (flags A l) (d .tree) (kids f (d .tree) (d .there))));
+  is-it = λ A l t b.
+      subst₂ (λ (x y : ℕ). resumed-form x y i n lp lq ≡ resumed-as A i t)
+      (sym (row t (b .has) .its-kind) ∙ e) (sym (row t (b .has) .its-operand)) (resumed-is tab i n A lp lq (flags A l) f t b (kids f t b));
 }
   where
     flags : (A : Numbers) → Live tab A live → Flags tab A i n lp lq
@@ -281,37 +317,38 @@ resumed-formed {tab} {i} {n} pl f {live} {lp} {lq} g h k e = record {
     }
 
 -- The kinds that have nothing to do when resumed.
-pub resumed-done : (A : Numbers) (t : Stmt) → (kind-of t ≡ 19 → ⊥) → (kind-of t ≡ 20 → ⊥) → (kind-of t ≡ 21 → ⊥) → (kind-of t ≡ 22 → ⊥)
-    → (kind-of t ≡ 23 → ⊥) → (kind-of t ≡ 24 → ⊥) → (kind-of t ≡ 26 → ⊥) → resumed A t ≡ done
-unfolding resumed kind-of
-resumed-done A nothing a b c d e f g = refl
-resumed-done A (pause m) a b c d e f g = refl
-resumed-done A (emit s) a b c d e f g = refl
-resumed-done A (present? s then p else q) a b c d e f g = absurd (a refl)
-resumed-done A (suspend p on s) a b c d e f g = absurd (b refl)
-resumed-done A (p ⨾ q) a b c d e f g = absurd (c refl)
-resumed-done A (loop p) a b c d e f g = absurd (d refl)
-resumed-done A (p parallel q) a b c d e f g = absurd (e refl)
-resumed-done A (trap p) a b c d e f g = absurd (f refl)
-resumed-done A (exit x) a b c d e f g = refl
-resumed-done A (local s p) a b c d e f g = absurd (g refl)
+pub resumed-done : (A : Numbers) (i : ℕ) (t : Stmt) → (kind-of t ≡ 19 → ⊥) → (kind-of t ≡ 20 → ⊥) → (kind-of t ≡ 21 → ⊥) → (kind-of t ≡ 22 → ⊥)
+    → (kind-of t ≡ 23 → ⊥) → (kind-of t ≡ 24 → ⊥) → (kind-of t ≡ 26 → ⊥) → (resumed A t ≡ done) × (Done ≡ resumed-as A i t)
+unfolding resumed resumed-as kind-of
+resumed-done A i nothing a b c d e f g = (refl, refl)
+resumed-done A i (pause m) a b c d e f g = (refl, refl)
+resumed-done A i (emit s) a b c d e f g = (refl, refl)
+resumed-done A i (present? s then p else q) a b c d e f g = absurd (a refl)
+resumed-done A i (suspend p on s) a b c d e f g = absurd (b refl)
+resumed-done A i (p ⨾ q) a b c d e f g = absurd (c refl)
+resumed-done A i (loop p) a b c d e f g = absurd (d refl)
+resumed-done A i (p parallel q) a b c d e f g = absurd (e refl)
+resumed-done A i (trap p) a b c d e f g = absurd (f refl)
+resumed-done A i (exit x) a b c d e f g = (refl, refl)
+resumed-done A i (local s p) a b c d e f g = absurd (g refl)
 
-pub done-formed : {tab : Table} {live : List Bool} {c : Task} → ((A : Numbers) (t : Stmt) → At tab (c .at) t → step-of (c .going) A t ≡ done) → Formed tab live c Done
+pub done-formed : {tab : Table} {live : List Bool} {c : Task} → ((A : Numbers) (t : Stmt) → At tab (c .at) t → (step-of (c .going) A t ≡ done) × (Done ≡ form-for (c .going) A (c .at) t)) → Formed tab live c Done
 unfolding TasksUnder Shows
-done-formed f = record { tasks-under = tt; shows = λ A l p d. d .its-step ∙ f A (d .tree) (d .there) }
+done-formed f = record { tasks-under = tt; shows = λ A l p d. d .its-step ∙ f A (d .tree) (d .there) .0; is-it = λ A l t h. f A t h .1 }
 
 pub idle-formed : {tab : Table} {live : List Bool} (c : Task) → c .going ≡ Idle → Formed tab live c Done
-unfolding step-of
-idle-formed c e = done-formed (λ A t h. ap (λ (g : Going). step-of g A t) e)
+unfolding step-of form-for
+idle-formed c e = done-formed (λ A t h. (ap (λ (g : Going). step-of g A t) e, ap (λ (g : Going). form-for g A (c .at) t) (sym e)))
 
 pub going-formed : {tab : Table} {live : List Bool} (c : Task) (g : Going) (f : Form) → c .going ≡ g → Formed tab live (task (c .at) g) f → Formed tab live c f
 going-formed {tab} {live} c g f e h = subst (λ (x : Going). Formed tab live (task (c .at) x) f) (sym e) h
 
 pub keep-formed : {tab : Table} {live : List Bool} (c : Task) → Placed tab (c .at) → c .going ≡ Held → Formed tab live c (Keep (c .at))
-unfolding TasksUnder Shows step-of
+unfolding TasksUnder Shows step-of form-for
 keep-formed c pl e = record {
   tasks-under = pl;
   shows = λ A l p d. record { tree = d .tree; there = d .there; made = d .its-step ∙ ap (λ (g : Going). step-of g A (d .tree)) e };
+  is-it = λ A l t h. ap (λ (g : Going). form-for g A (c .at) t) (sym e);
 }
 
 pub formed : {tab : Table} {live : List Bool} {c : Task} {f g : Form} → Formed tab live c f → f ≡ g → Formed tab live c g

@@ -6,7 +6,7 @@ use Prim.Native.Nat.{ℕ, zero, suc, _+_, _≤_, _<_}
 use lib.Dec.{eqb, ltb}
 use lib.ListN.{getD}
 use Rattle.sets.specs.Numbers.{Numbers, single, listed}
-use Rattle.rules.specs.Statements.{depth, Stmt}
+use Rattle.rules.specs.Statements.{depth, Stmt, nothing, pause, emit, present?_then_else_, suspend_on_, _⨾_, loop, _parallel_, trap, exit, local}
 use Rattle.rules.specs.Instant.{Step, done, stay, say, leave, test, catch, scope, chain, beside, active, held, started, resumed}
 use Rattle.block.specs.Table.{Table, statements, Has, Small}
 use Rattle.forms.specs.declared.form.Going.{Going}
@@ -98,10 +98,52 @@ TasksUnder tab i (Chain c d) = Under tab i c × Under tab i d
 TasksUnder tab i (Beside c d) = Under tab i c × Under tab i d
 TasksUnder tab i (Same c) = Under tab i c
 
+-- The form of a statement of number i, started and resumed: its children have the numbers i + 1 and i + 1 with all of the first child passed over.
+abbrev pub task : ℕ → Going → Task
+task i g = record { at = i; going = g }
+
+unfoldable pub started-as : ℕ → Stmt → Form
+unfolding statements
+started-as i nothing = Done
+started-as i (pause n) = Stay n
+started-as i (emit s) = Say s
+started-as i (present? s then p else q) = Test s (task (i + 1) Started) (task (i + 1 + statements p) Started)
+started-as i (suspend p on s) = Same (task (i + 1) Started)
+started-as i (p ⨾ q) = Chain (task (i + 1) Started) (task (i + 1 + statements p) Started)
+started-as i (loop p) = Same (task (i + 1) Started)
+started-as i (p parallel q) = Beside (task (i + 1) Started) (task (i + 1 + statements p) Started)
+started-as i (trap p) = Catch (task (i + 1) Started)
+started-as i (exit (depth d)) = Leave (record { 0 = d })
+started-as i (local s p) = Scope s (task (i + 1) Started)
+
+unfoldable pub resumed-as : Numbers → ℕ → Stmt → Form
+unfolding statements active
+resumed-as A i nothing = Done
+resumed-as A i (pause n) = Done
+resumed-as A i (emit s) = Done
+resumed-as A i (present? s then p else q) = Same (cond (active A p) (task (i + 1) Resumed) (task (i + 1 + statements p) Resumed))
+resumed-as A i (suspend p on s) = Test s (task (i + 1) Held) (task (i + 1) Resumed)
+resumed-as A i (p ⨾ q) =
+    cond (active A p) (Chain (task (i + 1) Resumed) (task (i + 1 + statements p) Started)) (Same (task (i + 1 + statements p) Resumed))
+resumed-as A i (loop p) = Chain (task (i + 1) Resumed) (task (i + 1) Started)
+resumed-as A i (p parallel q) =
+    Beside (task (i + 1) (cond (active A p) Resumed Idle)) (task (i + 1 + statements p) (cond (active A q) Resumed Idle))
+resumed-as A i (trap p) = Catch (task (i + 1) Resumed)
+resumed-as A i (exit d) = Done
+resumed-as A i (local s p) = Scope s (task (i + 1) Resumed)
+
+unfoldable pub form-for : Going → Numbers → ℕ → Stmt → Form
+unfolding started-as resumed-as
+form-for Started A i t = started-as i t
+form-for Resumed A i t = resumed-as A i t
+form-for Held A i t = Keep i
+form-for Idle A i t = Done
+
 -- The form of a task.
 pub record Formed (tab : Table) (live : List Bool) (c : Task) (f : Form) : Type 0 where
   pub tasks-under : TasksUnder tab (c .at) f
   pub shows : (A : Numbers) → Live tab A live → (p : Step) → Does tab A c p → Shows tab A f p
+  pub is-it : (A : Numbers) → Live tab A live → (t : Stmt) → At tab (c .at) t → f ≡ form-for (c .going) A (c .at) t
 
 -- The pauses of n rows from i on, and those of them that are active.
 unfoldable pub row-pauses : Table → ℕ → List ℕ

@@ -1,10 +1,13 @@
 pub mod AllRuns
 pub mod Cases
+pub mod ReasonCases
+pub mod ReasonSentences
 pub mod CheckCases
 pub mod CoherentCases
 pub mod CoherentTable
 pub mod LawSentences
 pub mod LoopCodes
 pub mod OneCode
+pub mod Preorder
 pub mod RoundLaws
 pub mod Sentences

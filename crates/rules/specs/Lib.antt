@@ -6,3 +6,6 @@ pub mod States
 pub mod Rounds
 pub mod Loops
 pub mod Coherence
+pub mod Taken
+pub mod Executed
+pub mod Reasons

@@ -2,7 +2,7 @@
 use mathlib.Core.Path.{_≡_}
 use mathlib.Core.List.{List, [], _∷_, _++_}
 use Prim.Native.Nat.{ℕ, zero, suc, _+_, _<_}
-use lib.ListN.{length}
+use lib.ListN.{length, getD}
 
 -- An exit's depth: the traps passed over before its own. It is a type apart, so that it is never taken for a code.
 pub data Depth : Type 0 where
@@ -49,6 +49,37 @@ pauses (p parallel q) = pauses p ++ pauses q
 pauses (trap p) = pauses p
 pauses (exit d) = []
 pauses (local s p) = pauses p
+
+-- How many statements there are, the statement itself and all below it.
+unfoldable pub statements : Stmt → ℕ
+statements nothing = 1
+statements (pause n) = 1
+statements (emit s) = 1
+statements (present? s then p else q) = 1 + statements p + statements q
+statements (suspend p on s) = 1 + statements p
+statements (p ⨾ q) = 1 + statements p + statements q
+statements (loop p) = 1 + statements p
+statements (p parallel q) = 1 + statements p + statements q
+statements (trap p) = 1 + statements p
+statements (exit d) = 1
+statements (local s p) = 1 + statements p
+
+-- The statements of a tree in preorder: the statement number n with all below it.
+unfoldable pub preorder : Stmt → List Stmt
+preorder nothing = nothing ∷ []
+preorder (pause n) = pause n ∷ []
+preorder (emit s) = emit s ∷ []
+preorder (present? s then p else q) = (present? s then p else q) ∷ preorder p ++ preorder q
+preorder (suspend p on s) = (suspend p on s) ∷ preorder p
+preorder (p ⨾ q) = (p ⨾ q) ∷ preorder p ++ preorder q
+preorder (loop p) = loop p ∷ preorder p
+preorder (p parallel q) = (p parallel q) ∷ preorder p ++ preorder q
+preorder (trap p) = trap p ∷ preorder p
+preorder (exit d) = exit d ∷ []
+preorder (local s p) = local s p ∷ preorder p
+
+abbrev pub numbered : Stmt → ℕ → Stmt
+numbered p n = getD (preorder p) n nothing
 
 -- n numbers from i on.
 unfoldable pub from : ℕ → ℕ → List ℕ

@@ -20,6 +20,11 @@ pub mod Compatible
 pub mod NextLegal
 pub mod Instants
 pub mod Late
+pub mod Reasons
+pub mod Emits
+pub mod Executions
+pub mod Named
+pub mod Why
 pub mod Before
 pub mod BeforeCases
 pub mod Traces

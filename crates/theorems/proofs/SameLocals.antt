@@ -45,11 +45,11 @@ provided true f = f tt
 provided false f = tt
 
 -- The second part is executed only where must has the code from it.
-from-second : (p q : Step) (E : Event) (c d : ℕ) → ((e : ℕ) → T (gives must p E .codes e) → e ≡ d) → FirstOrBoth (gives must p E) (gives must q E) c → T (eqb d 0) → T (gives must q E .codes c)
+pub from-second : (p q : Step) (E : Event) (c d : ℕ) → ((e : ℕ) → T (gives must p E .codes e) → e ≡ d) → FirstOrBoth (gives must p E) (gives must q E) c → T (eqb d 0) → T (gives must q E .codes c)
 from-second p q E c d f (only-first t n) z = absurd (n (f c t ∙ eqb→eq d 0 z))
 from-second p q E c d f (then-second y t) z = t
 
-first-code : {m n : Given} {c : ℕ} → FirstOrBoth m n c → (e : ℕ) × T (m .codes e)
+pub first-code : {m n : Given} {c : ℕ} → FirstOrBoth m n c → (e : ℕ) × T (m .codes e)
 first-code {c = c} (only-first t n) = (c, t)
 first-code (then-second y t) = (0, y)
 

@@ -3,7 +3,7 @@
 use mathlib.Core.Path.{sym, ap, ap₂, _∙_}
 use Rattle.block.proofs.Rows.{row}
 use Rattle.forms.specs.declared.form.Form.the-variants.{Beside, Same}
-use Rattle.forms.specs.Forms.{step-of}
+use Rattle.forms.specs.Forms.{step-of, form-for}
 use Rattle.forms.proofs.FormLaws.{in-table, formed, resumed-formed, resumed-done, done-formed}
 use borrow.Author.Needs.{needs}
 use Rattle.forms.proofs.form.resumed_form.Statement.{statement}
@@ -36,11 +36,11 @@ returns-parallel c =
     (ap₂ Beside (sym (c .before .arm .ensures)) (sym (c .arm2 .ensures)))
 
 returns-rest : tie.Need-returns-9
-unfolding step-of
+unfolding step-of form-for
 returns-rest c = done-formed (λ A t h.
     let m = c .match .rest in
     let k = row t (h .has) .its-kind in
-    resumed-done A t (λ e. m .0 .0 .0 .0 .0 .0 .1 (k ∙ e)) (λ e. m .0 .0 .0 .0 .0 .1 (k ∙ e)) (λ e. m .0 .0 .0 .0 .1 (k ∙ e)) (λ e. m .0 .0 .0 .1 (k ∙ e))
+    resumed-done A _ t (λ e. m .0 .0 .0 .0 .0 .0 .1 (k ∙ e)) (λ e. m .0 .0 .0 .0 .0 .1 (k ∙ e)) (λ e. m .0 .0 .0 .0 .1 (k ∙ e)) (λ e. m .0 .0 .0 .1 (k ∙ e))
     (λ e. m .0 .0 .1 (k ∙ e)) (λ e. m .0 .1 (k ∙ e)) (λ e. m .1 (k ∙ e)))
 
 pub resumed-form-spec : {M : Type 1} → statement M

@@ -1,0 +1,4 @@
+pub mod Parts
+pub mod TakenSteps
+pub mod LeafLaws
+pub mod AskedLaws

@@ -1,0 +1,42 @@
+-- `reasons::asked::first_reached` meets its contract: from no mark on, the marks are what is reached, and the lowest is searched among all statements.
+-- Assumes nothing.
+use mathlib.Core.Path.{ap₂, _∙_}
+use Rattle.sets.specs.Numbers.{lowest}
+use Rattle.sets.specs.Words.{set-of}
+use Rattle.reasons.proofs.AskedLaws.{root-placed, count-fits, count-is, marks-of-root}
+use borrow.Author.Needs.{needs}
+use Rattle.reasons.proofs.asked.first_reached.Statement.{statement}
+use Rattle.reasons.proofs.asked.first_reached.Tie as tie
+
+actives-requires : tie.Need-actives-requires
+actives-requires c κs = search needs
+
+root-requires : tie.Need-root-requires
+root-requires c κs = search needs
+
+taken-requires : tie.Need-taken-requires
+taken-requires c κs = root-placed (c .before .before .root .ensures) (c .before .before .before .before .pre)
+
+element-copy-out-wide : tie.Need-element-copy-out-wide
+element-copy-out-wide c = search needs
+
+wide-requires : tie.Need-wide-requires
+wide-requires c κs = search needs
+
+lowest-marked-requires : tie.Need-lowest-marked-requires
+lowest-marked-requires c κs = count-fits (c .before .before .before .before .before .before .before .before .pre) (c .before .wide .ensures .0)
+
+returns : tie.Need-returns
+returns c = λ body a. c .lowest-marked .ensures ∙ ap₂ lowest (count-is body a (c .before .before .wide .ensures .0)) (marks-of-root (c .before .before .before .before .before .before .before .before .before .args .phase) (set-of (c .before .before .before .before .before .before .before .before .before .args .set)) (c .before .before .before .before .before .before .before .root .ensures) (c .before .before .before .before .taken .ensures) (c .before .before .before .before .before .before .before .before .actives .ensures) body a)
+
+pub first-reached-spec : {M : Type 1} → statement M
+first-reached-spec =
+    tie.close
+    (tie.spec
+    actives-requires
+    root-requires
+    taken-requires
+    element-copy-out-wide
+    wide-requires
+    lowest-marked-requires
+    returns)

@@ -1,0 +1,36 @@
+-- `reasons::asked::is_open_emit` meets its contract: the three tests one after the other.
+-- Assumes nothing.
+use mathlib.Core.Path.{sym}
+use borrow.Author.Tests.{lt-ltb, le-ltb, eq-eqb, ne-eqb}
+use Rattle.reasons.specs.Taking.{open-emit}
+use borrow.Author.Needs.{needs}
+use Rattle.reasons.proofs.asked.is_open_emit.Statement.{statement}
+use Rattle.reasons.proofs.asked.is_open_emit.Tie as tie
+use Rattle.reasons.proofs.asked.is_open_emit.Reads as reads
+use Rattle.reasons.proofs.asked.is_open_emit.Lts as lts
+
+mul-if2 : tie.Need-mul-if2
+mul-if2 c = search needs
+
+element-copy-out-if2 : tie.Need-element-copy-out-if2
+element-copy-out-if2 c = search needs
+
+element-copy-out-result : tie.Need-element-copy-out-result
+element-copy-out-result c = search needs
+
+returns : tie.Need-returns
+unfolding open-emit
+returns c = sym (simp (lt-ltb _ _ (c .before .before .before .if1 .taken), eq-eqb _ 18 (c .before .if2 .taken)))
+
+returns-2 : tie.Need-returns-2
+unfolding open-emit
+returns-2 c = sym (simp (lt-ltb _ _ (c .before .before .if1 .taken), ne-eqb _ 18 (c .if2 .left)))
+
+returns-3 : tie.Need-returns-3
+unfolding open-emit
+returns-3 c = sym (simp (le-ltb _ _ (c .if1 .left)))
+
+pub is-open-emit-spec : {M : Type 1} → statement M
+is-open-emit-spec =
+    tie.close
+    (tie.spec mul-if2 element-copy-out-if2 element-copy-out-result returns returns-2 returns-3)

@@ -1,0 +1,88 @@
+-- `reasons::asked::reason` meets its contract: by the question and by whether the instant is answered.
+-- Assumes nothing.
+use mathlib.Core.Path.{refl, sym, ap, _∙_}
+use native.Mathlib.Omega.{arith}
+use Rattle.sets.specs.Words.{set-of}
+use Rattle.rules.specs.Rounds.{react}
+use Rattle.words.specs.Words.{hearing-of}
+use Rattle.evaluate.specs.Reacts.{state-of, Reacts}
+use Rattle.reasons.specs.Taking.{asked-of}
+use Rattle.reasons.proofs.AskedLaws.{asked-for, refused-known, refused-unknown, present-so, present-not, executed-known, executed-unknown}
+use borrow.Author.Needs.{needs}
+use Rattle.reasons.proofs.asked.reason.Statement.{statement}
+use Rattle.reasons.proofs.asked.reason.Tie as tie
+
+react-requires : tie.Need-react-requires
+react-requires c κs = search needs
+
+final-event-requires : tie.Need-final-event-requires
+final-event-requires c κs = search needs
+
+enum-told : tie.Need-enum-told
+enum-told c = search needs
+
+returns : tie.Need-returns
+unfolding Reacts
+returns c = λ body a. asked-for (record { inputs = c .before .before .before .before .before .args .inputs; outputs = c .before .before .before .before .before .args .outputs; body = body }) (state-of (c .before .before .before .before .before .args .phase) (set-of (c .before .before .before .before .before .args .set))) (hearing-of (c .before .before .before .before .before .args .given)) (ap asked-of (c .before .enum-told .given .1)) (refused-known (record { inputs = c .before .before .before .before .before .args .inputs; outputs = c .before .before .before .before .before .args .outputs; body = body }) (state-of (c .before .before .before .before .before .args .phase) (set-of (c .before .before .before .before .before .args .set))) (hearing-of (c .before .before .before .before .before .args .given)) (c .before .before .before .before .react .result) (react (record { inputs = c .before .before .before .before .before .args .inputs; outputs = c .before .before .before .before .before .args .outputs; body = body }) (state-of (c .before .before .before .before .before .args .phase) (set-of (c .before .before .before .before .before .args .set))) (hearing-of (c .before .before .before .before .before .args .given))) (c .before .before .before .before .react .ensures body a) (c .if1 .taken))
+
+first-reached-requires : tie.Need-first-reached-requires
+first-reached-requires c κs = search needs
+
+enum-known-asked : tie.Need-enum-known-asked
+enum-known-asked c = search needs
+
+is-present-requires : tie.Need-is-present-requires
+is-present-requires c κs = search needs
+
+cast-t18 : tie.Need-cast-t18
+cast-t18 c = omega (arith, c .before .is-present .ensures .1 (c .if2 .taken))
+
+first-reached-requires-2 : tie.Need-first-reached-requires-2
+first-reached-requires-2 c κs = search needs
+
+returns-2 : tie.Need-returns-2
+unfolding Reacts
+returns-2 c = λ body a. asked-for (record { inputs = c .before .before .before .before .before .before .before .before .args .inputs; outputs = c .before .before .before .before .before .before .before .before .args .outputs; body = body }) (state-of (c .before .before .before .before .before .before .before .before .args .phase) (set-of (c .before .before .before .before .before .before .before .before .args .set))) (hearing-of (c .before .before .before .before .before .before .before .before .args .given)) (ap asked-of (c .before .before .before .before .asked .given .1)) (present-so (record { inputs = c .before .before .before .before .before .before .before .before .args .inputs; outputs = c .before .before .before .before .before .before .before .before .args .outputs; body = body }) (state-of (c .before .before .before .before .before .before .before .before .args .phase) (set-of (c .before .before .before .before .before .before .before .before .args .set))) (hearing-of (c .before .before .before .before .before .before .before .before .args .given)) (c .before .before .before .before .before .before .before .react .result) (c .before .before .before .before .asked .given .0 .0) (react (record { inputs = c .before .before .before .before .before .before .before .before .args .inputs; outputs = c .before .before .before .before .before .before .before .before .args .outputs; body = body }) (state-of (c .before .before .before .before .before .before .before .before .args .phase) (set-of (c .before .before .before .before .before .before .before .before .args .set))) (hearing-of (c .before .before .before .before .before .before .before .before .args .given))) (c .before .before .before .before .before .before .before .react .ensures body a) (sym (c .before .before .is-present .ensures .0) ∙ c .before .if2 .taken) (c .before .before .before .before .before .before .final-event .result) (λ outs p q. c .before .before .before .before .before .before .final-event .ensures (record { inputs = c .before .before .before .before .before .before .before .before .args .inputs; outputs = c .before .before .before .before .before .before .before .before .args .outputs; body = body }) outs refl p q) (c .first-reached2 .ensures body a))
+
+enum-known-asked-2 : tie.Need-enum-known-asked-2
+enum-known-asked-2 c = search needs
+
+first-cut-requires : tie.Need-first-cut-requires
+first-cut-requires c κs = search needs
+
+returns-3 : tie.Need-returns-3
+unfolding Reacts
+returns-3 c = λ body a. asked-for (record { inputs = c .before .before .before .before .before .before .before .args .inputs; outputs = c .before .before .before .before .before .before .before .args .outputs; body = body }) (state-of (c .before .before .before .before .before .before .before .args .phase) (set-of (c .before .before .before .before .before .before .before .args .set))) (hearing-of (c .before .before .before .before .before .before .before .args .given)) (ap asked-of (c .before .before .before .asked2 .given .1)) (executed-known (record { inputs = c .before .before .before .before .before .before .before .args .inputs; outputs = c .before .before .before .before .before .before .before .args .outputs; body = body }) (state-of (c .before .before .before .before .before .before .before .args .phase) (set-of (c .before .before .before .before .before .before .before .args .set))) (hearing-of (c .before .before .before .before .before .before .before .args .given)) (c .before .before .before .before .before .before .react .result) (c .before .before .before .asked2 .given .0 .0) (react (record { inputs = c .before .before .before .before .before .before .before .args .inputs; outputs = c .before .before .before .before .before .before .before .args .outputs; body = body }) (state-of (c .before .before .before .before .before .before .before .args .phase) (set-of (c .before .before .before .before .before .before .before .args .set))) (hearing-of (c .before .before .before .before .before .before .before .args .given))) (c .before .before .before .before .before .before .react .ensures body a) (c .before .if3 .taken) (c .before .before .before .before .before .final-event .result) (λ outs p q. c .before .before .before .before .before .final-event .ensures (record { inputs = c .before .before .before .before .before .before .before .args .inputs; outputs = c .before .before .before .before .before .before .before .args .outputs; body = body }) outs refl p q) (c .first-cut .ensures body a))
+
+returns-4 : tie.Need-returns-4
+unfolding Reacts
+returns-4 c = λ body a. asked-for (record { inputs = c .before .before .before .before .before .before .args .inputs; outputs = c .before .before .before .before .before .before .args .outputs; body = body }) (state-of (c .before .before .before .before .before .before .args .phase) (set-of (c .before .before .before .before .before .before .args .set))) (hearing-of (c .before .before .before .before .before .before .args .given)) (ap asked-of (c .before .before .enum-told .given .1)) (refused-unknown (record { inputs = c .before .before .before .before .before .before .args .inputs; outputs = c .before .before .before .before .before .before .args .outputs; body = body }) (state-of (c .before .before .before .before .before .before .args .phase) (set-of (c .before .before .before .before .before .before .args .set))) (hearing-of (c .before .before .before .before .before .before .args .given)) (c .before .before .before .before .before .react .result) (react (record { inputs = c .before .before .before .before .before .before .args .inputs; outputs = c .before .before .before .before .before .before .args .outputs; body = body }) (state-of (c .before .before .before .before .before .before .args .phase) (set-of (c .before .before .before .before .before .before .args .set))) (hearing-of (c .before .before .before .before .before .before .args .given))) (c .before .before .before .before .before .react .ensures body a) (c .before .if1 .left) (c .before .before .before .before .final-event .result) (λ outs p q. c .before .before .before .before .final-event .ensures (record { inputs = c .before .before .before .before .before .before .args .inputs; outputs = c .before .before .before .before .before .before .args .outputs; body = body }) outs refl p q) (c .first-reached .ensures body a))
+
+returns-5 : tie.Need-returns-5
+unfolding Reacts
+returns-5 c = λ body a. asked-for (record { inputs = c .before .before .before .before .before .before .before .args .inputs; outputs = c .before .before .before .before .before .before .before .args .outputs; body = body }) (state-of (c .before .before .before .before .before .before .before .args .phase) (set-of (c .before .before .before .before .before .before .before .args .set))) (hearing-of (c .before .before .before .before .before .before .before .args .given)) (ap asked-of (c .before .before .before .asked .given .1)) (present-not (record { inputs = c .before .before .before .before .before .before .before .args .inputs; outputs = c .before .before .before .before .before .before .before .args .outputs; body = body }) (state-of (c .before .before .before .before .before .before .before .args .phase) (set-of (c .before .before .before .before .before .before .before .args .set))) (hearing-of (c .before .before .before .before .before .before .before .args .given)) (c .before .before .before .before .before .before .react .result) (c .before .before .before .asked .given .0 .0) (react (record { inputs = c .before .before .before .before .before .before .before .args .inputs; outputs = c .before .before .before .before .before .before .before .args .outputs; body = body }) (state-of (c .before .before .before .before .before .before .before .args .phase) (set-of (c .before .before .before .before .before .before .before .args .set))) (hearing-of (c .before .before .before .before .before .before .before .args .given))) (c .before .before .before .before .before .before .react .ensures body a) (sym (c .before .is-present .ensures .0) ∙ c .if2 .left))
+
+returns-6 : tie.Need-returns-6
+unfolding Reacts
+returns-6 c = λ body a. asked-for (record { inputs = c .before .before .before .before .before .before .args .inputs; outputs = c .before .before .before .before .before .before .args .outputs; body = body }) (state-of (c .before .before .before .before .before .before .args .phase) (set-of (c .before .before .before .before .before .before .args .set))) (hearing-of (c .before .before .before .before .before .before .args .given)) (ap asked-of (c .before .before .asked2 .given .1)) (executed-unknown (record { inputs = c .before .before .before .before .before .before .args .inputs; outputs = c .before .before .before .before .before .before .args .outputs; body = body }) (state-of (c .before .before .before .before .before .before .args .phase) (set-of (c .before .before .before .before .before .before .args .set))) (hearing-of (c .before .before .before .before .before .before .args .given)) (c .before .before .before .before .before .react .result) (c .before .before .asked2 .given .0 .0) (react (record { inputs = c .before .before .before .before .before .before .args .inputs; outputs = c .before .before .before .before .before .before .args .outputs; body = body }) (state-of (c .before .before .before .before .before .before .args .phase) (set-of (c .before .before .before .before .before .before .args .set))) (hearing-of (c .before .before .before .before .before .before .args .given))) (c .before .before .before .before .before .react .ensures body a) (c .if3 .left))
+
+pub reason-spec : {M : Type 1} → statement M
+reason-spec =
+    tie.close
+    (tie.spec
+    react-requires
+    final-event-requires
+    enum-told
+    returns
+    first-reached-requires
+    enum-known-asked
+    is-present-requires
+    cast-t18
+    first-reached-requires-2
+    returns-2
+    enum-known-asked-2
+    first-cut-requires
+    returns-3
+    returns-4
+    returns-5
+    returns-6)

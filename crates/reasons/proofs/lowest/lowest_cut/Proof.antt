@@ -1,0 +1,75 @@
+-- `reasons::lowest::lowest_cut` meets its contract: no row before i is cut off.
+-- Assumes nothing.
+use borrow.Author.Needs.{needs}
+use Prim.Native.Nat.{ℕ, _-_, _≤_, _<_}
+use native.Mathlib.Omega.{arith}
+use mathlib.Core.Bool.{false}
+use lib.Dec.{T}
+use lib.ListN.{getD}
+use Rattle.reasons.specs.Taking.{marked-in, cut-rows}
+use Rattle.reasons.proofs.LeafLaws.{cut-is, found-here, found-none, not-here}
+use Rattle.reasons.proofs.lowest.lowest_cut.Statement.{statement}
+use Rattle.reasons.proofs.lowest.lowest_cut.Tie as tie
+use Rattle.reasons.proofs.lowest.lowest_cut.Reads as reads
+use Rattle.reasons.proofs.lowest.lowest_cut.Lts as lts
+use Rattle.reasons.proofs.lowest.cut_here.Reads as cut-here-reads
+use Rattle.reasons.proofs.lowest.passed_by.Reads as passed-by-reads
+
+abbrev Inv-loop : tie.InvT-loop
+Inv-loop sizes executed n count i₀ i = (i ≤ count) × ((j : ℕ) → j < i → T (cut-rows sizes n (marked-in executed) j) → ⊥)
+
+abbrev μ-loop : tie.MeasureT-loop
+μ-loop sizes executed n count i₀ i = count - i
+
+loop-holds : tie.Need-loop-holds Inv-loop μ-loop
+loop-holds c = (omega arith, λ j h t. absurd (omega arith))
+
+mul-passed-by : tie.Need-mul-passed-by Inv-loop μ-loop
+mul-passed-by c = search needs
+
+element-copy-out-passed-by : tie.Need-element-copy-out-passed-by Inv-loop μ-loop
+element-copy-out-passed-by c = search needs
+
+passed-by-requires : tie.Need-passed-by-requires Inv-loop μ-loop
+passed-by-requires c κs = search needs
+
+element-copy-out-cut-here : tie.Need-element-copy-out-cut-here Inv-loop μ-loop
+element-copy-out-cut-here c = search needs
+
+cut-here-requires : tie.Need-cut-here-requires Inv-loop μ-loop
+cut-here-requires c κs = tt
+
+returns : tie.Need-returns Inv-loop μ-loop
+unfolding cut-rows
+returns c = found-here (c .before .before .before .before .before .before .before .args .count) (cut-rows (c .before .before .before .before .before .before .before .args .sizes .now) (c .before .before .before .before .before .before .before .args .n) (marked-in (c .before .before .before .before .before .before .before .args .executed .now))) (c .before .before .before .before .before .before .loop .i) (c .before .before .before .before .before .before .loop .inv .1) (c .before .before .before .before .before .loop-test .taken) (cut-is (getD (c .before .before .before .before .before .before .before .args .executed .now) (c .before .before .before .before .before .before .loop .i) false) (c .before .before .before .passed-by .ensures) (c .before .cut-here .ensures) (c .if1 .taken))
+
+add-i : tie.Need-add-i Inv-loop μ-loop
+add-i c = search needs
+
+loop-less : tie.Need-loop-less Inv-loop μ-loop
+loop-less c = search needs
+
+loop-again : tie.Need-loop-again Inv-loop μ-loop
+unfolding cut-rows
+loop-again c = (omega (arith, c .before .before .before .before .before .loop-test .taken), not-here (c .before .before .before .before .before .before .before .args .count) (cut-rows (c .before .before .before .before .before .before .before .args .sizes .now) (c .before .before .before .before .before .before .before .args .n) (marked-in (c .before .before .before .before .before .before .before .args .executed .now))) (c .before .before .before .before .before .before .loop .i) (c .before .before .before .before .before .before .loop .inv .1) (cut-is (getD (c .before .before .before .before .before .before .before .args .executed .now) (c .before .before .before .before .before .before .loop .i) false) (c .before .before .before .passed-by .ensures) (c .before .cut-here .ensures) (c .if1 .left)))
+
+returns-2 : tie.Need-returns-2 Inv-loop μ-loop
+returns-2 c = found-none (c .before .before .args .count) (cut-rows (c .before .before .args .sizes .now) (c .before .before .args .n) (marked-in (c .before .before .args .executed .now))) (c .before .loop .i) (c .before .loop .inv .1) (omega (arith, c .loop-test .left))
+
+pub lowest-cut-spec : {M : Type 1} → statement M
+lowest-cut-spec =
+    tie.close
+    (tie.spec
+    Inv-loop
+    μ-loop
+    loop-holds
+    mul-passed-by
+    element-copy-out-passed-by
+    passed-by-requires
+    element-copy-out-cut-here
+    cut-here-requires
+    returns
+    add-i
+    loop-less
+    loop-again
+    returns-2)

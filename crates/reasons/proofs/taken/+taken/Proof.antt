@@ -1,0 +1,265 @@
+-- The proof of the cycle of calls {taken}: each way is a lemma of TakenSteps; the measure is the subtree's size.
+-- Assumes nothing.
+use mathlib.Core.Path.{sym, _∙_}
+use lib.ListN.{getD}
+use Rattle.words.specs.Words.{seen-as}
+use Rattle.forms.specs.Forms.{TasksUnder}
+use Rattle.words.proofs.WordLaws.{bits-none, told-as}
+use Rattle.forms.proofs.FormLaws.{in-table, formed, call-task}
+use Rattle.reasons.proofs.TakenSteps.{word-of-0, word-of-1, take-form, take-done, take-stay, take-keep, take-say, take-leave, take-present, take-absent, take-unknown, take-same, take-catch, take-chain, take-skip, take-beside, take-scope}
+use Prim.Native.Nat.{ℕ, _<_}
+use borrow.Fn.Kinds.{In}
+use borrow.Fn.PlainCycle.{Measures, is, falls, and}
+use Rattle.reasons.proofs.taken.taken.Reads as taken
+use Rattle.reasons.proofs.taken.taken.Kinds as taken-kinds
+use Rattle.reasons.proofs.taken.+taken.Lts-taken as taken-lts
+use Rattle.block.proofs.codes.code_bit.Reads as code-bit-reads
+use Rattle.block.proofs.kinds.code_of.Reads as code-of-reads
+use Rattle.code_sets.proofs.followed_codes.Reads as followed-codes-reads
+use Rattle.code_sets.proofs.larger.Reads as larger-reads
+use Rattle.code_sets.proofs.lowered.Reads as lowered-reads
+use Rattle.forms.proofs.form.form_of.Reads as form-of-reads
+use Rattle.reasons.proofs.wanted.mark.Reads as mark-reads
+use Rattle.reasons.proofs.wanted.wanted_here.Reads as wanted-here-reads
+use Rattle.walk.proofs.must_can.Reads as must-can-reads
+use Rattle.words.proofs.events.heard_with.Reads as heard-with-reads
+use Rattle.words.proofs.events.status_at.Reads as status-at-reads
+use Rattle.words.proofs.given.gives_zero.Reads as gives-zero-reads
+use Rattle.words.proofs.given.settled_for.Reads as settled-for-reads
+use Rattle.reasons.proofs.taken.+taken.{statement}
+use Rattle.reasons.proofs.taken.+taken.Tie.{close}
+
+abbrev μ-taken : Measures 5 taken-kinds.ps ℕ
+μ-taken κs a = getD (a .1 .1 .0 .now) (a .1 .1 .1 .1 .1 .0 .at) 0
+
+abbrev taken-at : ℕ → In 5 taken-kinds.ps
+taken-at t = and 5 taken-kinds.ps (is 5 taken-kinds.ps μ-taken t) taken.Pre
+
+abbrev taken-below : ℕ → In 5 taken-kinds.ps
+taken-below t = and 5 taken-kinds.ps (falls 5 taken-kinds.ps _<_ μ-taken t) taken.Pre
+
+abbrev taken-claims : ℕ → taken-lts.Claims
+taken-claims t = (form-of-reads.Asked, form-of-reads.Learnt, wanted-here-reads.Asked, wanted-here-reads.Learnt, mark-reads.Asked, mark-reads.Learnt, code-of-reads.Asked, code-of-reads.Learnt, code-bit-reads.Asked, code-bit-reads.Learnt, status-at-reads.Asked, status-at-reads.Learnt, taken-below t, taken.Post, lowered-reads.Asked, lowered-reads.Learnt, heard-with-reads.Asked, heard-with-reads.Learnt, must-can-reads.Asked, must-can-reads.Learnt, settled-for-reads.Asked, settled-for-reads.Learnt, gives-zero-reads.Asked, gives-zero-reads.Learnt, followed-codes-reads.Asked, followed-codes-reads.Learnt, larger-reads.Asked, larger-reads.Learnt)
+
+taken-form-of-requires : (t : ℕ) → taken-lts.Need-form-of-requires (taken-claims t) (taken-at t) taken.Post
+taken-form-of-requires t c κs = c .pre .1
+
+taken-wanted-here-requires : (t : ℕ) → taken-lts.Need-wanted-here-requires (taken-claims t) (taken-at t) taken.Post
+taken-wanted-here-requires t c κs = tt
+
+taken-mark-requires : (t : ℕ) → taken-lts.Need-mark-requires (taken-claims t) (taken-at t) taken.Post
+taken-mark-requires t c κs = in-table (c .before .before .before .pre .1)
+
+taken-enum-told : (t : ℕ) → taken-lts.Need-enum-told (taken-claims t) (taken-at t) taken.Post
+taken-enum-told t c = c .match .keys1
+
+taken-enum-told-2 : (t : ℕ) → taken-lts.Need-enum-told-2 (taken-claims t) (taken-at t) taken.Post
+taken-enum-told-2 t c = c .match .keys2
+
+taken-enum-told-3 : (t : ℕ) → taken-lts.Need-enum-told-3 (taken-claims t) (taken-at t) taken.Post
+taken-enum-told-3 t c = c .match .keys3
+
+taken-enum-told-4 : (t : ℕ) → taken-lts.Need-enum-told-4 (taken-claims t) (taken-at t) taken.Post
+taken-enum-told-4 t c = c .match .keys4
+
+taken-enum-known-form : (t : ℕ) → taken-lts.Need-enum-known-form (taken-claims t) (taken-at t) taken.Post
+taken-enum-known-form t c = c .match .keys5
+
+taken-code-of-requires : (t : ℕ) → taken-lts.Need-code-of-requires (taken-claims t) (taken-at t) taken.Post
+taken-code-of-requires t c κs = tt
+
+taken-code-bit-requires : (t : ℕ) → taken-lts.Need-code-bit-requires (taken-claims t) (taken-at t) taken.Post
+taken-code-bit-requires t c κs = tt
+
+taken-enum-known-form-2 : (t : ℕ) → taken-lts.Need-enum-known-form-2 (taken-claims t) (taken-at t) taken.Post
+taken-enum-known-form-2 t c = c .match .keys6
+
+taken-status-at-requires : (t : ℕ) → taken-lts.Need-status-at-requires (taken-claims t) (taken-at t) taken.Post
+taken-status-at-requires t c κs = tt
+
+taken-enum-told-5 : (t : ℕ) → taken-lts.Need-enum-told-5 (taken-claims t) (taken-at t) taken.Post
+taken-enum-told-5 t c = c .match2 .keys1
+
+taken-taken-requires : (t : ℕ) → taken-lts.Need-taken-requires (taken-claims t) (taken-at t) taken.Post
+unfolding TasksUnder
+taken-taken-requires t c κs = call-task (formed (c .before .before .before .before .before .before .before .before .before .before .form-of .ensures) (c .before .before .before .before .before .form2 .given .1) .tasks-under .0) (c .before .before .before .before .before .before .before .before .before .before .before .pre .0)
+
+taken-enum-told-6 : (t : ℕ) → taken-lts.Need-enum-told-6 (taken-claims t) (taken-at t) taken.Post
+taken-enum-told-6 t c = c .match2 .keys2
+
+taken-taken-requires-2 : (t : ℕ) → taken-lts.Need-taken-requires-2 (taken-claims t) (taken-at t) taken.Post
+unfolding TasksUnder
+taken-taken-requires-2 t c κs = call-task (formed (c .before .before .before .before .before .before .before .before .before .before .form-of .ensures) (c .before .before .before .before .before .form2 .given .1) .tasks-under .1) (c .before .before .before .before .before .before .before .before .before .before .before .pre .0)
+
+taken-enum-told-7 : (t : ℕ) → taken-lts.Need-enum-told-7 (taken-claims t) (taken-at t) taken.Post
+taken-enum-told-7 t c = c .match2 .keys3
+
+taken-enum-known-form-3 : (t : ℕ) → taken-lts.Need-enum-known-form-3 (taken-claims t) (taken-at t) taken.Post
+taken-enum-known-form-3 t c = c .match .keys7
+
+taken-taken-requires-3 : (t : ℕ) → taken-lts.Need-taken-requires-3 (taken-claims t) (taken-at t) taken.Post
+unfolding TasksUnder
+taken-taken-requires-3 t c κs = call-task (formed (c .before .before .before .before .before .before .before .form-of .ensures) (c .before .before .form3 .given .1) .tasks-under) (c .before .before .before .before .before .before .before .before .pre .0)
+
+taken-lowered-requires : (t : ℕ) → taken-lts.Need-lowered-requires (taken-claims t) (taken-at t) taken.Post
+taken-lowered-requires t c κs = tt
+
+taken-enum-known-form-4 : (t : ℕ) → taken-lts.Need-enum-known-form-4 (taken-claims t) (taken-at t) taken.Post
+taken-enum-known-form-4 t c = c .match .keys8
+
+taken-heard-with-requires : (t : ℕ) → taken-lts.Need-heard-with-requires (taken-claims t) (taken-at t) taken.Post
+taken-heard-with-requires t c κs = tt
+
+taken-must-can-requires : (t : ℕ) → taken-lts.Need-must-can-requires (taken-claims t) (taken-at t) taken.Post
+unfolding TasksUnder
+taken-must-can-requires t c κs = formed (c .before .before .before .before .before .before .before .form-of .ensures) (c .before .before .form4 .given .1) .tasks-under .placed
+
+taken-settled-for-requires : (t : ℕ) → taken-lts.Need-settled-for-requires (taken-claims t) (taken-at t) taken.Post
+taken-settled-for-requires t c κs = tt
+
+taken-heard-with-requires-2 : (t : ℕ) → taken-lts.Need-heard-with-requires-2 (taken-claims t) (taken-at t) taken.Post
+taken-heard-with-requires-2 t c κs = tt
+
+taken-taken-requires-4 : (t : ℕ) → taken-lts.Need-taken-requires-4 (taken-claims t) (taken-at t) taken.Post
+unfolding TasksUnder
+taken-taken-requires-4 t c κs = call-task (formed (c .before .before .before .before .before .before .before .before .before .before .before .form-of .ensures) (c .before .before .before .before .before .before .form4 .given .1) .tasks-under) (c .before .before .before .before .before .before .before .before .before .before .before .before .pre .0)
+
+taken-enum-known-form-5 : (t : ℕ) → taken-lts.Need-enum-known-form-5 (taken-claims t) (taken-at t) taken.Post
+taken-enum-known-form-5 t c = c .match .keys9
+
+taken-taken-requires-5 : (t : ℕ) → taken-lts.Need-taken-requires-5 (taken-claims t) (taken-at t) taken.Post
+unfolding TasksUnder
+taken-taken-requires-5 t c κs = call-task (formed (c .before .before .before .before .before .before .before .form-of .ensures) (c .before .before .form5 .given .1) .tasks-under .0) (c .before .before .before .before .before .before .before .before .pre .0)
+
+taken-gives-zero-requires : (t : ℕ) → taken-lts.Need-gives-zero-requires (taken-claims t) (taken-at t) taken.Post
+taken-gives-zero-requires t c κs = tt
+
+taken-taken-requires-6 : (t : ℕ) → taken-lts.Need-taken-requires-6 (taken-claims t) (taken-at t) taken.Post
+unfolding TasksUnder
+taken-taken-requires-6 t c κs = call-task (formed (c .before .before .before .before .before .before .before .before .before .before .before .form-of .ensures) (c .before .before .before .before .before .before .form5 .given .1) .tasks-under .1) (c .before .before .before .before .before .before .before .before .before .before .before .before .pre .0)
+
+taken-followed-codes-requires : (t : ℕ) → taken-lts.Need-followed-codes-requires (taken-claims t) (taken-at t) taken.Post
+taken-followed-codes-requires t c κs = tt
+
+taken-returns : (t : ℕ) → taken-lts.Need-returns (taken-claims t) (taken-at t) taken.Post
+taken-returns t c = take-form (c .before .before .before .before .before .before .before .before .before .before .before .before .before .form-of .ensures) (c .before .before .before .before .before .before .before .before .before .before .before .before .wanted-here .ensures) (c .before .before .before .before .before .before .before .before .before .before .mark .ensures) (c .before .before .before .before .before .before .before .before .form5 .given .1) (take-chain (c .followed-codes .ensures) (sym (c .before .before .before .before .gives-zero .ensures) ∙ c .before .before .before .if1 .taken) (c .before .before .before .before .before .taken5 .ensures) (c .before .taken6 .ensures))
+
+taken-followed-codes-requires-2 : (t : ℕ) → taken-lts.Need-followed-codes-requires-2 (taken-claims t) (taken-at t) taken.Post
+taken-followed-codes-requires-2 t c κs = tt
+
+taken-enum-known-form-6 : (t : ℕ) → taken-lts.Need-enum-known-form-6 (taken-claims t) (taken-at t) taken.Post
+taken-enum-known-form-6 t c = c .match .keys10
+
+taken-taken-requires-7 : (t : ℕ) → taken-lts.Need-taken-requires-7 (taken-claims t) (taken-at t) taken.Post
+unfolding TasksUnder
+taken-taken-requires-7 t c κs = call-task (formed (c .before .before .before .before .before .before .before .form-of .ensures) (c .before .before .form6 .given .1) .tasks-under .0) (c .before .before .before .before .before .before .before .before .pre .0)
+
+taken-taken-requires-8 : (t : ℕ) → taken-lts.Need-taken-requires-8 (taken-claims t) (taken-at t) taken.Post
+unfolding TasksUnder
+taken-taken-requires-8 t c κs = call-task (formed (c .before .before .before .before .before .before .before .before .before .form-of .ensures) (c .before .before .before .before .form6 .given .1) .tasks-under .1) (c .before .before .before .before .before .before .before .before .before .before .pre .0)
+
+taken-larger-requires : (t : ℕ) → taken-lts.Need-larger-requires (taken-claims t) (taken-at t) taken.Post
+taken-larger-requires t c κs = tt
+
+taken-enum-known-form-7 : (t : ℕ) → taken-lts.Need-enum-known-form-7 (taken-claims t) (taken-at t) taken.Post
+taken-enum-known-form-7 t c = c .match .keys11
+
+taken-taken-requires-9 : (t : ℕ) → taken-lts.Need-taken-requires-9 (taken-claims t) (taken-at t) taken.Post
+unfolding TasksUnder
+taken-taken-requires-9 t c κs = call-task (formed (c .before .before .before .before .before .before .before .form-of .ensures) (c .before .before .form7 .given .1) .tasks-under) (c .before .before .before .before .before .before .before .before .pre .0)
+
+taken-returns-2 : (t : ℕ) → taken-lts.Need-returns-2 (taken-claims t) (taken-at t) taken.Post
+taken-returns-2 t c = take-form (c .before .before .before .before .before .form-of .ensures) (c .before .before .before .before .wanted-here .ensures) (c .before .before .mark .ensures) (c .enum-told .given .1) (take-done word-of-0)
+
+taken-returns-3 : (t : ℕ) → taken-lts.Need-returns-3 (taken-claims t) (taken-at t) taken.Post
+taken-returns-3 t c = take-form (c .before .before .before .before .before .form-of .ensures) (c .before .before .before .before .wanted-here .ensures) (c .before .before .mark .ensures) (c .enum-told2 .given .1) (take-stay word-of-1)
+
+taken-returns-4 : (t : ℕ) → taken-lts.Need-returns-4 (taken-claims t) (taken-at t) taken.Post
+taken-returns-4 t c = take-form (c .before .before .before .before .before .form-of .ensures) (c .before .before .before .before .wanted-here .ensures) (c .before .before .mark .ensures) (c .enum-told3 .given .1) (take-keep word-of-1)
+
+taken-returns-5 : (t : ℕ) → taken-lts.Need-returns-5 (taken-claims t) (taken-at t) taken.Post
+taken-returns-5 t c = take-form (c .before .before .before .before .before .form-of .ensures) (c .before .before .before .before .wanted-here .ensures) (c .before .before .mark .ensures) (c .enum-told4 .given .1) (take-say word-of-0)
+
+taken-returns-6 : (t : ℕ) → taken-lts.Need-returns-6 (taken-claims t) (taken-at t) taken.Post
+taken-returns-6 t c = take-form (c .before .before .before .before .before .before .before .before .form-of .ensures) (c .before .before .before .before .before .before .before .wanted-here .ensures) (c .before .before .before .before .before .mark .ensures) (c .before .before .before .form .given .1) (take-leave (c .before .code-of .result .0) (c .before .code-of .ensures) (c .code-bit .ensures))
+
+taken-returns-7 : (t : ℕ) → taken-lts.Need-returns-7 (taken-claims t) (taken-at t) taken.Post
+taken-returns-7 t c = take-form (c .before .before .before .before .before .before .before .before .before .before .before .form-of .ensures) (c .before .before .before .before .before .before .before .before .before .before .wanted-here .ensures) (c .before .before .before .before .before .before .before .before .mark .ensures) (c .before .before .before .before .before .before .form2 .given .1) (take-present (told-as (c .before .before .enum-told5 .given .1) (c .before .before .before .before .status-at .ensures)) (c .taken .ensures))
+
+taken-returns-8 : (t : ℕ) → taken-lts.Need-returns-8 (taken-claims t) (taken-at t) taken.Post
+taken-returns-8 t c = take-form (c .before .before .before .before .before .before .before .before .before .before .before .form-of .ensures) (c .before .before .before .before .before .before .before .before .before .before .wanted-here .ensures) (c .before .before .before .before .before .before .before .before .mark .ensures) (c .before .before .before .before .before .before .form2 .given .1) (take-absent (told-as (c .before .before .enum-told6 .given .1) (c .before .before .before .before .status-at .ensures)) (c .taken2 .ensures))
+
+taken-returns-9 : (t : ℕ) → taken-lts.Need-returns-9 (taken-claims t) (taken-at t) taken.Post
+taken-returns-9 t c = take-form (c .before .before .before .before .before .before .before .before .before .form-of .ensures) (c .before .before .before .before .before .before .before .before .wanted-here .ensures) (c .before .before .before .before .before .before .mark .ensures) (c .before .before .before .before .form2 .given .1) (take-unknown (told-as (c .enum-told7 .given .1) (c .before .before .status-at .ensures)) bits-none)
+
+taken-returns-10 : (t : ℕ) → taken-lts.Need-returns-10 (taken-claims t) (taken-at t) taken.Post
+taken-returns-10 t c = take-form (c .before .before .before .before .before .before .before .before .before .form-of .ensures) (c .before .before .before .before .before .before .before .before .wanted-here .ensures) (c .before .before .before .before .before .before .mark .ensures) (c .before .before .before .before .form3 .given .1) (take-catch (c .lowered .ensures) (c .before .taken3 .ensures))
+
+taken-returns-11 : (t : ℕ) → taken-lts.Need-returns-11 (taken-claims t) (taken-at t) taken.Post
+taken-returns-11 t c = take-form (c .before .before .before .before .before .before .before .before .before .before .before .before .form-of .ensures) (c .before .before .before .before .before .before .before .before .before .before .before .wanted-here .ensures) (c .before .before .before .before .before .before .before .before .before .mark .ensures) (c .before .before .before .before .before .before .before .form4 .given .1) (take-scope (seen-as (c .before .before .before .settled-for .result)) (c .before .before .before .before .before .heard-with .ensures) (c .before .before .before .before .must-can .ensures) (c .before .before .before .settled-for .ensures) (c .before .before .heard-with2 .ensures) (c .taken4 .ensures))
+
+taken-returns-12 : (t : ℕ) → taken-lts.Need-returns-12 (taken-claims t) (taken-at t) taken.Post
+taken-returns-12 t c = take-form (c .before .before .before .before .before .before .before .before .before .before .before .form-of .ensures) (c .before .before .before .before .before .before .before .before .before .before .wanted-here .ensures) (c .before .before .before .before .before .before .before .before .mark .ensures) (c .before .before .before .before .before .before .form5 .given .1) (take-skip 0 (c .followed-codes2 .ensures) (sym (c .before .before .gives-zero .ensures) ∙ c .before .if1 .left) (c .before .before .before .taken5 .ensures))
+
+taken-returns-13 : (t : ℕ) → taken-lts.Need-returns-13 (taken-claims t) (taken-at t) taken.Post
+taken-returns-13 t c = take-form (c .before .before .before .before .before .before .before .before .before .before .before .form-of .ensures) (c .before .before .before .before .before .before .before .before .before .before .wanted-here .ensures) (c .before .before .before .before .before .before .before .before .mark .ensures) (c .before .before .before .before .before .before .form6 .given .1) (take-beside (c .larger .ensures) (c .before .before .before .taken7 .ensures) (c .before .taken8 .ensures))
+
+taken-returns-14 : (t : ℕ) → taken-lts.Need-returns-14 (taken-claims t) (taken-at t) taken.Post
+taken-returns-14 t c = take-form (c .before .before .before .before .before .before .before .before .form-of .ensures) (c .before .before .before .before .before .before .before .wanted-here .ensures) (c .before .before .before .before .before .mark .ensures) (c .before .before .before .form7 .given .1) (take-same (c .taken9 .ensures))
+
+pub +taken-spec : {M : Type 1} → statement M
++taken-spec = close μ-taken λ t. taken-lts.spec (taken-claims t)
+    (taken-at t)
+    taken.Post
+    (taken-form-of-requires t)
+    (taken-wanted-here-requires t)
+    (taken-mark-requires t)
+    (taken-enum-told t)
+    (taken-enum-told-2 t)
+    (taken-enum-told-3 t)
+    (taken-enum-told-4 t)
+    (taken-enum-known-form t)
+    (taken-code-of-requires t)
+    (taken-code-bit-requires t)
+    (taken-enum-known-form-2 t)
+    (taken-status-at-requires t)
+    (taken-enum-told-5 t)
+    (taken-taken-requires t)
+    (taken-enum-told-6 t)
+    (taken-taken-requires-2 t)
+    (taken-enum-told-7 t)
+    (taken-enum-known-form-3 t)
+    (taken-taken-requires-3 t)
+    (taken-lowered-requires t)
+    (taken-enum-known-form-4 t)
+    (taken-heard-with-requires t)
+    (taken-must-can-requires t)
+    (taken-settled-for-requires t)
+    (taken-heard-with-requires-2 t)
+    (taken-taken-requires-4 t)
+    (taken-enum-known-form-5 t)
+    (taken-taken-requires-5 t)
+    (taken-gives-zero-requires t)
+    (taken-taken-requires-6 t)
+    (taken-followed-codes-requires t)
+    (taken-returns t)
+    (taken-followed-codes-requires-2 t)
+    (taken-enum-known-form-6 t)
+    (taken-taken-requires-7 t)
+    (taken-taken-requires-8 t)
+    (taken-larger-requires t)
+    (taken-enum-known-form-7 t)
+    (taken-taken-requires-9 t)
+    (taken-returns-2 t)
+    (taken-returns-3 t)
+    (taken-returns-4 t)
+    (taken-returns-5 t)
+    (taken-returns-6 t)
+    (taken-returns-7 t)
+    (taken-returns-8 t)
+    (taken-returns-9 t)
+    (taken-returns-10 t)
+    (taken-returns-11 t)
+    (taken-returns-12 t)
+    (taken-returns-13 t)
+    (taken-returns-14 t)

@@ -1,0 +1,32 @@
+-- `reasons::wanted::wants_emit` meets its contract: by what is asked for.
+-- Assumes nothing.
+use mathlib.Core.Path.{sym, ap}
+use Rattle.rules.specs.Taken.{wants-emit}
+use Rattle.reasons.specs.Taking.{wanted-of}
+use borrow.Author.Needs.{needs}
+use Rattle.reasons.proofs.wanted.wants_emit.Statement.{statement}
+use Rattle.reasons.proofs.wanted.wants_emit.Tie as tie
+use Rattle.reasons.proofs.wanted.wants_emit.Reads as reads
+use Rattle.reasons.proofs.wanted.wants_emit.Lts as lts
+
+enum-told : tie.Need-enum-told
+enum-told c = search needs
+
+enum-known-w : tie.Need-enum-known-w
+enum-known-w c = search needs
+
+enum-told-2 : tie.Need-enum-told-2
+enum-told-2 c = search needs
+
+returns : tie.Need-returns
+returns c = search needs
+
+returns-2 : tie.Need-returns-2
+returns-2 c = ap (λ w. wants-emit (wanted-of w) (c .before .before .before .args .s)) (sym (c .before .w .given .1))
+
+returns-3 : tie.Need-returns-3
+returns-3 c = search needs
+
+pub wants-emit-spec : {M : Type 1} → statement M
+wants-emit-spec =
+    tie.close (tie.spec enum-told enum-known-w enum-told-2 returns returns-2 returns-3)
