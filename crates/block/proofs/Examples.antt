@@ -25,11 +25,13 @@ run : reading (head 1 1 0 ++ long 20 0 ++ short 21 ++ short 17 ++ long 18 1)
       statements = 4;
       pauses = 1;
     })
-unfolding reading is-broken header header-fault shape length-of children-of over-limit wrong-signal wrong-exit statement-fault past inside leaf above joined read preorder bytes offset endless lowest-endless loops-checked ended listed lowest some-to maxima downs codes-of code kind-of statements
+unfolding reading is-broken header header-fault shape length-of children-of over-limit wrong-signal wrong-exit statement-fault past inside leaf above joined
+    read preorder bytes offset endless lowest-endless loops-checked ended listed lowest some-to maxima downs codes-of code kind-of statements
 run = refl
 
 inner : reading (head 0 0 0 ++ short 22 ++ short 22 ++ short 16) ≡ turned-down 8 18
-unfolding reading is-broken header header-fault shape length-of children-of over-limit wrong-signal wrong-exit statement-fault past inside leaf above joined read preorder bytes offset endless lowest-endless loops-checked ended listed lowest some-to maxima downs codes-of code kind-of statements
+unfolding reading is-broken header header-fault shape length-of children-of over-limit wrong-signal wrong-exit statement-fault past inside leaf above joined
+    read preorder bytes offset endless lowest-endless loops-checked ended listed lowest some-to maxima downs codes-of code kind-of statements
 inner = refl
 
 locals : reading (head 0 1 1 ++ long 26 1 ++ short 21 ++ long 18 1 ++ short 24 ++ long 25 0)
@@ -39,5 +41,6 @@ locals : reading (head 0 1 1 ++ long 26 1 ++ short 21 ++ long 18 1 ++ short 24 +
       statements = 5;
       pauses = 0;
     })
-unfolding reading is-broken header header-fault shape length-of children-of over-limit wrong-signal wrong-exit statement-fault past inside leaf above joined read preorder bytes offset endless lowest-endless loops-checked ended listed lowest some-to maxima downs codes-of code kind-of statements
+unfolding reading is-broken header header-fault shape length-of children-of over-limit wrong-signal wrong-exit statement-fault past inside leaf above joined
+    read preorder bytes offset endless lowest-endless loops-checked ended listed lowest some-to maxima downs codes-of code kind-of statements
 locals = refl

@@ -25,15 +25,7 @@ fn put_call(out: &mut [u8], head: Head, block: &[u8], state: &mut [u8], log: &mu
         4 => put_logged(out, block, state, head.inputs, log, head.other),
         5 => put_excerpt(out, block, head.other),
         6 => put_heard(out, block, state, head.inputs, head.third),
-        7 => put_heard_logged(
-            out,
-            block,
-            state,
-            head.inputs,
-            head.third,
-            log,
-            head.other,
-        ),
+        7 => put_heard_logged(out, block, state, head.inputs, head.third, log, head.other),
         _ => text::put(out, 0, b"no such call"),
     }
 }

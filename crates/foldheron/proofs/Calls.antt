@@ -95,7 +95,8 @@ pub record WasAnswered (given : Given) (v : Verdict) (s : List ℕ) (roomless : 
       })
   pub end-is : (end : ℕ) → end-after end v ≡ end + log-size
 
-answered-by : (given : Given) (v : Verdict) (s : List ℕ) (roomless : Bool) (o : Outcome) (r : Reaction) → Leaves v s roomless → Comes given v o → o .answer ≡ Answered r → WasAnswered given v s roomless o r
+answered-by : (given : Given) (v : Verdict) (s : List ℕ) (roomless : Bool) (o : Outcome) (r : Reaction) → Leaves v s roomless → Comes given v o
+    → o .answer ≡ Answered r → WasAnswered given v s roomless o r
 unfolding Leaves told instant-told Writes Hears case-of case-for state-after log-after end-after
 answered-by given (refused n at) s roomless o r l c e = apart 2 0 (sym (ap case-of e) ∙ c .same-case) (omega arith)
 answered-by given (clash pair) s roomless o r l c e = apart 2 1 (sym (ap case-of e) ∙ c .same-case) (omega arith)

@@ -332,7 +332,8 @@ resumed-done A i (trap p) a b c d e f g = absurd (f refl)
 resumed-done A i (exit x) a b c d e f g = (refl, refl)
 resumed-done A i (local s p) a b c d e f g = absurd (g refl)
 
-pub done-formed : {tab : Table} {live : List Bool} {c : Task} → ((A : Numbers) (t : Stmt) → At tab (c .at) t → (step-of (c .going) A t ≡ done) × (Done ≡ form-for (c .going) A (c .at) t)) → Formed tab live c Done
+pub done-formed : {tab : Table} {live : List Bool} {c : Task}
+    → ((A : Numbers) (t : Stmt) → At tab (c .at) t → (step-of (c .going) A t ≡ done) × (Done ≡ form-for (c .going) A (c .at) t)) → Formed tab live c Done
 unfolding TasksUnder Shows
 done-formed f = record { tasks-under = tt; shows = λ A l p d. d .its-step ∙ f A (d .tree) (d .there) .0; is-it = λ A l t h. f A t h .1 }
 

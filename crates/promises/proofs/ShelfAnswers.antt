@@ -18,7 +18,8 @@ use Rattle.block.specs.Format.{Reading, good, turned-down, reading}
 use Rattle.block.proofs.GoodReadings.{numbers}
 use Rattle.records.specs.Numerals.{Bytes}
 use Rattle.shelf.specs.Entries.{QUOTA-SIZE, Entry, size, in-use, own, taken, find, entries}
-use Rattle.shelf.specs.Calls.{PARTY, SHELF, TAKEN, QUOTA, ABSENT, Call, install, fetch, withdraw, party-of, name-of, Answer, refused, done, entry, installed, fetched, withdrawn, told-by, told-on, told, left}
+use Rattle.shelf.specs.Calls.{PARTY, SHELF, TAKEN, QUOTA, ABSENT, Call, install, fetch, withdraw, party-of, name-of, Answer, refused, done, entry, installed}
+use Rattle.shelf.specs.Calls.{fetched, withdrawn, told-by, told-on, told, left}
 use Rattle.shelf.specs.Histories.{is-of, shelf-after, told-to, Named, Said, said}
 use Rattle.shelf.specs.Answered.{shelved-values, shelved-owed}
 use Rattle.shelf.specs.declared.Shelved.{Shelved}
@@ -28,7 +29,8 @@ use Rattle.shelf.proofs.OnlyShelf.{only-shelf, no-shelf}
 use Rattle.shelf.proofs.Told.{install-answers, withdraw-answers, install-empty, withdraw-empty, fetch-leaves}
 use Rattle.promises.specs.Tests.{Test, First}
 use Rattle.promises.specs.Demand1.{one-to-8, block-tests}
-use Rattle.promises.specs.Shelves.{ShelfOf, NoShelf, NameTaken, OverQuota, NameAbsent, party-test, shelf-test, taken-test, quota-test, absent-test, install-tests, fetch-tests, withdraw-tests, PlacedInBlock}
+use Rattle.promises.specs.Shelves.{ShelfOf, NoShelf, NameTaken, OverQuota, NameAbsent, party-test, shelf-test, taken-test, quota-test, absent-test}
+use Rattle.promises.specs.Shelves.{install-tests, fetch-tests, withdraw-tests, PlacedInBlock}
 use Rattle.promises.specs.Shelves.{answer-of, ShelfCalled, installs, fetches, withdraws, ShelfCalls, no-call, one-more, told-party, heard}
 use Rattle.promises.proofs.Learnt.{install-says, fetch-part, fetch-number, fetch-place, withdraw-says}
 use Rattle.promises.proofs.Exists.{named-in-block}
@@ -122,7 +124,8 @@ module _ (s : List ℕ) (bytes : Bytes s) (p n : ℕ) where
   pub fetch-first : First (fetch-tests s p n) (told s (fetch p n) .number)
   unfolding told told-by
   fetch-first =
-      party-first p (shelf-test s ∷ absent-test s p n ∷ []) (told-on (entries s) (fetch p n)) (shelf-first s bytes (fetch p n) (absent-test s p n ∷ []) (λ es q on. found-first s p n es q on (find n (own p es)) refl))
+      party-first p (shelf-test s ∷ absent-test s p n ∷ []) (told-on (entries s) (fetch p n))
+      (shelf-first s bytes (fetch p n) (absent-test s p n ∷ []) (λ es q on. found-first s p n es q on (find n (own p es)) refl))
 
   pub withdraw-first : First (withdraw-tests s p n) (told s (withdraw p n) .number)
   unfolding told told-by

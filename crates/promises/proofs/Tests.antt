@@ -27,7 +27,8 @@ use Rattle.theorems.specs.Traces.{Instant, answers, refuses}
 use Rattle.theorems.proofs.Instants.{reacts}
 use Rattle.theorems.proofs.Demand3.{rounds-are-determined}
 use Rattle.block.specs.Format.{Good}
-use Rattle.records.specs.StateRecord.{length-in, kind-in, phase-in, low-in, high-in, Found, not-a-state, state, active-in, none-active, beyond, in-phase, read-state, Pair, paired, with-second, clashes, first-clash, undeclared-input, in-both, bad-inputs}
+use Rattle.records.specs.StateRecord.{length-in, kind-in, phase-in, low-in, high-in, Found, not-a-state, state, active-in, none-active, beyond, in-phase}
+use Rattle.records.specs.StateRecord.{read-state, Pair, paired, with-second, clashes, first-clash, undeclared-input, in-both, bad-inputs}
 use Rattle.records.specs.LogRecord.{no-room}
 use Rattle.records.proofs.TwoWords.{set-of-none, none-from, beyond-in, beyond-out}
 use Rattle.records.proofs.Reading.{read-sized, read-headed, read-kind}

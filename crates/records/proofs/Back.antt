@@ -14,7 +14,8 @@ use Rattle.sets.proofs.Words.{word-lt, word-empty}
 use Rattle.rules.specs.Statements.{Stmt, nothing, pause, emit, present?_then_else_, suspend_on_, _⨾_, loop, _parallel_, trap, exit, local, pauses}
 use Rattle.rules.specs.States.{State, fresh, running, finished, holds-both, lowest-above, is-parallel, compatible, phase-of, active-of}
 use Rattle.records.specs.Fields.{value}
-use Rattle.records.specs.StateRecord.{state, upper, state-widths, state-size, state-values, state-record, length-in, kind-in, version-in, statements-in, phase-in, low-in, high-in, beyond, in-phase, read-state, names-block}
+use Rattle.records.specs.StateRecord.{state, upper, state-widths, state-size, state-values, state-record, length-in, kind-in, version-in, statements-in}
+use Rattle.records.specs.StateRecord.{phase-in, low-in, high-in, beyond, in-phase, read-state, names-block}
 use Rattle.records.specs.LogRecord.{Logged, log-widths, log-size, log-values, log-record}
 use Rattle.records.proofs.Widths.{length-laid, value-laid}
 use Rattle.records.proofs.TwoWords.{set-of-words, set-of-none, beyond-out}

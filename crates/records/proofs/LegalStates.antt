@@ -21,7 +21,8 @@ use Rattle.rules.specs.Statements.{Stmt, pauses}
 use Rattle.rules.specs.States.{State, fresh, running, finished, compatible, Legal, active-of}
 use Rattle.records.specs.Numerals.{Bytes, as-number, field}
 use Rattle.records.specs.Fields.{place}
-use Rattle.records.specs.StateRecord.{state-widths, state-size, length-in, kind-in, phase-in, low-in, high-in, Found, not-a-state, state, state-record, beyond, active-in, in-phase, read-state, clashes, first-clash, with-second, paired}
+use Rattle.records.specs.StateRecord.{state-widths, state-size, length-in, kind-in, phase-in, low-in, high-in, Found, not-a-state, state, state-record}
+use Rattle.records.specs.StateRecord.{beyond, active-in, in-phase, read-state, clashes, first-clash, with-second, paired}
 use Rattle.records.proofs.TwoWords.{beyond-in, some-bit, in-low, in-high, below-128, below-width}
 use Rattle.records.proofs.Pairs.{Clear-first, none-found, clash-first, clash-second, clash-lower, clash-apart}
 use Rattle.records.proofs.Back.{fresh-back, finished-back, running-back, compatible-sym}

@@ -18,7 +18,8 @@ use Rattle.block.specs.Format.{Shape as Shaped, shape as shape-of, of-shape, ch
 use Rattle.block.specs.Told.{wire-of}
 use Rattle.block.specs.declared.kinds.Wire.the-variants.{Unknown}
 use Rattle.records.specs.Clashing.{before, two-parts, Place, Goes}
-use Rattle.records.proofs.Walk.{row, statements-pos, One, Two, Shape, leaf, one, two, shape, before-step, before-part, before-next, numbered-one, numbered-first, numbered-second, holds, holds-not-first, holds-not-second}
+use Rattle.records.proofs.Walk.{row, statements-pos, One, Two, Shape, leaf, one, two, shape, before-step, before-part, before-next, numbered-one}
+use Rattle.records.proofs.Walk.{numbered-first, numbered-second, holds, holds-not-first, holds-not-second}
 
 -- Two Booleans at once.
 true-false : {b : Bool} → b ≡ true → b ≡ false → ⊥

@@ -8,7 +8,8 @@ use lib.Dec.{T, eqb}
 use borrow.Author.Tests.{eq-eqb, ne-eqb}
 use native.Mathlib.Decide.{ℕ-discrete}
 use Rattle.refusals.specs.declared.Why.{Why}
-use Rattle.refusals.specs.declared.Why.the-variants.{Broken, Kind, Edition, Limit, Signal, Exit, Shape, Loop, State, Clash, Input, Room, NotConstructive, Index, OtherBlock, Party, Shelf, Taken, Quota, Absent}
+use Rattle.refusals.specs.declared.Why.the-variants.{Broken, Kind, Edition, Limit, Signal, Exit, Shape, Loop, State, Clash, Input, Room, NotConstructive}
+use Rattle.refusals.specs.declared.Why.the-variants.{Index, OtherBlock, Party, Shelf, Taken, Quota, Absent}
 use Rattle.refusals.specs.Refusals.{number, refusals, has-number, first-with, has-refusal, why-of}
 
 number-in : (ws : List Why) (n : ℕ) → T (has-number ws n) → number (first-with ws n) ≡ n

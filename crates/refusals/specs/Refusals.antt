@@ -4,7 +4,8 @@ use mathlib.Core.List.{List, [], _∷_}
 use Prim.Native.Nat.{ℕ}
 use lib.Dec.{eqb}
 use Rattle.refusals.specs.declared.Why.{Why}
-use Rattle.refusals.specs.declared.Why.the-variants.{Broken, Kind, Edition, Limit, Signal, Exit, Shape, Loop, State, Clash, Input, Room, NotConstructive, Index, OtherBlock, Party, Shelf, Taken, Quota, Absent}
+use Rattle.refusals.specs.declared.Why.the-variants.{Broken, Kind, Edition, Limit, Signal, Exit, Shape, Loop, State, Clash, Input, Room, NotConstructive}
+use Rattle.refusals.specs.declared.Why.the-variants.{Index, OtherBlock, Party, Shelf, Taken, Quota, Absent}
 
 -- The numbers given back when a call is turned down.
 unfoldable pub number : Why → ℕ

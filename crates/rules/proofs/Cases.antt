@@ -281,5 +281,6 @@ table =
     ∷ unheard-waits ∷ unheard-stuck ∷ heard-then ∷ unheard-both ∷ unheard-M ∷ unheard-rounds ∷ heard-rounds ∷ []
 
 pub worked : map answers table ≡ map (λ r. r .told) table
-unfolding react listed members pauses phase-of active-of undecided gives kept started resumed any active held code marks round begin all-same settle final-of answer some-to maxima down downs lowest step next event
+unfolding react listed members pauses phase-of active-of undecided gives kept started resumed any active held code marks round begin all-same settle final-of
+    answer some-to maxima down downs lowest step next event
 worked = refl

@@ -157,7 +157,9 @@ over : LawRow
 over = law 0 1 (emit 0) finished [] (finishes (false ∷ []) ∷ [])
 
 pub law-table : List LawRow
-unfolding suspend-present suspend-absent suspend-starts suspend-keeps suspend-contrary trap-left trap-keeps-none trap-resumed trap-passed trap-contrary parallel-both parallel-round parallel-larger parallel-idle parallel-contrary local-not-chosen local-chosen local-not-reached local-either loop-two-runs loop-resumed-contrary loop-restarted-contrary loop-not-restarted present-resumes later-part over
+unfolding suspend-present suspend-absent suspend-starts suspend-keeps suspend-contrary trap-left trap-keeps-none trap-resumed trap-passed trap-contrary
+    parallel-both parallel-round parallel-larger parallel-idle parallel-contrary local-not-chosen local-chosen local-not-reached local-either loop-two-runs
+    loop-resumed-contrary loop-restarted-contrary loop-not-restarted present-resumes later-part over
 law-table =
     suspend-present ∷ suspend-absent ∷ suspend-starts ∷ suspend-keeps ∷ suspend-contrary
     ∷ trap-left ∷ trap-keeps-none ∷ trap-resumed ∷ trap-passed ∷ trap-contrary

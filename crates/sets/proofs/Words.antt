@@ -4,7 +4,8 @@ use mathlib.Core.Path.{_≡_, refl, sym, ap, ap₂, _∙_, subst, subst⁻¹}
 use mathlib.Core.Bool.{Bool, true, false, not, cond, _&&_, _||_, xor, and-comm, and-false, or-comm, and-or-distrib-left, and-assoc}
 use mathlib.Core.Option.{Option, none, some}
 use Prim.Native.Nat.{ℕ, zero, suc, _+_, _-_, _*_, _/_, _%_, _^_, _≤_, _<_, suc-le-suc}
-use native.Mathlib.Nat.{le-refl, lt-of-lt-of-le, le-add-right, le-add-left, zero-div, div-one, one-mul, mul-one, div-eq-of-lt, mod-eq-of-lt, mod-lt, pow-suc, zero-lt-suc, not-suc-le-zero, zero-add, zero-sub, le-of-suc-le-suc}
+use native.Mathlib.Nat.{le-refl, lt-of-lt-of-le, le-add-right, le-add-left, zero-div, div-one, one-mul, mul-one, div-eq-of-lt, mod-eq-of-lt, mod-lt, pow-suc}
+use native.Mathlib.Nat.{zero-lt-suc, not-suc-le-zero, zero-add, zero-sub, le-of-suc-le-suc}
 use native.Mathlib.Numerals.{one-add}
 use native.Mathlib.Decide.{decLe, decLt}
 use native.Mathlib.Omega.{arith}

@@ -27,7 +27,8 @@ unfolding entry-bytes in-bytes
 its-bytes = refl
 
 is-good-block : T (is-good (reading smallest))
-unfolding is-good reading is-broken header header-fault shape length-of children-of over-limit wrong-signal wrong-exit statement-fault past leaf read preorder endless lowest-endless loops-checked ended listed lowest some-to codes-of kind-of statements
+unfolding is-good reading is-broken header header-fault shape length-of children-of over-limit wrong-signal wrong-exit statement-fault past leaf read preorder
+    endless lowest-endless loops-checked ended listed lowest some-to codes-of kind-of statements
 is-good-block = tt
 
 may-go-in : Accepted [] 1 300 smallest

@@ -15,7 +15,8 @@ use Rattle.block.specs.Format.{Reading, good, turned-down, reading}
 use Rattle.block.proofs.GoodReadings.{numbers}
 use Rattle.records.specs.Numerals.{Bytes, field}
 use Rattle.shelf.specs.Entries.{SHELF-SIZE, QUOTA-SIZE, Entry, size, laid-out, in-use, shelf-of, own, taken, find, all-fit, Legal, zeros, entries}
-use Rattle.shelf.specs.Calls.{PARTY, SHELF, TAKEN, QUOTA, ABSENT, Call, install, fetch, withdraw, party-of, Answer, refused, done, entry, installed, fetched, withdrawn, told-by, told-on, told, put, left}
+use Rattle.shelf.specs.Calls.{PARTY, SHELF, TAKEN, QUOTA, ABSENT, Call, install, fetch, withdraw, party-of, Answer, refused, done, entry, installed}
+use Rattle.shelf.specs.Calls.{fetched, withdrawn, told-by, told-on, told, put, left}
 use Rattle.shelf.specs.Places.{offset, OnShelf}
 use Rattle.shelf.specs.Answered.{lies-from, FoundAt}
 use Rattle.shelf.specs.declared.Found.{Found}

@@ -24,7 +24,8 @@ use Rattle.rules.specs.Rounds.{round, begin, Rounds, all-same, Settled, one-mor
 use Rattle.rules.proofs.RoundLaws.{all-same-is, all-same-refl, marks-length, marks-at}
 use Rattle.rules.proofs.OneCode.{OneCode, one-single, one-choose, one-caught, one-hidden, one-followed, one-both, one-code}
 use Rattle.theorems.specs.Order.{Below, _⊑_, Inside}
-use Rattle.theorems.specs.Before.{remark, formula, gives-by, gave, executed-before, kept-before, round-before, RoundsBefore, last, more, InstantBefore, answers, refuses, settle-before, react-before}
+use Rattle.theorems.specs.Before.{remark, formula, gives-by, gave, executed-before, kept-before, round-before, RoundsBefore, last, more, InstantBefore}
+use Rattle.theorems.specs.Before.{answers, refuses, settle-before, react-before}
 use Rattle.theorems.specs.Checked.{Checked}
 use Rattle.theorems.specs.Reach.{Reached, at-first, settling}
 use Rattle.theorems.specs.Traces.{Instant}

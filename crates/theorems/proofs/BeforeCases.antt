@@ -24,7 +24,8 @@ N-stands : getD table 9 N ≡ N
 N-stands = refl
 
 pub worked-before : map answered-before table ≡ set (map (λ r. r .told) table) 9 (ends (absent ∷ []) 2)
-unfolding react-before react listed members pauses phase-of active-of undecided gives-by gives kept-before kept started resumed any active held code marks round-before round begin all-same settle-before settle final-of answer some-to maxima down downs lowest step next event
+unfolding react-before react listed members pauses phase-of active-of undecided gives-by gives kept-before kept started resumed any active held code marks
+    round-before round begin all-same settle-before settle final-of answer some-to maxima down downs lowest step next event
 worked-before = refl
 
 -- The local T is surely emitted before it is tested, so that nothing in the test's other branch can happen. Under an undecided branch that shows only
@@ -47,9 +48,11 @@ unfolding grows reports
 changed = grows ∷ reports ∷ []
 
 now-they-give : map answers changed ≡ map (λ r. r .told) changed
-unfolding changed react listed members pauses phase-of active-of undecided gives kept started resumed any active held code marks round begin all-same settle final-of answer some-to maxima down downs lowest step next event
+unfolding changed react listed members pauses phase-of active-of undecided gives kept started resumed any active held code marks round begin all-same settle
+    final-of answer some-to maxima down downs lowest step next event
 now-they-give = refl
 
 before-they-gave : map answered-before changed ≡ ends (absent ∷ absent ∷ []) 2 ∷ stuck (absent ∷ unknown ∷ []) 1 2 ∷ []
-unfolding changed react-before listed members pauses phase-of active-of undecided gives-by kept-before started resumed any active held code marks round-before begin all-same settle-before answer some-to maxima down downs lowest step next event
+unfolding changed react-before listed members pauses phase-of active-of undecided gives-by kept-before started resumed any active held code marks round-before
+    begin all-same settle-before answer some-to maxima down downs lowest step next event
 before-they-gave = refl

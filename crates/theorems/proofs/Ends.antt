@@ -4,7 +4,8 @@ use mathlib.Core.Path.{subst}
 use Prim.Native.Nat.{ℕ}
 use lib.Dec.{T, eqb→eq, eqb-refl}
 use Rattle.sets.specs.Numbers.{Numbers, single, union, without, only-if, maxima, downs, Within}
-use Rattle.sets.proofs.Members.{of-false, eqb-in, union-left, union-right, without-in, only-if-in, within-refl, within-trans, within-empty, within-left, within-right, union-mono, without-mono, only-if-mono, maxima-mono, downs-mono}
+use Rattle.sets.proofs.Members.{of-false, eqb-in, union-left, union-right, without-in, only-if-in, within-refl, within-trans, within-empty, within-left}
+use Rattle.sets.proofs.Members.{within-right, union-mono, without-mono, only-if-mono, maxima-mono, downs-mono}
 use Rattle.sets.proofs.Maxima.{maxima-in, downs-in}
 use Rattle.rules.specs.Statements.{code}
 use Rattle.rules.specs.Events.{Status, present, absent, unknown, Event, giving}

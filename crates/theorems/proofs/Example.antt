@@ -62,7 +62,8 @@ waiting-run : map see (run waiting fresh waiting-inputs)
     ≡ record { refusal = 0; statuses = absent ∷ []; code = 1; active = 0 ∷ 1 ∷ [] }
     ∷ record { refusal = 0; statuses = absent ∷ []; code = 1; active = 0 ∷ [] }
     ∷ record { refusal = 0; statuses = present ∷ []; code = 0; active = [] } ∷ []
-unfolding waiting-inputs run react listed members pauses gives kept started resumed any active held code marks round begin all-same settle final-of answer some-to maxima down downs lowest step next event
+unfolding waiting-inputs run react listed members pauses gives kept started resumed any active held code marks round begin all-same settle final-of answer
+    some-to maxima down downs lowest step next event
 waiting-run = refl
 
 waiting-never-stuck : NeverStuck waiting fresh waiting-inputs
@@ -87,7 +88,8 @@ doubtful-inputs = all-inputs doubtful (single 0) (λ n t. let e = single-out 0 n
 doubtful-run : map see (run doubtful fresh doubtful-inputs)
     ≡ record { refusal = 13; statuses = unknown ∷ []; code = 0; active = [] }
     ∷ record { refusal = 0; statuses = absent ∷ []; code = 1; active = 0 ∷ [] } ∷ []
-unfolding doubtful-inputs run react listed members pauses gives kept started resumed any active held code marks round begin all-same settle final-of answer some-to maxima down downs lowest step next event
+unfolding doubtful-inputs run react listed members pauses gives kept started resumed any active held code marks round begin all-same settle final-of answer
+    some-to maxima down downs lowest step next event
 doubtful-run = refl
 
 doubtful-never-stuck : NeverStuck doubtful fresh doubtful-inputs

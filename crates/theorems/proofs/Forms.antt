@@ -4,7 +4,8 @@ use mathlib.Core.Bool.{Bool}
 use Prim.Native.Nat.{ℕ}
 use lib.Dec.{T}
 use Rattle.sets.specs.Numbers.{Numbers, only-if, Within}
-use Rattle.sets.proofs.Members.{within-refl, within-trans, within-antisym, within-empty, within-left, within-right, union-mono, without-mono, only-if-in, only-if-test, only-if-member, maxima-mono, downs-mono}
+use Rattle.sets.proofs.Members.{within-refl, within-trans, within-antisym, within-empty, within-left, within-right, union-mono, without-mono, only-if-in}
+use Rattle.sets.proofs.Members.{only-if-test, only-if-member, maxima-mono, downs-mono}
 use Rattle.rules.specs.MustCan.{Given, nothing-known, either, caught, both, followed, hidden}
 use Rattle.theorems.specs.Order.{Inside}
 

@@ -54,7 +54,9 @@ module _ (b : Block) (st : State) (heard : Hearing) where
         E = event b heard (final-of b st heard .statuses)
 
         go : (o : Option ℕ) → lowest code-width (gives must (step (b .body) st) E .codes) ≡ o → Instant b st heard (answer (final-of b st heard) o (kept (step (b .body) st) E))
-        go none e = refuses (final b st heard .ends) (λ c t. lowest-none code-width (gives must (step (b .body) st) E .codes) e c (narrow c (root-codes (b .body) st (checked .exits-are-trapped) .if-given must E c t)) t)
+        go none e = refuses (final b st heard .ends)
+            (λ c t. lowest-none code-width (gives must (step (b .body) st) E .codes) e c
+            (narrow c (root-codes (b .body) st (checked .exits-are-trapped) .if-given must E c t)) t)
           where
             narrow : (c : ℕ) → (c ≡ 0) ⊎ (c ≡ 1) → c < code-width
             narrow c (inl q) = omega arith

@@ -6,7 +6,8 @@ use mathlib.Core.Bool.{Bool, true, false, cond}
 use Prim.Native.Nat.{ℕ, max}
 use lib.Dec.{T, eqb, eqb→eq}
 use Rattle.sets.specs.Numbers.{Numbers, single, union, without, only-if, down, Within}
-use Rattle.sets.proofs.Members.{of-false, eqb-in, single-out, without-in, without-member, without-other, only-if-in, only-if-test, within-refl, within-trans, within-antisym, within-eq, within-left, within-right, within-without, within-only-if, union-least, union-mono}
+use Rattle.sets.proofs.Members.{of-false, eqb-in, single-out, without-in, without-member, without-other, only-if-in, only-if-test, within-refl, within-trans}
+use Rattle.sets.proofs.Members.{within-antisym, within-eq, within-left, within-right, within-without, within-only-if, union-least, union-mono}
 use Rattle.sets.proofs.Maxima.{maxima-single, downs-single}
 use Rattle.rules.specs.Events.{Status, present, absent, unknown, Event, giving, known}
 use Rattle.rules.specs.Instant.{Step, done, stay, say, leave, test, catch, scope, chain, beside}

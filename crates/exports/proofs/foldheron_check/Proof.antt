@@ -30,13 +30,22 @@ array-read-result : tie.Need-array-read-result
 array-read-result c = search needs
 
 cast-result : tie.Need-cast-result
-cast-result c = fits (c .before .before .before .before .before .check .ensures) (check-counted (now (c .before .before .before .before .before .before .before .before .before .args .block)))
+cast-result c =
+    let at-check = c .before .before .before .before .before in
+    let args = at-check .before .before .before .before .args in
+    fits (at-check .check .ensures) (check-counted (now (args .block)))
 
 same-length : tie.Need-same-length
 same-length c = search needs
 
 returns-2 : tie.Need-returns-2
-returns-2 c = answered 8 _ _ ((check-counted (now (c .before .before .before .before .before .before .before .before .before .args .block))) .counted) (c .before .before .before .before .before .before .if1 .left) (c .before .before .before .before .before .check .ensures) (λ i. let f : Fits w64 (getD (c .before .before .before .before .before .check .result) i 0) = search needs in f .fits) (c .before .before .put-values .ensures) refl
+returns-2 c =
+    let at-put-values = c .before .before in
+    let at-check = at-put-values .before .before .before in
+    let at-if1 = at-check .before in
+    let args = at-if1 .before .before .before .args in
+    answered 8 _ _ ((check-counted (now (args .block))) .counted) (at-if1 .if1 .left) (at-check .check .ensures)
+    (λ i. let f : Fits w64 (getD (at-check .check .result) i 0) = search needs in f .fits) (at-put-values .put-values .ensures) refl
 
 pub foldheron-check-spec : {M : Type 1} → statement M
 foldheron-check-spec =

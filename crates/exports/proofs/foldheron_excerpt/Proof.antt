@@ -30,13 +30,22 @@ array-read-result : tie.Need-array-read-result
 array-read-result c = search needs
 
 cast-result : tie.Need-cast-result
-cast-result c = fits (c .before .before .before .before .before .excerpt .ensures) (part-counted (now (c .before .before .before .before .before .before .before .before .before .args .block)) (c .before .before .before .before .before .before .before .before .before .args .n))
+cast-result c =
+    let at-excerpt = c .before .before .before .before .before in
+    let args = at-excerpt .before .before .before .before .args in
+    fits (at-excerpt .excerpt .ensures) (part-counted (now (args .block)) (args .n))
 
 same-length : tie.Need-same-length
 same-length c = search needs
 
 returns-2 : tie.Need-returns-2
-returns-2 c = answered 4 _ _ ((part-counted (now (c .before .before .before .before .before .before .before .before .before .args .block)) (c .before .before .before .before .before .before .before .before .before .args .n)) .counted) (c .before .before .before .before .before .before .if1 .left) (c .before .before .before .before .before .excerpt .ensures) (λ i. let f : Fits w64 (getD (c .before .before .before .before .before .excerpt .result) i 0) = search needs in f .fits) (c .before .before .put-values .ensures) refl
+returns-2 c =
+    let at-put-values = c .before .before in
+    let at-excerpt = at-put-values .before .before .before in
+    let at-if1 = at-excerpt .before in
+    let args = at-if1 .before .before .before .args in
+    answered 4 _ _ ((part-counted (now (args .block)) (args .n)) .counted) (at-if1 .if1 .left) (at-excerpt .excerpt .ensures)
+    (λ i. let f : Fits w64 (getD (at-excerpt .excerpt .result) i 0) = search needs in f .fits) (at-put-values .put-values .ensures) refl
 
 pub foldheron-excerpt-spec : {M : Type 1} → statement M
 foldheron-excerpt-spec =

@@ -33,7 +33,10 @@ array-read-result : tie.Need-array-read-result
 array-read-result c = search needs
 
 cast-result : tie.Need-cast-result
-cast-result c = fits (c .before .before .before .before .before .before .before .fetch .ensures .0) (fetch-counted (now (c .before .before .before .before .before .before .before .before .before .before .before .before .before .before .args .shelf)) (c .before .before .before .before .before .before .before .before .before .before .before .before .before .before .args .party) (c .before .before .before .before .before .before .before .before .before .before .before .before .before .before .args .name))
+cast-result c =
+    let at-fetch = c .before .before .before .before .before .before .before in
+    let args = at-fetch .before .before .before .before .before .before .before .args in
+    fits (at-fetch .fetch .ensures .0) (fetch-counted (now (args .shelf)) (args .party) (args .name))
 
 same-length : tie.Need-same-length
 same-length c = search needs
@@ -42,7 +45,18 @@ same-length-2 : tie.Need-same-length-2
 same-length-2 c = search needs
 
 returns-3 : tie.Need-returns-3
-returns-3 c = let l = c .before .before .before .before .before .before .before .before .before .before .if1 .left in (answered-both 3 _ _ _ l (answered 3 _ _ ((fetch-counted (now (c .before .before .before .before .before .before .before .before .before .before .before .before .before .before .args .shelf)) (c .before .before .before .before .before .before .before .before .before .before .before .before .before .before .args .party) (c .before .before .before .before .before .before .before .before .before .before .before .before .before .before .args .name)) .counted) (c .before .before .before .before .before .before .before .before .before .if2 .left) (c .before .before .before .before .before .before .before .fetch .ensures .0) (λ i. let f : Fits w64 (getD (c .before .before .before .before .before .before .before .fetch .result) i 0) = search needs in f .fits) (c .before .before .put-values .ensures) refl), c .before .before .before .before .before .before .before .fetch .ensures .1 ∙ at-length 3 _ _ _ (c .before .before .before .before .before .before .before .before .before .if2 .left) ∙ block-at-length 3 _ _ _ _ l)
+returns-3 c =
+    let at-put-values = c .before .before in
+    let at-fetch = at-put-values .before .before .before .before .before in
+    let at-if2 = at-fetch .before .before in
+    let at-if1 = at-if2 .before in
+    let args = at-if1 .before .before .before .before .args in
+    let l = at-if1 .if1 .left in (
+      answered-both 3 _ _ _ l
+          (answered 3 _ _ ((fetch-counted (now (args .shelf)) (args .party) (args .name)) .counted) (at-if2 .if2 .left) (at-fetch .fetch .ensures .0)
+          (λ i. let f : Fits w64 (getD (at-fetch .fetch .result) i 0) = search needs in f .fits) (at-put-values .put-values .ensures) refl),
+      at-fetch .fetch .ensures .1 ∙ at-length 3 _ _ _ (at-if2 .if2 .left) ∙ block-at-length 3 _ _ _ _ l,
+    )
 
 pub foldheron-fetch-spec : {M : Type 1} → statement M
 foldheron-fetch-spec =

@@ -30,7 +30,10 @@ array-read-result : tie.Need-array-read-result
 array-read-result c = search needs
 
 cast-result : tie.Need-cast-result
-cast-result c = fits (c .before .before .before .before .before .before .before .fresh .ensures .0) (begun-counted (now (c .before .before .before .before .before .before .before .before .before .before .before .before .before .args .block)) (now (c .before .before .before .before .before .before .before .before .before .before .before .before .before .args .state)))
+cast-result c =
+    let at-fresh = c .before .before .before .before .before .before .before in
+    let args = at-fresh .before .before .before .before .before .before .args in
+    fits (at-fresh .fresh .ensures .0) (begun-counted (now (args .block)) (now (args .state)))
 
 same-length : tie.Need-same-length
 same-length c = search needs
@@ -39,7 +42,15 @@ same-length-2 : tie.Need-same-length-2
 same-length-2 c = search needs
 
 returns-2 : tie.Need-returns-2
-returns-2 c = (answered 2 _ _ ((begun-counted (now (c .before .before .before .before .before .before .before .before .before .before .before .before .before .args .block)) (now (c .before .before .before .before .before .before .before .before .before .before .before .before .before .args .state))) .counted) (c .before .before .before .before .before .before .before .before .before .if1 .left) (c .before .before .before .before .before .before .before .fresh .ensures .0) (λ i. let f : Fits w64 (getD (c .before .before .before .before .before .before .before .fresh .result) i 0) = search needs in f .fits) (c .before .before .put-values .ensures) refl, c .before .before .before .before .before .before .before .fresh .ensures .1 ∙ at-length 2 _ _ _ (c .before .before .before .before .before .before .before .before .before .if1 .left))
+returns-2 c =
+    let at-put-values = c .before .before in
+    let at-fresh = at-put-values .before .before .before .before .before in
+    let at-if1 = at-fresh .before .before in
+    let args = at-if1 .before .before .before .before .args in (
+      answered 2 _ _ ((begun-counted (now (args .block)) (now (args .state))) .counted) (at-if1 .if1 .left) (at-fresh .fresh .ensures .0)
+          (λ i. let f : Fits w64 (getD (at-fresh .fresh .result) i 0) = search needs in f .fits) (at-put-values .put-values .ensures) refl,
+      at-fresh .fresh .ensures .1 ∙ at-length 2 _ _ _ (at-if1 .if1 .left),
+    )
 
 pub foldheron-fresh-spec : {M : Type 1} → statement M
 foldheron-fresh-spec =

@@ -30,7 +30,10 @@ array-read-result : tie.Need-array-read-result
 array-read-result c = search needs
 
 cast-result : tie.Need-cast-result
-cast-result c = fits (c .before .before .before .before .before .before .before .install .ensures .0) (install-counted (now (c .before .before .before .before .before .before .before .before .before .before .before .before .before .args .shelf)) (c .before .before .before .before .before .before .before .before .before .before .before .before .before .args .party) (c .before .before .before .before .before .before .before .before .before .before .before .before .before .args .name) (now (c .before .before .before .before .before .before .before .before .before .before .before .before .before .args .block)))
+cast-result c =
+    let at-install = c .before .before .before .before .before .before .before in
+    let args = at-install .before .before .before .before .before .before .args in
+    fits (at-install .install .ensures .0) (install-counted (now (args .shelf)) (args .party) (args .name) (now (args .block)))
 
 same-length : tie.Need-same-length
 same-length c = search needs
@@ -39,7 +42,16 @@ same-length-2 : tie.Need-same-length-2
 same-length-2 c = search needs
 
 returns-2 : tie.Need-returns-2
-returns-2 c = (answered 2 _ _ ((install-counted (now (c .before .before .before .before .before .before .before .before .before .before .before .before .before .args .shelf)) (c .before .before .before .before .before .before .before .before .before .before .before .before .before .args .party) (c .before .before .before .before .before .before .before .before .before .before .before .before .before .args .name) (now (c .before .before .before .before .before .before .before .before .before .before .before .before .before .args .block))) .counted) (c .before .before .before .before .before .before .before .before .before .if1 .left) (c .before .before .before .before .before .before .before .install .ensures .0) (λ i. let f : Fits w64 (getD (c .before .before .before .before .before .before .before .install .result) i 0) = search needs in f .fits) (c .before .before .put-values .ensures) refl, c .before .before .before .before .before .before .before .install .ensures .1 ∙ at-length 2 _ _ _ (c .before .before .before .before .before .before .before .before .before .if1 .left))
+returns-2 c =
+    let at-put-values = c .before .before in
+    let at-install = at-put-values .before .before .before .before .before in
+    let at-if1 = at-install .before .before in
+    let args = at-if1 .before .before .before .before .args in (
+      answered 2 _ _ ((install-counted (now (args .shelf)) (args .party) (args .name) (now (args .block))) .counted) (at-if1 .if1 .left)
+          (at-install .install .ensures .0) (λ i. let f : Fits w64 (getD (at-install .install .result) i 0) = search needs in f .fits)
+          (at-put-values .put-values .ensures) refl,
+      at-install .install .ensures .1 ∙ at-length 2 _ _ _ (at-if1 .if1 .left),
+    )
 
 pub foldheron-install-spec : {M : Type 1} → statement M
 foldheron-install-spec =

@@ -27,16 +27,24 @@ array-share-prefix-values : tie.Need-array-share-prefix-values
 array-share-prefix-values c = search needs
 
 slice-aggregate-put-values : tie.Need-slice-aggregate-put-values
-slice-aggregate-put-values c = sym (ap length (without-end (c .before .before .before .before .instant .ensures .0)))
+slice-aggregate-put-values c =
+    let at-instant = c .before .before .before .before in
+    sym (ap length (without-end (at-instant .instant .ensures .0)))
 
 put-values-requires : tie.Need-put-values-requires
-put-values-requires c κs = omega (arith, ap length (without-end (c .before .before .before .before .instant .ensures .0)), c .before .before .before .before .before .before .if1 .left)
+put-values-requires c κs =
+    let at-instant = c .before .before .before .before in
+    let at-if1 = at-instant .before .before in
+    omega (arith, ap length (without-end (at-instant .instant .ensures .0)), at-if1 .if1 .left)
 
 array-read-result : tie.Need-array-read-result
 array-read-result c = search needs
 
 cast-result : tie.Need-cast-result
-cast-result c = fits (c .before .before .before .before .before .before .before .instant .ensures .0) (instant-counted (now (c .before .before .before .before .before .before .before .before .before .before .before .before .before .args .block)) (now (c .before .before .before .before .before .before .before .before .before .before .before .before .before .args .state)) (All (c .before .before .before .before .before .before .before .before .before .before .before .before .before .args .inputs)) false 0)
+cast-result c =
+    let at-instant = c .before .before .before .before .before .before .before in
+    let args = at-instant .before .before .before .before .before .before .args in
+    fits (at-instant .instant .ensures .0) (instant-counted (now (args .block)) (now (args .state)) (All (args .inputs)) false 0)
 
 same-length : tie.Need-same-length
 same-length c = search needs
@@ -45,7 +53,16 @@ same-length-2 : tie.Need-same-length-2
 same-length-2 c = search needs
 
 returns-2 : tie.Need-returns-2
-returns-2 c = (answered 10 _ _ refl (c .before .before .before .before .before .before .before .before .before .if1 .left) (without-end (c .before .before .before .before .before .before .before .instant .ensures .0)) (first-of 10 (c .before .before .before .before .before .before .before .instant .result) (λ i. let f : Fits w64 (getD (c .before .before .before .before .before .before .before .instant .result) i 0) = search needs in f .fits)) (c .before .before .put-values .ensures) (same-number (c .before .before .before .before .before .before .before .instant .ensures .0)), c .before .before .before .before .before .before .before .instant .ensures .1 ∙ at-length 10 _ _ _ (c .before .before .before .before .before .before .before .before .before .if1 .left))
+returns-2 c =
+    let at-put-values = c .before .before in
+    let at-instant = at-put-values .before .before .before .before .before in
+    let at-if1 = at-instant .before .before in (
+      answered 10 _ _ refl (at-if1 .if1 .left) (without-end (at-instant .instant .ensures .0))
+          (first-of 10 (at-instant .instant .result) (λ i. let f : Fits w64 (getD (at-instant .instant .result) i 0) = search needs in f .fits))
+          (at-put-values .put-values .ensures) (same-number (at-instant .instant .ensures .0)),
+      at-instant .instant .ensures .1 ∙ at-length 10 _ _ _
+          (at-if1 .if1 .left),
+    )
 
 pub foldheron-instant-spec : {M : Type 1} → statement M
 foldheron-instant-spec =

@@ -30,7 +30,10 @@ array-read-result : tie.Need-array-read-result
 array-read-result c = search needs
 
 cast-result : tie.Need-cast-result
-cast-result c = fits (c .before .before .before .before .before .before .before .withdraw .ensures .0) (withdraw-counted (now (c .before .before .before .before .before .before .before .before .before .before .before .before .args .shelf)) (c .before .before .before .before .before .before .before .before .before .before .before .before .args .party) (c .before .before .before .before .before .before .before .before .before .before .before .before .args .name))
+cast-result c =
+    let at-withdraw = c .before .before .before .before .before .before .before in
+    let args = at-withdraw .before .before .before .before .before .args in
+    fits (at-withdraw .withdraw .ensures .0) (withdraw-counted (now (args .shelf)) (args .party) (args .name))
 
 same-length : tie.Need-same-length
 same-length c = search needs
@@ -39,7 +42,15 @@ same-length-2 : tie.Need-same-length-2
 same-length-2 c = search needs
 
 returns-2 : tie.Need-returns-2
-returns-2 c = (answered 2 _ _ ((withdraw-counted (now (c .before .before .before .before .before .before .before .before .before .before .before .before .args .shelf)) (c .before .before .before .before .before .before .before .before .before .before .before .before .args .party) (c .before .before .before .before .before .before .before .before .before .before .before .before .args .name)) .counted) (c .before .before .before .before .before .before .before .before .before .if1 .left) (c .before .before .before .before .before .before .before .withdraw .ensures .0) (λ i. let f : Fits w64 (getD (c .before .before .before .before .before .before .before .withdraw .result) i 0) = search needs in f .fits) (c .before .before .put-values .ensures) refl, c .before .before .before .before .before .before .before .withdraw .ensures .1 ∙ at-length 2 _ _ _ (c .before .before .before .before .before .before .before .before .before .if1 .left))
+returns-2 c =
+    let at-put-values = c .before .before in
+    let at-withdraw = at-put-values .before .before .before .before .before in
+    let at-if1 = at-withdraw .before .before in
+    let args = at-if1 .before .before .before .args in (
+      answered 2 _ _ ((withdraw-counted (now (args .shelf)) (args .party) (args .name)) .counted) (at-if1 .if1 .left) (at-withdraw .withdraw .ensures .0)
+          (λ i. let f : Fits w64 (getD (at-withdraw .withdraw .result) i 0) = search needs in f .fits) (at-put-values .put-values .ensures) refl,
+      at-withdraw .withdraw .ensures .1 ∙ at-length 2 _ _ _ (at-if1 .if1 .left),
+    )
 
 pub foldheron-withdraw-spec : {M : Type 1} → statement M
 foldheron-withdraw-spec =

@@ -13,7 +13,13 @@ enum-known-answer : tie.Need-enum-known-answer
 enum-known-answer c = search needs
 
 returns : tie.Need-returns
-returns c = (other-size _ (c .before .before .before .before .read-block .ensures) (c .before .before .answer .given .1) _ (c .if1 .taken), other-stays _ (c .before .before .before .before .read-block .ensures) (c .before .before .answer .given .1) _ (c .if1 .taken))
+returns c =
+    let at-answer = c .before .before in
+    let at-read-block = at-answer .before .before in (
+      other-size _ (at-read-block .read-block .ensures) (at-answer .answer .given .1) _ (c .if1 .taken),
+      other-stays _ (at-read-block .read-block .ensures)
+          (at-answer .answer .given .1) _ (c .if1 .taken),
+    )
 
 write-state-requires : tie.Need-write-state-requires
 write-state-requires c κs = c .before .if1 .left
@@ -25,13 +31,23 @@ same-length : tie.Need-same-length
 same-length c = search needs
 
 returns-2 : tie.Need-returns-2
-returns-2 c = (
-  fresh-written _ (c .before .before .before .before .before .before .before .before .read-block .ensures) (c .before .before .before .before .before .before .answer .given .1) _ (c .before .before .before .before .if1 .left),
-  c .before .before .write-state .ensures ∙ state-written _ (c .before .before .before .before .before .before .before .before .read-block .ensures) (c .before .before .before .before .before .before .answer .given .1) _ (c .before .before .before .before .if1 .left),
-)
+returns-2 c =
+    let at-write-state = c .before .before in
+    let at-if1 = at-write-state .before .before in
+    let at-answer = at-if1 .before .before in
+    let at-read-block = at-answer .before .before in (
+      fresh-written _ (at-read-block .read-block .ensures) (at-answer .answer .given .1) _ (at-if1 .if1 .left),
+      at-write-state .write-state .ensures ∙ state-written _ (at-read-block .read-block .ensures) (at-answer .answer .given .1) _ (at-if1 .if1 .left),
+    )
 
 returns-3 : tie.Need-returns-3
-returns-3 c = (fresh-refused _ (c .before .before .before .read-block .ensures) (c .before .answer2 .given .1) _, state-stays _ (c .before .before .before .read-block .ensures) (c .before .answer2 .given .1) _)
+returns-3 c =
+    let at-answer2 = c .before in
+    let at-read-block = at-answer2 .before .before in (
+      fresh-refused _ (at-read-block .read-block .ensures) (at-answer2 .answer2 .given .1) _,
+      state-stays _ (at-read-block .read-block .ensures)
+          (at-answer2 .answer2 .given .1) _,
+    )
 
 pub fresh-spec : {M : Type 1} → statement M
 fresh-spec =

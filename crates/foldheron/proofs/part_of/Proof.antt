@@ -34,25 +34,75 @@ no-part-requires-2 : tie.Need-no-part-requires-2
 no-part-requires-2 c κs = search needs
 
 returns : tie.Need-returns
-returns c = (c .no-part2 .ensures ∙ part-past _ (c .before .before .before .before .before .before .read-block .ensures) (c .before .before .before .before .answer2 .given .1) (c .before .before .before .before .before .before .before .before .before .before .before .args .n) (c .before .if1 .taken), no-part-within (now (c .before .before .before .before .before .before .before .before .before .before .before .args .block)) (c .no-part2 .ensures))
+returns c =
+    let at-if1 = c .before in
+    let at-answer2 = at-if1 .before .before .before in
+    let at-read-block = at-answer2 .before .before in
+    let args = at-read-block .before .before .before .before .before .args in (
+      c .no-part2 .ensures ∙ part-past _ (at-read-block .read-block .ensures) (at-answer2 .answer2 .given .1) (args .n) (at-if1 .if1 .taken),
+      no-part-within
+          (now (args .block)) (c .no-part2 .ensures),
+    )
 
 offset-of-requires : tie.Need-offset-of-requires
-offset-of-requires c κs = omega (arith, few _ (c .before .before .before .before .before .before .read-block .ensures) (c .before .before .before .before .answer2 .given .1) (c .before .before .before .before .before .before .before .before .before .before .before .args .n) (c .before .if1 .left))
+offset-of-requires c κs =
+    let at-if1 = c .before in
+    let at-answer2 = at-if1 .before .before .before in
+    let at-read-block = at-answer2 .before .before in
+    let args = at-read-block .before .before .before .before .before .args in
+    omega (arith, few _ (at-read-block .read-block .ensures) (at-answer2 .answer2 .given .1) (args .n) (at-if1 .if1 .left))
 
 past-statement-requires : tie.Need-past-statement-requires
-past-statement-requires c κs = few _ (c .before .before .before .before .before .before .before .before .before .read-block .ensures) (c .before .before .before .before .before .before .before .answer2 .given .1) (c .before .before .before .before .before .before .before .before .before .before .before .before .before .before .args .n) (c .before .before .before .before .if1 .left)
+past-statement-requires c κs =
+    let at-if1 = c .before .before .before .before in
+    let at-answer2 = at-if1 .before .before .before in
+    let at-read-block = at-answer2 .before .before in
+    let args = at-read-block .before .before .before .before .before .args in
+    few _ (at-read-block .read-block .ensures) (at-answer2 .answer2 .given .1) (args .n) (at-if1 .if1 .left)
 
 offset-of-requires-2 : tie.Need-offset-of-requires-2
-offset-of-requires-2 c κs = past-few _ (c .before .before .before .before .before .before .before .before .before .before .read-block .ensures) (c .before .before .before .before .before .before .before .before .answer2 .given .1) (c .before .before .before .before .before .before .before .before .before .before .before .before .before .before .before .args .n) (c .before .before .before .before .before .if1 .left) (c .past-statement .ensures)
+offset-of-requires-2 c κs =
+    let at-if1 = c .before .before .before .before .before in
+    let at-answer2 = at-if1 .before .before .before in
+    let at-read-block = at-answer2 .before .before in
+    let args = at-read-block .before .before .before .before .before .args in
+    past-few _ (at-read-block .read-block .ensures) (at-answer2 .answer2 .given .1) (args .n) (at-if1 .if1 .left) (c .past-statement .ensures)
 
 sub-t20 : tie.Need-sub-t20
-sub-t20 c = start-first _ (c .before .before .before .before .before .before .before .before .before .before .before .read-block .ensures) (c .before .before .before .before .before .before .before .before .before .answer2 .given .1) (c .before .before .before .before .before .before .before .before .before .before .before .before .before .before .before .before .args .n) (c .before .before .before .before .before .before .if1 .left) (c .before .past-statement .ensures) (c .before .before .before .before .offset-of .ensures) (c .offset-of2 .ensures)
+sub-t20 c =
+    let at-past-statement = c .before in
+    let at-offset-of = at-past-statement .before .before .before in
+    let at-if1 = at-offset-of .before .before in
+    let at-answer2 = at-if1 .before .before .before in
+    let at-read-block = at-answer2 .before .before in
+    let args = at-read-block .before .before .before .before .before .args in
+    start-first _ (at-read-block .read-block .ensures) (at-answer2 .answer2 .given .1) (args .n) (at-if1 .if1 .left)
+    (at-past-statement .past-statement .ensures) (at-offset-of .offset-of .ensures) (c .offset-of2 .ensures)
 
 returns-2 : tie.Need-returns-2
-returns-2 c = (c .no-part .ensures ∙ part-refused _ (c .before .before .before .before .before .read-block .ensures) (c .before .before .before .answer .given .1) (c .before .before .before .before .before .before .before .before .before .before .args .n) (c .before .number-of .ensures), no-part-within (now (c .before .before .before .before .before .before .before .before .before .before .args .block)) (c .no-part .ensures))
+returns-2 c =
+    let at-number-of = c .before in
+    let at-answer = at-number-of .before .before in
+    let at-read-block = at-answer .before .before in
+    let args = at-read-block .before .before .before .before .before .args in (
+      c .no-part .ensures ∙ part-refused _ (at-read-block .read-block .ensures) (at-answer .answer .given .1) (args .n) (at-number-of .number-of .ensures),
+      no-part-within (now (args .block)) (c .no-part .ensures),
+    )
 
 returns-3 : tie.Need-returns-3
-returns-3 c = (part-found _ (c .before .before .before .before .before .before .before .before .before .before .before .read-block .ensures) (c .before .before .before .before .before .before .before .before .before .answer2 .given .1) (c .before .before .before .before .before .before .before .before .before .before .before .before .before .before .before .before .args .n) (c .before .before .before .before .before .before .if1 .left) (c .before .past-statement .ensures) (c .before .before .before .before .offset-of .ensures) (c .offset-of2 .ensures), part-within _ (c .before .before .before .before .before .before .before .before .before .before .before .read-block .ensures) (c .before .before .before .before .before .before .before .before .before .answer2 .given .1) (c .before .before .before .before .before .before .before .before .before .before .before .before .before .before .before .before .args .n) (c .before .before .before .before .before .before .if1 .left) (c .before .past-statement .ensures) (c .before .before .before .before .offset-of .ensures) (c .offset-of2 .ensures))
+returns-3 c =
+    let at-past-statement = c .before in
+    let at-offset-of = at-past-statement .before .before .before in
+    let at-if1 = at-offset-of .before .before in
+    let at-answer2 = at-if1 .before .before .before in
+    let at-read-block = at-answer2 .before .before in
+    let args = at-read-block .before .before .before .before .before .args in (
+      part-found _ (at-read-block .read-block .ensures) (at-answer2 .answer2 .given .1) (args .n) (at-if1 .if1 .left)
+          (at-past-statement .past-statement .ensures) (at-offset-of .offset-of .ensures) (c .offset-of2 .ensures),
+      part-within _ (at-read-block .read-block .ensures)
+          (at-answer2 .answer2 .given .1) (args .n) (at-if1 .if1 .left) (at-past-statement .past-statement .ensures) (at-offset-of .offset-of .ensures)
+          (c .offset-of2 .ensures),
+    )
 
 pub part-of-spec : {M : Type 1} → statement M
 part-of-spec =

@@ -23,13 +23,23 @@ returns : tie.Need-returns
 returns c = (c .before .before .comes-to .ensures .told-is, sym (was-not _ _ _ _ (c .before .before .comes-to .ensures) (c .match .keys2) .state-stays _))
 
 write-next-requires : tie.Need-write-next-requires
-write-next-requires c κs = was-answered _ _ _ _ (c .before .before .before .before .comes-to .ensures) (c .before .enum-told .given .1) .sized
+write-next-requires c κs =
+    let at-enum-told = c .before in
+    let at-comes-to = at-enum-told .before .before .before in
+    was-answered _ _ _ _ (at-comes-to .comes-to .ensures) (at-enum-told .enum-told .given .1) .sized
 
 same-length-2 : tie.Need-same-length-2
 same-length-2 c = search needs
 
 returns-2 : tie.Need-returns-2
-returns-2 c = (c .before .before .before .before .before .before .before .comes-to .ensures .told-is, c .before .before .write-next .ensures ∙ sym (was-answered _ _ _ _ (c .before .before .before .before .before .before .before .comes-to .ensures) (c .before .before .before .before .enum-told .given .1) .state-is))
+returns-2 c =
+    let at-write-next = c .before .before in
+    let at-enum-told = at-write-next .before .before in
+    let at-comes-to = at-enum-told .before .before .before in (
+      at-comes-to .comes-to .ensures .told-is,
+      at-write-next .write-next .ensures ∙ sym
+          (was-answered _ _ _ _ (at-comes-to .comes-to .ensures) (at-enum-told .enum-told .given .1) .state-is),
+    )
 
 pub run-spec : {M : Type 1} → statement M
 run-spec =

@@ -28,15 +28,30 @@ same-length c = search needs
 
 returns : tie.Need-returns
 returns c =
-    let k = with-log _ _ _ (c .before .before .before .before .before .before .before .before .before .args .log .now) _ (c .before .before .before .before .before .no-room .ensures (c .before .before .before .before .before .before .before .before .before .args .log .now) refl) (c .before .before .before .comes-to .ensures) in
+    let at-comes-to = c .before .before .before in
+    let at-no-room = at-comes-to .before .before in
+    let args = at-no-room .before .before .before .before .args in
+    let k = with-log _ _ _ (args .log .now) _ (at-no-room .no-room .ensures (args .log .now) refl) (at-comes-to .comes-to .ensures) in
     let q = was-not _ _ _ _ k (c .match .keys2) in
     (k .told-is, (sym (q .no-end _), (sym (q .state-stays _), sym (q .log-stays _ _ _))))
 
 write-next-requires : tie.Need-write-next-requires
-write-next-requires c κs = was-answered _ _ _ _ (with-log _ _ _ (c .before .before .before .before .before .before .before .before .before .before .before .before .args .log .now) _ (c .before .before .before .before .before .before .before .before .no-room .ensures (c .before .before .before .before .before .before .before .before .before .before .before .before .args .log .now) refl) (c .before .before .before .before .before .before .comes-to .ensures)) (c .before .before .answer .given .1) .sized
+write-next-requires c κs =
+    let at-answer = c .before .before in
+    let at-comes-to = at-answer .before .before .before .before in
+    let at-no-room = at-comes-to .before .before in
+    let args = at-no-room .before .before .before .before .args in
+    was-answered _ _ _ _ (with-log _ _ _ (args .log .now) _ (at-no-room .no-room .ensures (args .log .now) refl) (at-comes-to .comes-to .ensures))
+    (at-answer .answer .given .1) .sized
 
 write-at-end-requires : tie.Need-write-at-end-requires
-write-at-end-requires c κs = has-room _ _ (was-answered _ _ _ _ (with-log _ _ _ (c .before .before .before .before .before .before .before .before .before .before .before .before .before .before .before .before .args .log .now) _ (c .before .before .before .before .before .before .before .before .before .before .before .before .no-room .ensures (c .before .before .before .before .before .before .before .before .before .before .before .before .before .before .before .before .args .log .now) refl) (c .before .before .before .before .before .before .before .before .before .before .comes-to .ensures)) (c .before .before .before .before .before .before .answer .given .1) .room)
+write-at-end-requires c κs =
+    let at-answer = c .before .before .before .before .before .before in
+    let at-comes-to = at-answer .before .before .before .before in
+    let at-no-room = at-comes-to .before .before in
+    let args = at-no-room .before .before .before .before .args in
+    has-room _ _ (was-answered _ _ _ _ (with-log _ _ _ (args .log .now) _ (at-no-room .no-room .ensures (args .log .now) refl) (at-comes-to .comes-to .ensures))
+    (at-answer .answer .given .1) .room)
 
 same-length-2 : tie.Need-same-length-2
 same-length-2 c = search needs
@@ -46,9 +61,20 @@ same-length-3 c = search needs
 
 returns-2 : tie.Need-returns-2
 returns-2 c =
-    let k = with-log _ _ _ (c .before .before .before .before .before .before .before .before .before .before .before .before .before .before .before .before .before .before .before .args .log .now) _ (c .before .before .before .before .before .before .before .before .before .before .before .before .before .before .before .no-room .ensures (c .before .before .before .before .before .before .before .before .before .before .before .before .before .before .before .before .before .before .before .args .log .now) refl) (c .before .before .before .before .before .before .before .before .before .before .before .before .before .comes-to .ensures) in
-    let a = was-answered _ _ _ _ k (c .before .before .before .before .before .before .before .before .before .answer .given .1) in
-    (ap instant-told (sym (c .before .before .before .before .before .before .before .before .before .answer .given .1)) ∙ k .told-is, (c .before .before .write-at-end .ensures .0 ∙ sym (a .end-is _), (c .before .before .before .before .before .before .write-next .ensures ∙ sym (a .state-is), c .before .before .write-at-end .ensures .1 ∙ sym (a .log-is _ _))))
+    let at-write-at-end = c .before .before in
+    let at-write-next = at-write-at-end .before .before .before .before in
+    let at-answer = at-write-next .before .before .before in
+    let at-comes-to = at-answer .before .before .before .before in
+    let at-no-room = at-comes-to .before .before in
+    let args = at-no-room .before .before .before .before .args in
+    let k = with-log _ _ _ (args .log .now) _ (at-no-room .no-room .ensures (args .log .now) refl) (at-comes-to .comes-to .ensures) in
+    let a = was-answered _ _ _ _ k (at-answer .answer .given .1) in (
+      ap instant-told (sym (at-answer .answer .given .1)) ∙ k .told-is,
+      (
+        at-write-at-end .write-at-end .ensures .0 ∙ sym (a .end-is _),
+        (at-write-next .write-next .ensures ∙ sym (a .state-is), at-write-at-end .write-at-end .ensures .1 ∙ sym (a .log-is _ _)),
+      ),
+    )
 
 pub run-logged-spec : {M : Type 1} → statement M
 run-logged-spec =

@@ -29,16 +29,29 @@ enum-known-met-3 : tie.Need-enum-known-met-3
 enum-known-met-3 c = search needs
 
 past-tests-requires : tie.Need-past-tests-requires
-past-tests-requires c κs = let q = gone-in (c .before .before .before .before .before .before .before .front .ensures .meets) (c .before .before .before .before .met3 .given .1) in (q .its-good, q .opened)
+past-tests-requires c κs =
+    let at-met3 = c .before .before .before .before in
+    let at-front = at-met3 .before .before .before in
+    let q = gone-in (at-front .front .ensures .meets) (at-met3 .met3 .given .1) in (q .its-good, q .opened)
 
 returns : tie.Need-returns
-returns c = stopped-way _ _ _ _ (c .before .before .before .before .before .front .ensures .meets) _ _ (c .before .before .met .given .1) (c .no-state .ensures)
+returns c =
+    let at-met = c .before .before in
+    let at-front = at-met .before .before .before in
+    stopped-way _ _ _ _ (at-front .front .ensures .meets) _ _ (at-met .met .given .1) (c .no-state .ensures)
 
 returns-2 : tie.Need-returns-2
-returns-2 c = clash-way _ _ _ _ (c .before .before .before .before .before .front .ensures .meets) _ _ (c .before .before .met2 .given .1) (c .no-state2 .ensures)
+returns-2 c =
+    let at-met2 = c .before .before in
+    let at-front = at-met2 .before .before .before in
+    clash-way _ _ _ _ (at-front .front .ensures .meets) _ _ (at-met2 .met2 .given .1) (c .no-state2 .ensures)
 
 returns-3 : tie.Need-returns-3
-returns-3 c = let q = gone-in (c .before .before .before .before .before .before .before .before .front .ensures .meets) (c .before .before .before .before .before .met3 .given .1) in ready-way _ _ _ _ (c .before .before .before .before .before .before .before .before .front .ensures .meets) (q .is-ready) (c .past-tests .ensures (q .its-good) (q .opened) (q .its-state) (q .begins))
+returns-3 c =
+    let at-met3 = c .before .before .before .before .before in
+    let at-front = at-met3 .before .before .before in
+    let q = gone-in (at-front .front .ensures .meets) (at-met3 .met3 .given .1) in ready-way _ _ _ _ (at-front .front .ensures .meets) (q .is-ready)
+    (c .past-tests .ensures (q .its-good) (q .opened) (q .its-state) (q .begins))
 
 pub comes-to-spec : {M : Type 1} → statement M
 comes-to-spec =

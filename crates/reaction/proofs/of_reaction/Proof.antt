@@ -17,10 +17,20 @@ no-state-requires : tie.Need-no-state-requires
 no-state-requires c κs = search needs
 
 returns : tie.Need-returns
-returns c = λ b a x given h. known-way b (c .before .before .before .before .args .r) (record { present-fits = search needs; absent-fits = search needs; low-fits = search needs; high-fits = search needs }) (c .before .before .before .before .args .heard) (record { present-wide = search needs; absent-wide = search needs }) _ given h a x (c .before .before .before .if1 .taken) refl (c .phase-after .ensures) refl refl
+returns c =
+    let at-if1 = c .before .before .before in
+    let args = at-if1 .before .args in
+    λ b a x given h. known-way b (args .r) (record
+    { present-fits = search needs; absent-fits = search needs; low-fits = search needs; high-fits = search needs }) (args .heard)
+    (record { present-wide = search needs; absent-wide = search needs }) _ given h a x (at-if1 .if1 .taken) refl (c .phase-after .ensures) refl refl
 
 returns-2 : tie.Need-returns-2
-returns-2 c = λ b a x given h. unknown-way b (c .before .before .args .r) (record { present-fits = search needs; absent-fits = search needs; low-fits = search needs; high-fits = search needs }) (c .before .before .args .heard) (record { present-wide = search needs; absent-wide = search needs }) _ given h a x (c .before .if1 .left) (c .no-state .ensures)
+returns-2 c =
+    let at-if1 = c .before in
+    let args = at-if1 .before .args in
+    λ b a x given h. unknown-way b (args .r) (record
+    { present-fits = search needs; absent-fits = search needs; low-fits = search needs; high-fits = search needs }) (args .heard)
+    (record { present-wide = search needs; absent-wide = search needs }) _ given h a x (at-if1 .if1 .left) (c .no-state .ensures)
 
 pub of-reaction-spec : {M : Type 1} → statement M
 of-reaction-spec = tie.close (tie.spec phase-after-requires no-state-requires returns returns-2)

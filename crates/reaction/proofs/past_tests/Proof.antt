@@ -29,7 +29,12 @@ of-reaction-requires : tie.Need-of-reaction-requires
 of-reaction-requires c κs = search needs
 
 returns-2 : tie.Need-returns-2
-returns-2 c = λ g o st b. react-way o st _ (c .before .react .result) (c .before .before .hearing .result) b (c .before .react .ensures (g .body) (placed o)) (c .before .before .hearing .ensures) (c .of-reaction .ensures) (c .before .before .before .if1 .left)
+returns-2 c =
+    let at-react = c .before in
+    let at-hearing = at-react .before in
+    let at-if1 = at-hearing .before in
+    λ g o st b. react-way o st _ (at-react .react .result) (at-hearing .hearing .result) b (at-react .react .ensures (g .body) (placed o))
+    (at-hearing .hearing .ensures) (c .of-reaction .ensures) (at-if1 .if1 .left)
 
 pub past-tests-spec : {M : Type 1} → statement M
 past-tests-spec =

@@ -20,11 +20,17 @@ inputs-wrong-requires c κs = search needs
 
 returns : tie.Need-returns
 unfolding wrong-inputs
-returns c = c .input-over .ensures ∙ sym (ap (wrong-inputs (c .before .before .before .before .args .inputs)) (c .before .before .given .given .1))
+returns c =
+    let at-given = c .before .before in
+    let args = at-given .before .before .args in
+    c .input-over .ensures ∙ sym (ap (wrong-inputs (args .inputs)) (at-given .given .given .1))
 
 returns-2 : tie.Need-returns-2
 unfolding wrong-inputs
-returns-2 c = c .inputs-wrong .ensures ∙ sym (ap (wrong-inputs (c .before .before .before .before .args .inputs)) (c .before .before .given2 .given .1))
+returns-2 c =
+    let at-given2 = c .before .before in
+    let args = at-given2 .before .before .args in
+    c .inputs-wrong .ensures ∙ sym (ap (wrong-inputs (args .inputs)) (at-given2 .given2 .given .1))
 
 pub wrong-inputs-spec : {M : Type 1} → statement M
 wrong-inputs-spec =

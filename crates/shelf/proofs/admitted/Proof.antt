@@ -18,48 +18,92 @@ use Rattle.shelf.proofs.places.held_of.Reads as held-of-reads
 use Rattle.shelf.proofs.write.put_entry.Reads as put-entry-reads
 
 entry-of-requires : tie.Need-entry-of-requires
-entry-of-requires c κs = let w = walked-to _ (c .before .before .before .pre .0) refl in (w .0, w .1 .laid)
+entry-of-requires c κs =
+    let at-start = c .before .before .before in
+    let w = walked-to _ (at-start .pre .0) refl in (w .0, w .1 .laid)
 
 same-length : tie.Need-same-length
 same-length c = search needs
 
 returns : tie.Need-returns
 unfolding number
-returns c = let a = c .before .before .before .before .before .args in let p = c .before .before .before .before .before .pre in let w = walked-to _ (p .0) refl in turned-down-so (now (a .shelf)) (install (a .party) (a .name) (now (a .block))) Why.Taken (name-taken (w .1) (a .party) (a .name) (now (a .block)) (p .1 .0) (p .1 .1 .1) (c .before .entry-of .ensures (w .0) (w .1 .laid)) (c .if1 .taken))
+returns c =
+    let at-entry-of = c .before in
+    let at-start = at-entry-of .before .before .before .before in
+    let a = at-start .args in let p = at-start .pre in let w = walked-to _ (p .0) refl in turned-down-so (now (a .shelf))
+    (install (a .party) (a .name) (now (a .block))) Why.Taken
+    (name-taken (w .1) (a .party) (a .name) (now (a .block)) (p .1 .0) (p .1 .1 .1) (at-entry-of .entry-of .ensures (w .0) (w .1 .laid)) (c .if1 .taken))
 
 held-of-requires : tie.Need-held-of-requires
-held-of-requires c κs = let w = walked-to _ (c .before .before .before .before .before .before .pre .0) refl in (w .0, w .1 .laid)
+held-of-requires c κs =
+    let at-start = c .before .before .before .before .before .before in
+    let w = walked-to _ (at-start .pre .0) refl in (w .0, w .1 .laid)
 
 add-if2 : tie.Need-add-if2
-add-if2 c = let a = c .before .before .before .before .before .before .before .args in let w = walked-to _ (c .before .before .before .before .before .before .before .pre .0) refl in omega (arith, c .held-of .ensures (w .0) (w .1 .laid), quota (a .party) (w .0) (w .1 .laid .legal))
+add-if2 c =
+    let at-start = c .before .before .before .before .before .before .before in
+    let a = at-start .args in let w = walked-to _ (at-start .pre .0) refl in omega
+    (arith, c .held-of .ensures (w .0) (w .1 .laid), quota (a .party) (w .0) (w .1 .laid .legal))
 
 add-if2-2 : tie.Need-add-if2-2
-add-if2-2 c = let a = c .before .before .before .before .before .before .before .args in let p = c .before .before .before .before .before .before .before .pre in let w = walked-to _ (p .0) refl in omega (arith, c .held-of .ensures (w .0) (w .1 .laid), quota (a .party) (w .0) (w .1 .laid .legal), sound (now (a .block)) (p .1 .1 .0) (p .1 .1 .1) .size)
+add-if2-2 c =
+    let at-start = c .before .before .before .before .before .before .before in
+    let a = at-start .args in let p = at-start .pre in let w = walked-to _ (p .0) refl in omega
+    (arith, c .held-of .ensures (w .0) (w .1 .laid), quota (a .party) (w .0) (w .1 .laid .legal), sound (now (a .block)) (p .1 .1 .0) (p .1 .1 .1) .size)
 
 same-length-2 : tie.Need-same-length-2
 same-length-2 c = search needs
 
 returns-2 : tie.Need-returns-2
 unfolding number
-returns-2 c = let a = c .before .before .before .before .before .before .before .before .args in let p = c .before .before .before .before .before .before .before .before .pre in let w = walked-to _ (p .0) refl in turned-down-so (now (a .shelf)) (install (a .party) (a .name) (now (a .block))) Why.Quota (over-quota (w .1) (a .party) (a .name) (now (a .block)) (p .1 .0) (p .1 .1 .1) (c .before .before .before .before .entry-of .ensures (w .0) (w .1 .laid)) (c .before .before .before .if1 .left) (c .before .held-of .ensures (w .0) (w .1 .laid)) (c .if2 .taken))
+returns-2 c =
+    let at-held-of = c .before in
+    let at-if1 = at-held-of .before .before in
+    let at-entry-of = at-if1 .before in
+    let at-start = at-entry-of .before .before .before .before in
+    let a = at-start .args in let p = at-start .pre in let w = walked-to _ (p .0) refl in turned-down-so (now (a .shelf))
+    (install (a .party) (a .name) (now (a .block))) Why.Quota
+    (over-quota (w .1) (a .party) (a .name) (now (a .block)) (p .1 .0) (p .1 .1 .1) (at-entry-of .entry-of .ensures (w .0) (w .1 .laid)) (at-if1 .if1 .left)
+    (at-held-of .held-of .ensures (w .0) (w .1 .laid)) (c .if2 .taken))
 
 sub-put-entry : tie.Need-sub-put-entry
-sub-put-entry c = let w = walked-to _ (c .before .before .before .before .before .before .before .before .pre .0) refl in omega (arith, w .1 .laid .within)
+sub-put-entry c =
+    let at-start = c .before .before .before .before .before .before .before .before in
+    let w = walked-to _ (at-start .pre .0) refl in omega (arith, w .1 .laid .within)
 
 part-put-entry-start : tie.Need-part-put-entry-start
-part-put-entry-start c = let w = walked-to _ (c .before .before .before .before .before .before .before .before .pre .0) refl in omega (arith, w .1 .laid .within)
+part-put-entry-start c =
+    let at-start = c .before .before .before .before .before .before .before .before in
+    let w = walked-to _ (at-start .pre .0) refl in omega (arith, w .1 .laid .within)
 
 part-put-entry-end : tie.Need-part-put-entry-end
 part-put-entry-end c = search needs
 
 put-entry-requires : tie.Need-put-entry-requires
-put-entry-requires c κs = let a = c .before .before .before .before .before .before .before .before .before .args in let p = c .before .before .before .before .before .before .before .before .before .pre in let w = walked-to _ (p .0) refl in let r = room-for (w .1) (a .party) (a .name) (now (a .block)) (p .1 .0) (p .1 .1 .1) (c .before .before .before .before .before .entry-of .ensures (w .0) (w .1 .laid)) (c .before .before .before .before .if1 .left) (c .before .before .held-of .ensures (w .0) (w .1 .laid)) (c .before .if2 .left) (omega (arith, c .before .before .before .before .before .before .before .before .before .fits)) in omega (arith, r)
+put-entry-requires c κs =
+    let at-if2 = c .before in
+    let at-held-of = at-if2 .before in
+    let at-if1 = at-held-of .before .before in
+    let at-entry-of = at-if1 .before in
+    let at-start = at-entry-of .before .before .before .before in
+    let a = at-start .args in let p = at-start .pre in let w = walked-to _ (p .0) refl in let r = room-for (w .1) (a .party) (a .name) (now (a .block))
+    (p .1 .0) (p .1 .1 .1) (at-entry-of .entry-of .ensures (w .0) (w .1 .laid)) (at-if1 .if1 .left) (at-held-of .held-of .ensures (w .0) (w .1 .laid))
+    (at-if2 .if2 .left) (omega (arith, at-start .fits)) in omega (arith, r)
 
 same-length-3 : tie.Need-same-length-3
 same-length-3 c = search needs
 
 returns-3 : tie.Need-returns-3
-returns-3 c = let a = c .before .before .before .before .before .before .before .before .before .before .before .before .args in let p = c .before .before .before .before .before .before .before .before .before .before .before .before .pre in let w = walked-to _ (p .0) refl in entry-on (w .1) (a .party) (a .name) (now (a .block)) (p .1 .0) (p .1 .1 .1) (c .before .before .before .before .before .before .before .before .entry-of .ensures (w .0) (w .1 .laid)) (c .before .before .before .before .before .before .before .if1 .left) (c .before .before .before .before .before .held-of .ensures (w .0) (w .1 .laid)) (c .before .before .before .before .if2 .left) (omega (arith, c .before .before .before .before .before .before .before .before .before .before .before .before .fits)) (c .before .before .put-entry .ensures)
+returns-3 c =
+    let at-put-entry = c .before .before in
+    let at-if2 = at-put-entry .before .before in
+    let at-held-of = at-if2 .before in
+    let at-if1 = at-held-of .before .before in
+    let at-entry-of = at-if1 .before in
+    let at-start = at-entry-of .before .before .before .before in
+    let a = at-start .args in let p = at-start .pre in let w = walked-to _ (p .0) refl in entry-on (w .1) (a .party) (a .name) (now (a .block)) (p .1 .0)
+    (p .1 .1 .1) (at-entry-of .entry-of .ensures (w .0) (w .1 .laid)) (at-if1 .if1 .left) (at-held-of .held-of .ensures (w .0) (w .1 .laid)) (at-if2 .if2 .left)
+    (omega (arith, at-start .fits)) (at-put-entry .put-entry .ensures)
 
 pub admitted-spec : {M : Type 1} → statement M
 admitted-spec =

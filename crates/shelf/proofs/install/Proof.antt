@@ -15,7 +15,10 @@ use Rattle.shelf.proofs.walk.walk_shelf.Reads as walk-shelf-reads
 
 returns : tie.Need-returns
 unfolding number
-returns c = let a = c .before .before .before .args in let k = install (a .party) (a .name) (now (a .block)) in turned-down-so (now (a .shelf)) k Why.Party (third-party (now (a .shelf)) k (c .if1 .taken))
+returns c =
+    let args = c .before .before .before .args in
+    let a = args in let k = install (a .party) (a .name) (now (a .block)) in turned-down-so (now (a .shelf)) k Why.Party
+    (third-party (now (a .shelf)) k (c .if1 .taken))
 
 walk-shelf-requires : tie.Need-walk-shelf-requires
 walk-shelf-requires c κs = search needs
@@ -31,7 +34,12 @@ same-length c = search needs
 
 returns-2 : tie.Need-returns-2
 unfolding number
-returns-2 c = let a = c .before .before .before .before .before .before .before .args in let k = install (a .party) (a .name) (now (a .block)) in turned-down-so (now (a .shelf)) k Why.Shelf (no-shelf-told (now (a .shelf)) k (c .before .before .before .before .if1 .left) (c .before .before .walk-shelf .ensures) (c .enum-told .given .1))
+returns-2 c =
+    let at-walk-shelf = c .before .before in
+    let at-if1 = at-walk-shelf .before .before in
+    let args = at-if1 .before .before .before .args in
+    let a = args in let k = install (a .party) (a .name) (now (a .block)) in turned-down-so (now (a .shelf)) k Why.Shelf
+    (no-shelf-told (now (a .shelf)) k (at-if1 .if1 .left) (at-walk-shelf .walk-shelf .ensures) (c .enum-told .given .1))
 
 checked-requires : tie.Need-checked-requires
 checked-requires c κs = search needs
@@ -43,13 +51,29 @@ enum-told-2 : tie.Need-enum-told-2
 enum-told-2 c = search needs
 
 admitted-requires : tie.Need-admitted-requires
-admitted-requires c κs = (walked-on _ (c .before .before .before .before .before .before .before .walk-shelf .ensures) (c .before .before .before .before .before .walked .given .1), (c .before .before .before .before .before .before .before .before .before .if1 .left, found-good (c .before .before .before .checked .ensures .1) (c .before .enum-told2 .given .1)))
+admitted-requires c κs =
+    let at-enum-told2 = c .before in
+    let at-checked = at-enum-told2 .before .before in
+    let at-walked = at-checked .before .before in
+    let at-walk-shelf = at-walked .before .before in
+    let at-if1 = at-walk-shelf .before .before in (
+      walked-on _ (at-walk-shelf .walk-shelf .ensures) (at-walked .walked .given .1),
+      (at-if1 .if1 .left, found-good (at-checked .checked .ensures .1) (at-enum-told2 .enum-told2 .given .1)),
+    )
 
 same-length-2 : tie.Need-same-length-2
 same-length-2 c = search needs
 
 returns-3 : tie.Need-returns-3
-returns-3 c = let a = c .before .before .before .before .before .before .before .before .before .before .before .before .args in let w = walked-to _ (c .before .before .before .before .before .before .before .walk-shelf .ensures) (c .before .before .before .before .before .walked .given .1) in block-turned-down (w .1) (a .party) (a .name) (now (a .block)) (c .before .before .before .before .before .before .before .before .before .if1 .left) (c .before .before .before .checked .ensures .1) (c .before .answer .given .1)
+returns-3 c =
+    let at-answer = c .before in
+    let at-checked = at-answer .before .before in
+    let at-walked = at-checked .before .before in
+    let at-walk-shelf = at-walked .before .before in
+    let at-if1 = at-walk-shelf .before .before in
+    let args = at-if1 .before .before .before .args in
+    let a = args in let w = walked-to _ (at-walk-shelf .walk-shelf .ensures) (at-walked .walked .given .1) in block-turned-down (w .1) (a .party) (a .name)
+    (now (a .block)) (at-if1 .if1 .left) (at-checked .checked .ensures .1) (at-answer .answer .given .1)
 
 same-length-3 : tie.Need-same-length-3
 same-length-3 c = search needs

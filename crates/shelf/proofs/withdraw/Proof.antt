@@ -34,29 +34,73 @@ same-length c = search needs
 
 returns-2 : tie.Need-returns-2
 unfolding number
-returns-2 c = let a = c .before .before .before .before .before .before .args in let k = withdraw (a .party) (a .name) in turned-down-so (now (a .shelf)) k Why.Shelf (no-shelf-told (now (a .shelf)) k (c .before .before .before .before .if1 .left) (c .before .before .walk-shelf .ensures) (c .enum-told .given .1))
+returns-2 c =
+    let at-walk-shelf = c .before .before in
+    let at-if1 = at-walk-shelf .before .before in
+    let args = at-if1 .before .before .args in
+    let a = args in let k = withdraw (a .party) (a .name) in turned-down-so (now (a .shelf)) k Why.Shelf
+    (no-shelf-told (now (a .shelf)) k (at-if1 .if1 .left) (at-walk-shelf .walk-shelf .ensures) (c .enum-told .given .1))
 
 entry-of-requires : tie.Need-entry-of-requires
-entry-of-requires c κs = let w = walked-to _ (c .before .before .before .before .walk-shelf .ensures) (c .before .before .walked .given .1) in (w .0, w .1 .laid)
+entry-of-requires c κs =
+    let at-walked = c .before .before in
+    let at-walk-shelf = at-walked .before .before in
+    let w = walked-to _ (at-walk-shelf .walk-shelf .ensures) (at-walked .walked .given .1) in (w .0, w .1 .laid)
 
 same-length-2 : tie.Need-same-length-2
 same-length-2 c = search needs
 
 returns-3 : tie.Need-returns-3
 unfolding number
-returns-3 c = let a = c .before .before .before .before .before .before .before .before .before .before .args in let w = walked-to _ (c .before .before .before .before .before .before .walk-shelf .ensures) (c .before .before .before .before .walked .given .1) in turned-down-so (now (a .shelf)) (withdraw (a .party) (a .name)) Why.Absent (not-there (w .1) (a .party) (a .name) (c .before .before .before .before .before .before .before .before .if1 .left) (c .before .entry-of .ensures (w .0) (w .1 .laid)) (c .if2 .taken))
+returns-3 c =
+    let at-entry-of = c .before in
+    let at-walked = at-entry-of .before .before .before in
+    let at-walk-shelf = at-walked .before .before in
+    let at-if1 = at-walk-shelf .before .before in
+    let args = at-if1 .before .before .args in
+    let a = args in let w = walked-to _ (at-walk-shelf .walk-shelf .ensures) (at-walked .walked .given .1) in turned-down-so (now (a .shelf))
+    (withdraw (a .party) (a .name)) Why.Absent
+    (not-there (w .1) (a .party) (a .name) (at-if1 .if1 .left) (at-entry-of .entry-of .ensures (w .0) (w .1 .laid)) (c .if2 .taken))
 
 number-at-requires : tie.Need-number-at-requires
-number-at-requires c κs = let a = c .before .before .before .before .before .before .before .before .before .before .before .args in let w = walked-to _ (c .before .before .before .before .before .before .before .walk-shelf .ensures) (c .before .before .before .before .before .walked .given .1) in let r = eight-there (w .1) (a .party) (a .name) (c .before .before .before .before .before .before .before .before .before .if1 .left) (c .before .before .entry-of .ensures (w .0) (w .1 .laid)) (c .before .if2 .left) in (omega (arith, r), omega arith)
+number-at-requires c κs =
+    let at-if2 = c .before in
+    let at-entry-of = at-if2 .before in
+    let at-walked = at-entry-of .before .before .before in
+    let at-walk-shelf = at-walked .before .before in
+    let at-if1 = at-walk-shelf .before .before in
+    let args = at-if1 .before .before .args in
+    let a = args in let w = walked-to _ (at-walk-shelf .walk-shelf .ensures) (at-walked .walked .given .1) in let r = eight-there (w .1) (a .party) (a .name)
+    (at-if1 .if1 .left) (at-entry-of .entry-of .ensures (w .0) (w .1 .laid)) (at-if2 .if2 .left) in (omega (arith, r), omega arith)
 
 close-gap-requires : tie.Need-close-gap-requires
-close-gap-requires c κs = let a = c .before .before .before .before .before .before .before .before .before .before .before .before .before .args in let w = walked-to _ (c .before .before .before .before .before .before .before .before .before .walk-shelf .ensures) (c .before .before .before .before .before .before .before .walked .given .1) in gap-there (w .1) (a .party) (a .name) (c .before .before .before .before .before .before .before .before .before .before .before .if1 .left) (c .before .before .before .before .entry-of .ensures (w .0) (w .1 .laid)) (c .before .before .before .if2 .left) (c .before .number-at .ensures)
+close-gap-requires c κs =
+    let at-number-at = c .before in
+    let at-if2 = at-number-at .before .before in
+    let at-entry-of = at-if2 .before in
+    let at-walked = at-entry-of .before .before .before in
+    let at-walk-shelf = at-walked .before .before in
+    let at-if1 = at-walk-shelf .before .before in
+    let args = at-if1 .before .before .args in
+    let a = args in let w = walked-to _ (at-walk-shelf .walk-shelf .ensures) (at-walked .walked .given .1) in gap-there (w .1) (a .party) (a .name)
+    (at-if1 .if1 .left) (at-entry-of .entry-of .ensures (w .0) (w .1 .laid)) (at-if2 .if2 .left) (at-number-at .number-at .ensures)
 
 same-length-3 : tie.Need-same-length-3
 same-length-3 c = search needs
 
 returns-4 : tie.Need-returns-4
-returns-4 c = let a = c .before .before .before .before .before .before .before .before .before .before .before .before .before .before .before .before .args in let w = walked-to _ (c .before .before .before .before .before .before .before .before .before .before .before .before .walk-shelf .ensures) (c .before .before .before .before .before .before .before .before .before .before .walked .given .1) in gone (w .1) (a .party) (a .name) (c .before .before .before .before .before .before .before .before .before .before .before .before .before .before .if1 .left) (c .before .before .before .before .before .before .before .entry-of .ensures (w .0) (w .1 .laid)) (c .before .before .before .before .before .before .if2 .left) (c .before .before .before .before .number-at .ensures) (c .before .before .close-gap .ensures)
+returns-4 c =
+    let at-close-gap = c .before .before in
+    let at-number-at = at-close-gap .before .before in
+    let at-if2 = at-number-at .before .before in
+    let at-entry-of = at-if2 .before in
+    let at-walked = at-entry-of .before .before .before in
+    let at-walk-shelf = at-walked .before .before in
+    let at-if1 = at-walk-shelf .before .before in
+    let args = at-if1 .before .before .args in
+    let a = args in let w = walked-to _ (at-walk-shelf .walk-shelf .ensures) (at-walked .walked .given .1) in gone (w .1) (a .party) (a .name)
+    (at-if1 .if1 .left) (at-entry-of .entry-of .ensures (w .0) (w .1 .laid)) (at-if2 .if2 .left) (at-number-at .number-at .ensures)
+    (at-close-gap .close-gap .ensures)
 
 pub withdraw-spec : {M : Type 1} → statement M
 withdraw-spec =

@@ -44,7 +44,8 @@ cast-put-number-4 c = search needs
 
 put-number-requires-7 : tie.Need-put-number-requires-7
 put-number-requires-7 c κs =
-    let p1 = c .before .before .before .before in
+    let at-place = c .before .before .before .before in
+    let p1 = at-place in
     let p2 = p1 .before .before .before .before .before in
     let p3 = p2 .before .before .before .before .before in
     let p4 = p3 .before .before .before .before .before in

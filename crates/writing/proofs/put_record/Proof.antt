@@ -37,7 +37,8 @@ cast-put-number c = search needs
 
 put-number-requires : tie.Need-put-number-requires
 put-number-requires c κs =
-    let p1 = c .before .before .before .before in
+    let at-place = c .before .before .before .before in
+    let p1 = at-place in
     let p2 = p1 .before .before in
     let p3 = p2 .before .before in
     let e = sym (p2 .shape-of .ensures) ∙ p1 .shape .given .1 in
@@ -48,7 +49,8 @@ add-put-number c = search needs
 
 put-number-requires-2 : tie.Need-put-number-requires-2
 put-number-requires-2 c κs =
-    let p1 = c .before .before .before in
+    let at-place = c .before .before .before in
+    let p1 = at-place in
     let p2 = p1 .before .before .before .before .before in
     let p3 = p2 .before .before in
     let p4 = p3 .before .before in
@@ -60,7 +62,8 @@ same-length c = search needs
 
 returns-2 : tie.Need-returns-2
 returns-2 c =
-    let p1 = c .before .before .before .before in
+    let at-place = c .before .before .before .before in
+    let p1 = at-place in
     let p2 = p1 .before .before .before .before in
     let p3 = p2 .before .before .before .before .before in
     let p4 = p3 .before .before in

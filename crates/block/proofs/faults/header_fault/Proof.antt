@@ -22,7 +22,11 @@ two-bytes-requires : tie.Need-two-bytes-requires
 two-bytes-requires c κs = search needs
 
 returns-2 : tie.Need-returns-2
-returns-2 c = sym (header-kind _ (sym (c .before .before .before .broken .ensures) ∙ c .before .before .if1 .left) (λ e. c .if2 .taken (c .before .two-bytes .ensures ∙ e)))
+returns-2 c =
+    let at-two-bytes = c .before in
+    let at-if1 = at-two-bytes .before in
+    let at-broken = at-if1 .before in
+    sym (header-kind _ (sym (at-broken .broken .ensures) ∙ at-if1 .if1 .left) (λ e. c .if2 .taken (at-two-bytes .two-bytes .ensures ∙ e)))
 
 two-bytes-requires-2 : tie.Need-two-bytes-requires-2
 two-bytes-requires-2 c κs = search needs

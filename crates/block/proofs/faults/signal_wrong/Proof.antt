@@ -30,7 +30,9 @@ returns-2 : tie.Need-returns-2
 returns-2 c = c .local-wrong .ensures ∙ sym (signal-local _ _ _ _ _ (c .before .match .keys2))
 
 returns-3 : tie.Need-returns-3
-returns-3 c = ap not (c .declared-here .ensures) ∙ sym (signal-test _ _ _ _ _ (nineteen-or-twenty {k = c .before .before .before .before .args .kind} (omega arith) (omega arith)))
+returns-3 c =
+    let args = c .before .before .before .before .args in
+    ap not (c .declared-here .ensures) ∙ sym (signal-test _ _ _ _ _ (nineteen-or-twenty {k = args .kind} (omega arith) (omega arith)))
 
 returns-4 : tie.Need-returns-4
 returns-4 c = sym (signal-none _ _ _ _ _ (c .before .match .rest .0 .1) (omega arith) (omega arith) (c .before .match .rest .1))

@@ -18,7 +18,10 @@ enum-told : tie.Need-enum-told
 enum-told c = search needs
 
 returns : tie.Need-returns
-returns c = shaped _ (sym (c .before .before .before .shape-of .ensures) ∙ c .before .s .given .1) .its-length
+returns c =
+    let at-s = c .before in
+    let at-shape-of = at-s .before .before in
+    shaped _ (sym (at-shape-of .shape-of .ensures) ∙ at-s .s .given .1) .its-length
 
 returns-2 : tie.Need-returns-2
 returns-2 c = sym (not-known _ (sym (c .before .before .shape-of .ensures) ∙ c .enum-told .given .1))

@@ -30,41 +30,55 @@ sub-i : tie.Need-sub-i Inv-loop μ-loop
 sub-i c = omega (arith, c .loop-test .taken)
 
 add-word-at : tie.Need-add-word-at Inv-loop μ-loop
-add-word-at c = omega (arith, c .before .before .loop .inv .in-count, c .before .loop-test .taken, c .before .before .before .pre)
+add-word-at c =
+    let at-loop-test = c .before in
+    let at-loop = at-loop-test .before in
+    let at-start = at-loop .before in
+    omega (arith, at-loop .loop .inv .in-count, at-loop-test .loop-test .taken, at-start .pre)
 
 word-at-requires : tie.Need-word-at-requires Inv-loop μ-loop
 word-at-requires c κs = c .before .before .loop .inv .wide
 
 second-at-requires : tie.Need-second-at-requires Inv-loop μ-loop
-second-at-requires c κs = omega (arith, c .before .before .before .before .loop .inv .in-count, c .before .before .before .loop-test .taken, c .before .before .before .before .before .pre)
+second-at-requires c κs =
+    let at-loop-test = c .before .before .before in
+    let at-loop = at-loop-test .before in
+    let at-start = at-loop .before in
+    omega (arith, at-loop .loop .inv .in-count, at-loop-test .loop-test .taken, at-start .pre)
 
 word-at-requires-2 : tie.Need-word-at-requires-2 Inv-loop μ-loop
-word-at-requires-2 c κs = c .before .before .before .before .before .loop .inv .wide
+word-at-requires-2 c κs =
+    let at-loop = c .before .before .before .before .before in
+    at-loop .loop .inv .wide
 
 mul-kind : tie.Need-mul-kind Inv-loop μ-loop
 mul-kind c =
-    let p1 = c .before .before .before .before .before in
+    let at-place = c .before .before .before .before .before in
+    let p1 = at-place in
     let p2 = p1 .before in
     let p3 = p2 .before in
     omega (arith, p2 .loop .inv .in-count, p1 .loop-test .taken, p3 .pre)
 
 element-copy-out-kind : tie.Need-element-copy-out-kind Inv-loop μ-loop
 element-copy-out-kind c =
-    let p1 = c .before .before .before .before .before in
+    let at-place = c .before .before .before .before .before in
+    let p1 = at-place in
     let p2 = p1 .before in
     let p3 = p2 .before in
     omega (arith, p2 .loop .inv .in-count, p1 .loop-test .taken, p3 .pre)
 
 mul-codes-for : tie.Need-mul-codes-for Inv-loop μ-loop
 mul-codes-for c =
-    let p1 = c .before .before .before .before .before .before in
+    let at-place = c .before .before .before .before .before .before in
+    let p1 = at-place in
     let p2 = p1 .before in
     let p3 = p2 .before in
     omega (arith, p2 .loop .inv .in-count, p1 .loop-test .taken, p3 .pre)
 
 element-copy-out-codes-for : tie.Need-element-copy-out-codes-for Inv-loop μ-loop
 element-copy-out-codes-for c =
-    let p1 = c .before .before .before .before .before .before in
+    let at-place = c .before .before .before .before .before .before in
+    let p1 = at-place in
     let p2 = p1 .before in
     let p3 = p2 .before in
     omega (arith, p2 .loop .inv .in-count, p1 .loop-test .taken, p3 .pre)
@@ -74,14 +88,16 @@ codes-for-requires c κs = tt
 
 mul-codes : tie.Need-mul-codes Inv-loop μ-loop
 mul-codes c =
-    let p1 = c .before .before .before .before .before .before .before .before in
+    let at-place = c .before .before .before .before .before .before .before .before in
+    let p1 = at-place in
     let p2 = p1 .before in
     let p3 = p2 .before in
     omega (arith, p2 .loop .inv .in-count, p1 .loop-test .taken, p3 .pre)
 
 array-write-codes : tie.Need-array-write-codes Inv-loop μ-loop
 array-write-codes c =
-    let p1 = c .before .before .before .before .before .before .before .before in
+    let at-place = c .before .before .before .before .before .before .before .before in
+    let p1 = at-place in
     let p2 = p1 .before in
     let p3 = p2 .before in
     omega (arith, p2 .loop .inv .in-count, p1 .loop-test .taken, p3 .pre)
@@ -90,18 +106,25 @@ lower-requires : tie.Need-lower-requires Inv-loop μ-loop
 lower-requires c κs = tt
 
 loop-less : tie.Need-loop-less Inv-loop μ-loop
-loop-less c = omega (arith, c .before .before .before .before .before .before .before .before .before .loop-test .taken)
+loop-less c =
+    let at-loop-test = c .before .before .before .before .before .before .before .before .before in
+    omega (arith, at-loop-test .loop-test .taken)
 
 loop-again : tie.Need-loop-again Inv-loop μ-loop
 loop-again c =
-    let p1 = c .before .before .before .before .before .before .before .before .before in
+    let at-codes-for = c .before in
+    let at-place = at-codes-for .before .before .before in
+    let at-word-at = at-place .before .before .before in
+    let at-place-2 = at-word-at .before .before in
+    let at-start = at-place-2 .before .before in
+    let p1 = at-place-2 in
     let at = p1 .before .loop in
     let e : at .i ≡ at .i - 1 + 1 = omega (arith, p1 .loop-test .taken) in
     walk-step (subst (Walked _ _ _ _) e (at .inv))
     (record {
-      first = c .before .before .before .before .before .before .before .word-at .ensures;
+      first = at-word-at .word-at .ensures;
       second =
-          let p1 = c .before .before .before .before in
+          let p1 = at-place in
           let p2 = p1 .before in
           let p3 = p2 .before .before .before .before .before in
           let p4 = p3 .before in
@@ -109,10 +132,10 @@ loop-again c =
           (p1 .word-at2 .ensures);
       kind = refl;
       operand = refl;
-      its-codes = c .before .codes-for .ensures;
+      its-codes = at-codes-for .codes-for .ensures;
       now-found = c .lower .ensures;
     })
-    (c .before .before .before .before .before .before .before .before .before .before .before .pre)
+    (at-start .pre)
 
 returns : tie.Need-returns Inv-loop μ-loop
 returns c = walk-end (c .before .loop .inv) (c .loop-test .left)

@@ -69,8 +69,12 @@ by-its-own : (t : ℕ) (c : read-at-lts.After-shape-of (read-at-claims t) (read-
     Passes (s .args .c .room) (length (now (s .args .b))) (header-of (s .args .d)) (around-of (s .args .c)) (sofar-of (s .args .r))
     (c .before .before .two-bytes .result) (c .before .two-bytes2 .result)
 by-its-own t c =
-    passes-at _ _ _ _ _ _ (c .before .before .two-bytes .ensures) (c .before .two-bytes2 .ensures)
-    (sym (c .before .before .before .before .statement-fault .ensures) ∙ c .before .before .before .if1 .left)
+    let at-two-bytes2 = c .before in
+    let at-two-bytes = at-two-bytes2 .before in
+    let at-if1 = at-two-bytes .before in
+    let at-statement-fault = at-if1 .before in
+    passes-at _ _ _ _ _ _ (at-two-bytes .two-bytes .ensures) (at-two-bytes2 .two-bytes2 .ensures)
+    (sym (at-statement-fault .statement-fault .ensures) ∙ at-if1 .if1 .left)
 
 its-shape : (t : ℕ) (c : read-at-lts.After-shape (read-at-claims t) (read-at-at t) read-at.Post)
     → Shaped (c .before .before .before .before .two-bytes .result) (c .shape .given .0 .0)
@@ -83,13 +87,15 @@ hand : (t : ℕ) (c : read-at-lts.After-inner (read-at-claims t) (read-at-at t) 
     sofar-of q ≡ past (k .two-bytes .result) (sofar-of (s .args .r))
     → Hand (now (s .args .b)) (s .args .d) (s .args .c) (s .args .r) (k .two-bytes .result) (c .before .before .before .before .before .before .two-bytes2 .result) (c .inner .result) q
 hand t c e =
-    let k = c .before .before .before .before .before .before .before in
+    let at-two-bytes2 = c .before .before .before .before .before .before in
+    let at-place = at-two-bytes2 .before in
+    let k = at-place in
     let s = k .before .before .before .before in
     record {
       ready = s .pre .1 .0;
       good = sym (k .before .before .statement-fault .ensures) ∙ k .before .if1 .left;
       k-is = k .two-bytes .ensures;
-      x-is = c .before .before .before .before .before .before .two-bytes2 .ensures;
+      x-is = at-two-bytes2 .two-bytes2 .ensures;
       around = c .inner .ensures .0;
       room = c .inner .ensures .1;
       next = e;
@@ -99,19 +105,32 @@ read-at-statement-fault-requires : (t : ℕ) → read-at-lts.Need-statement-faul
 read-at-statement-fault-requires t c κs = (c .before .pre .1 .0 .fits, c .before .pre .1 .0 .signals)
 
 read-at-returns : (t : ℕ) → read-at-lts.Need-returns (read-at-claims t) (read-at-at t) read-at.Post
-read-at-returns t c = end-fault _ _ _ _ _ _ (c .before .before .before .pre .1 .1) (c .before .statement-fault .ensures) (c .if1 .taken)
+read-at-returns t c =
+    let at-statement-fault = c .before in
+    let at-start = at-statement-fault .before .before in
+    end-fault _ _ _ _ _ _ (at-start .pre .1 .1) (at-statement-fault .statement-fault .ensures) (c .if1 .taken)
 
 read-at-add-two-bytes : (t : ℕ) → read-at-lts.Need-add-two-bytes (read-at-claims t) (read-at-at t) read-at.Post
-read-at-add-two-bytes t c = omega (arith, passed-test t c .ends, c .before .before .before .pre .1 .0 .fits)
+read-at-add-two-bytes t c =
+    let at-start = c .before .before .before in
+    omega (arith, passed-test t c .ends, at-start .pre .1 .0 .fits)
 
 read-at-two-bytes-requires : (t : ℕ) → read-at-lts.Need-two-bytes-requires (read-at-claims t) (read-at-at t) read-at.Post
-read-at-two-bytes-requires t c κs = omega (arith, passed-test t c .ends, c .before .before .before .pre .1 .0 .fits)
+read-at-two-bytes-requires t c κs =
+    let at-start = c .before .before .before in
+    omega (arith, passed-test t c .ends, at-start .pre .1 .0 .fits)
 
 read-at-add-two-bytes-2 : (t : ℕ) → read-at-lts.Need-add-two-bytes-2 (read-at-claims t) (read-at-at t) read-at.Post
-read-at-add-two-bytes-2 t c = omega (arith, passed-test t (c .before) .ends, c .before .before .before .before .pre .1 .0 .fits)
+read-at-add-two-bytes-2 t c =
+    let at-place = c .before in
+    let at-start = at-place .before .before .before in
+    omega (arith, passed-test t (at-place) .ends, at-start .pre .1 .0 .fits)
 
 read-at-two-bytes-requires-2 : (t : ℕ) → read-at-lts.Need-two-bytes-requires-2 (read-at-claims t) (read-at-at t) read-at.Post
-read-at-two-bytes-requires-2 t c κs = omega (arith, passed-test t (c .before) .ends, c .before .before .before .before .pre .1 .0 .fits)
+read-at-two-bytes-requires-2 t c κs =
+    let at-place = c .before in
+    let at-start = at-place .before .before .before in
+    omega (arith, passed-test t (at-place) .ends, at-start .pre .1 .0 .fits)
 
 read-at-shape-of-requires : (t : ℕ) → read-at-lts.Need-shape-of-requires (read-at-claims t) (read-at-at t) read-at.Post
 read-at-shape-of-requires t c κs = tt
@@ -128,39 +147,56 @@ read-at-returns-2 t c =
     absurd (omega (arith, not-known _ (sym (c .before .before .shape-of .ensures) ∙ c .enum-told .given .1)))
 
 read-at-mul-kinds : (t : ℕ) → read-at-lts.Need-mul-kinds (read-at-claims t) (read-at-at t) read-at.Post
-read-at-mul-kinds t c = omega (arith, (passed-test t (c .before .before .before .before .before .before)) .counted)
+read-at-mul-kinds t c =
+    let at-place = c .before .before .before .before .before .before in
+    omega (arith, (passed-test t (at-place)) .counted)
 
 read-at-element-write-kinds : (t : ℕ) → read-at-lts.Need-element-write-kinds (read-at-claims t) (read-at-at t) read-at.Post
-read-at-element-write-kinds t c = omega (arith, (passed-test t (c .before .before .before .before .before .before)) .counted)
+read-at-element-write-kinds t c =
+    let at-place = c .before .before .before .before .before .before in
+    omega (arith, (passed-test t (at-place)) .counted)
 
 read-at-kept-requires : (t : ℕ) → read-at-lts.Need-kept-requires (read-at-claims t) (read-at-at t) read-at.Post
 read-at-kept-requires t c κs = its-shape t (c .before) .its-operands
 
 read-at-mul-operands : (t : ℕ) → read-at-lts.Need-mul-operands (read-at-claims t) (read-at-at t) read-at.Post
-read-at-mul-operands t c = omega (arith, (passed-test t (c .before .before .before .before .before .before .before)) .counted)
+read-at-mul-operands t c =
+    let at-place = c .before .before .before .before .before .before .before in
+    omega (arith, (passed-test t (at-place)) .counted)
 
 read-at-element-write-operands : (t : ℕ) → read-at-lts.Need-element-write-operands (read-at-claims t) (read-at-at t) read-at.Post
-read-at-element-write-operands t c = omega (arith, (passed-test t (c .before .before .before .before .before .before .before)) .counted)
+read-at-element-write-operands t c =
+    let at-place = c .before .before .before .before .before .before .before in
+    omega (arith, (passed-test t (at-place)) .counted)
 
 read-at-inner-requires : (t : ℕ) → read-at-lts.Need-inner-requires (read-at-claims t) (read-at-at t) read-at.Post
 read-at-inner-requires t c κs =
-    let g = by-its-own t (c .before .before .before .before) in
-    let y = c .before .before .before .before .before .before .before .before .before .before .pre .1 .0 in
+    let at-place = c .before .before .before .before in
+    let at-start = at-place .before .before .before .before .before .before in
+    let g = by-its-own t (at-place) in
+    let y = at-start .pre .1 .0 in
     (omega (arith, pos-of-ne-zero (g .roomy)), omega (arith, y .few-traps), omega (arith, y .few-nested), λ e. omega (arith, g .declaring e .0, g .declaring e .1, y .signals))
 
 read-at-mul-sizes : (t : ℕ) → read-at-lts.Need-mul-sizes (read-at-claims t) (read-at-at t) read-at.Post
-read-at-mul-sizes t c = omega (arith, (passed-test t (c .before .before .before .before .before .before .before .before .before)) .counted)
+read-at-mul-sizes t c =
+    let at-place = c .before .before .before .before .before .before .before .before .before in
+    omega (arith, (passed-test t (at-place)) .counted)
 
 read-at-element-write-sizes : (t : ℕ) → read-at-lts.Need-element-write-sizes (read-at-claims t) (read-at-at t) read-at.Post
-read-at-element-write-sizes t c = omega (arith, (passed-test t (c .before .before .before .before .before .before .before .before .before)) .counted)
+read-at-element-write-sizes t c =
+    let at-place = c .before .before .before .before .before .before .before .before .before in
+    omega (arith, (passed-test t (at-place)) .counted)
 
 read-at-passed-requires : (t : ℕ) → read-at-lts.Need-passed-requires (read-at-claims t) (read-at-at t) read-at.Post
 read-at-passed-requires t c κs =
-    let y = c .before .before .before .before .before .before .before .before .before .before .before .before .pre .1 .0 in (
-      its-shape t (c .before .before .before .before) .its-length,
-      omega (arith, (passed-test t (c .before .before .before .before .before .before .before .before .before)) .ends, y .fits),
+    let at-place = c .before .before .before .before in
+    let at-place-2 = at-place .before .before .before .before .before in
+    let at-start = at-place-2 .before .before .before in
+    let y = at-start .pre .1 .0 in (
+      its-shape t (at-place) .its-length,
+      omega (arith, (passed-test t (at-place-2)) .ends, y .fits),
       omega
-          (arith, (passed-test t (c .before .before .before .before .before .before .before .before .before)) .counted),
+          (arith, (passed-test t (at-place-2)) .counted),
       omega (arith, y .few-pauses),
       omega (arith, y .few-locals, y .signals),
     )
@@ -176,18 +212,22 @@ read-at-returns-3 t c =
 
 read-at-passed-requires-2 : (t : ℕ) → read-at-lts.Need-passed-requires-2 (read-at-claims t) (read-at-at t) read-at.Post
 read-at-passed-requires-2 t c κs =
-    let y = c .before .before .before .before .before .before .before .before .before .before .before .before .pre .1 .0 in (
-      its-shape t (c .before .before .before .before) .its-length,
-      omega (arith, (passed-test t (c .before .before .before .before .before .before .before .before .before)) .ends, y .fits),
+    let at-place = c .before .before .before .before in
+    let at-place-2 = at-place .before .before .before .before .before in
+    let at-start = at-place-2 .before .before .before in
+    let y = at-start .pre .1 .0 in (
+      its-shape t (at-place) .its-length,
+      omega (arith, (passed-test t (at-place-2)) .ends, y .fits),
       omega
-          (arith, (passed-test t (c .before .before .before .before .before .before .before .before .before)) .counted),
+          (arith, (passed-test t (at-place-2)) .counted),
       omega (arith, y .few-pauses),
       omega (arith, y .few-locals, y .signals),
     )
 
 read-at-read-at-requires : (t : ℕ) → read-at-lts.Need-read-at-requires (read-at-claims t) (read-at-at t) read-at.Post
 read-at-read-at-requires t c κs =
-    let p1 = c .before .before .before in
+    let at-place = c .before .before .before in
+    let p1 = at-place in
     let p2 = p1 .before .before in
     let p3 = p2 .before in
     let p4 = p3 .before .before .before .before .before .before .before .before .before .before in (
@@ -203,7 +243,8 @@ read-at-enum-known-first-2 t c = search needs
 
 read-at-sub-sizes : (t : ℕ) → read-at-lts.Need-sub-sizes (read-at-claims t) (read-at-at t) read-at.Post
 read-at-sub-sizes t c =
-    let p1 = c .before .before .before in
+    let at-place = c .before .before .before in
+    let p1 = at-place in
     let p2 = p1 .before .before in
     let p3 = p2 .before .before .before .before in
     let p4 = p3 .before .before in
@@ -213,7 +254,8 @@ read-at-sub-sizes t c =
 
 read-at-cast-sizes : (t : ℕ) → read-at-lts.Need-cast-sizes (read-at-claims t) (read-at-at t) read-at.Post
 read-at-cast-sizes t c =
-    let p1 = c .before .before .before in
+    let at-place = c .before .before .before in
+    let p1 = at-place in
     let p2 = p1 .before .before in
     let p3 = p2 .before .before .before .before in
     let p4 = p3 .before .before in
@@ -223,12 +265,14 @@ read-at-cast-sizes t c =
 
 read-at-mul-sizes-2 : (t : ℕ) → read-at-lts.Need-mul-sizes-2 (read-at-claims t) (read-at-at t) read-at.Post
 read-at-mul-sizes-2 t c =
-    let p1 = c .before .before .before .before .before .before .before .before .before .before .before .before .before .before .before .before .before .before .before in
+    let at-place = c .before .before .before .before .before .before .before .before .before .before .before .before .before .before .before .before .before .before .before in
+    let p1 = at-place in
     omega (arith, (passed-test t (p1)) .counted)
 
 read-at-element-write-sizes-2 : (t : ℕ) → read-at-lts.Need-element-write-sizes-2 (read-at-claims t) (read-at-at t) read-at.Post
 read-at-element-write-sizes-2 t c =
-    let p1 = c .before .before .before .before .before .before .before .before .before .before .before .before .before .before .before .before .before .before .before in
+    let at-place = c .before .before .before .before .before .before .before .before .before .before .before .before .before .before .before .before .before .before .before in
+    let p1 = at-place in
     omega (arith, (passed-test t (p1)) .counted)
 
 read-at-returns-4 : (t : ℕ) → read-at-lts.Need-returns-4 (read-at-claims t) (read-at-at t) read-at.Post
@@ -245,7 +289,8 @@ read-at-returns-4 t c =
 
 read-at-read-at-requires-2 : (t : ℕ) → read-at-lts.Need-read-at-requires-2 (read-at-claims t) (read-at-at t) read-at.Post
 read-at-read-at-requires-2 t c κs =
-    let p1 = c .before .before .before .before .before in
+    let at-place = c .before .before .before .before .before in
+    let p1 = at-place in
     let p2 = p1 .before .before in
     let p3 = p2 .before .before .before .before in
     let p4 = p3 .before .before in
@@ -305,16 +350,18 @@ read-at-cast-sizes-2 t c =
 
 read-at-mul-sizes-3 : (t : ℕ) → read-at-lts.Need-mul-sizes-3 (read-at-claims t) (read-at-at t) read-at.Post
 read-at-mul-sizes-3 t c =
+    let at-place = c .before .before .before .before .before .before .before .before .before .before .before .before .before in
     let p1 =
-    let half = c .before .before .before .before .before .before .before .before .before .before .before .before .before in
+    let half = at-place in
     let p1 = half .before .before .before .before .before .before .before .before .before .before .before .before .before in
     p1 in
     omega (arith, (passed-test t (p1)) .counted)
 
 read-at-element-write-sizes-3 : (t : ℕ) → read-at-lts.Need-element-write-sizes-3 (read-at-claims t) (read-at-at t) read-at.Post
 read-at-element-write-sizes-3 t c =
+    let at-place = c .before .before .before .before .before .before .before .before .before .before .before .before .before in
     let p1 =
-    let half = c .before .before .before .before .before .before .before .before .before .before .before .before .before in
+    let half = at-place in
     let p1 = half .before .before .before .before .before .before .before .before .before .before .before .before .before in
     p1 in
     omega (arith, (passed-test t (p1)) .counted)
@@ -333,7 +380,8 @@ read-at-returns-5 t c =
 
 read-at-returns-6 : (t : ℕ) → read-at-lts.Need-returns-6 (read-at-claims t) (read-at-at t) read-at.Post
 read-at-returns-6 t c =
-    let p1 = c .before in
+    let at-place = c .before in
+    let p1 = at-place in
     let p2 = p1 .before .before in
     let p3 = p2 .before .before .before .before in
     let p4 = p3 .before .before in
@@ -349,7 +397,8 @@ read-at-returns-6 t c =
 
 read-at-returns-7 : (t : ℕ) → read-at-lts.Need-returns-7 (read-at-claims t) (read-at-at t) read-at.Post
 read-at-returns-7 t c =
-    let p1 = c .before .before in
+    let at-place = c .before .before in
+    let p1 = at-place in
     let p2 = p1 .before .before in
     let p3 = p2 .before .before .before .before in
     let p4 = p3 .before .before in

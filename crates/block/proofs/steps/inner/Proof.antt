@@ -31,14 +31,18 @@ sub-t9 c = search needs
 
 returns : tie.Need-returns
 unfolding inside
-returns c = (
-  λ i. record {
-    traps = c .before .before .before .before .before .before .args .c .traps + c .before .before .before .before .before .one-if .ensures .0 i;
-    nested = c .before .before .before .before .before .before .args .c .nested + c .before .before .before .one-if2 .ensures .0 i;
-    scope = c .before .with-local .ensures i;
-  },
-  omega arith,
-)
+returns c =
+    let at-with-local = c .before in
+    let at-one-if2 = at-with-local .before .before in
+    let at-one-if = at-one-if2 .before .before in
+    let args = at-one-if .before .args in (
+      λ i. record {
+        traps = args .c .traps + at-one-if .one-if .ensures .0 i;
+        nested = args .c .nested + at-one-if2 .one-if2 .ensures .0 i;
+        scope = at-with-local .with-local .ensures i;
+      },
+      omega arith,
+    )
 
 pub inner-spec : {M : Type 1} → statement M
 inner-spec =

@@ -30,12 +30,16 @@ add-t10 c = omega (arith, c .before .one-if2 .ensures .1)
 
 returns : tie.Need-returns
 unfolding past
-returns c = λ i. record {
-  place = c .before .before .before .before .before .before .args .r .at + c .before .before .before .before .before .before .pre .0 i;
-  statements = c .before .before .before .before .before .before .args .r .statements + 1;
-  pauses = c .before .before .before .before .before .before .args .r .pauses + c .before .before .before .one-if .ensures .0 i;
-  locals = c .before .before .before .before .before .before .args .r .locals + c .before .one-if2 .ensures .0 i;
-}
+returns c =
+    let at-one-if2 = c .before in
+    let at-one-if = at-one-if2 .before .before in
+    let at-start = at-one-if .before .before .before in
+    λ i. record {
+      place = at-start .args .r .at + at-start .pre .0 i;
+      statements = at-start .args .r .statements + 1;
+      pauses = at-start .args .r .pauses + at-one-if .one-if .ensures .0 i;
+      locals = at-start .args .r .locals + at-one-if2 .one-if2 .ensures .0 i;
+    }
 
 pub passed-spec : {M : Type 1} → statement M
 passed-spec =

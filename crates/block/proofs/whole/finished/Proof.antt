@@ -16,7 +16,9 @@ returns : tie.Need-returns
 returns c = λ t h. end-bytes _ _ t _ (c .if1 .taken)
 
 returns-2 : tie.Need-returns-2
-returns-2 c = λ t h. end-locals _ _ t _ (c .before .before .before .if1 .left) (c .if2 .taken)
+returns-2 c =
+    let at-if1 = c .before .before .before in
+    λ t h. end-locals _ _ t _ (at-if1 .if1 .left) (c .if2 .taken)
 
 lowest-endless-requires : tie.Need-lowest-endless-requires
 lowest-endless-requires c κs = search needs
@@ -25,10 +27,15 @@ offset-of-requires : tie.Need-offset-of-requires
 offset-of-requires c κs = search needs
 
 returns-3 : tie.Need-returns-3
-returns-3 c = λ t h.
-    let n = found-some (lowest-endless t) _ _ (c .before .before .lowest-endless .ensures t h) (c .before .if3 .taken) in
-    end-loop _ _ t _ (c .before .before .before .before .before .before .if1 .left) (c .before .before .before .if2 .left) _ _ n
-    (c .offset-of .ensures t (tabled-listed t h) (omega (arith, c .before .if3 .taken, h .counted)))
+returns-3 c =
+    let at-if3 = c .before in
+    let at-lowest-endless = at-if3 .before in
+    let at-if2 = at-lowest-endless .before in
+    let at-if1 = at-if2 .before .before .before in
+    λ t h.
+    let n = found-some (lowest-endless t) _ _ (at-lowest-endless .lowest-endless .ensures t h) (at-if3 .if3 .taken) in
+    end-loop _ _ t _ (at-if1 .if1 .left) (at-if2 .if2 .left) _ _ n
+    (c .offset-of .ensures t (tabled-listed t h) (omega (arith, at-if3 .if3 .taken, h .counted)))
 
 returns-4 : tie.Need-returns-4
 returns-4 c =

@@ -41,13 +41,24 @@ add-at c =
     omega (arith, p2 .loop .inv .bound, p1 .loop-test .taken, p3 .pre, c .record-length .ensures, length-small (getD (now (p3 .args .kinds)) (p2 .loop .i) 0))
 
 add-i : tie.Need-add-i Inv-loop μ-loop
-add-i c = omega (arith, c .before .before .before .loop .inv .within, c .before .before .loop-test .taken, c .before .before .before .before .pre)
+add-i c =
+    let at-loop-test = c .before .before in
+    let at-loop = at-loop-test .before in
+    let at-start = at-loop .before in
+    omega (arith, at-loop .loop .inv .within, at-loop-test .loop-test .taken, at-start .pre)
 
 loop-less : tie.Need-loop-less Inv-loop μ-loop
-loop-less c = omega (arith, c .before .before .before .loop .inv .within, c .before .before .loop-test .taken, c .before .before .before .before .pre)
+loop-less c =
+    let at-loop-test = c .before .before in
+    let at-loop = at-loop-test .before in
+    let at-start = at-loop .before in
+    omega (arith, at-loop .loop .inv .within, at-loop-test .loop-test .taken, at-start .pre)
 
 loop-again : tie.Need-loop-again Inv-loop μ-loop
-loop-again c = summed-step (c .before .before .before .loop .inv) (c .before .before .loop-test .taken) (c .record-length .ensures)
+loop-again c =
+    let at-loop-test = c .before .before in
+    let at-loop = at-loop-test .before in
+    summed-step (at-loop .loop .inv) (at-loop-test .loop-test .taken) (c .record-length .ensures)
 
 returns : tie.Need-returns Inv-loop μ-loop
 returns c = λ t h l. ends (c .before .loop .inv) (c .loop-test .left) t h l

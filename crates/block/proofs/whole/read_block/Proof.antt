@@ -23,13 +23,24 @@ refusal-requires : tie.Need-refusal-requires
 refusal-requires c κs = search needs
 
 returns-2 : tie.Need-returns-2
-returns-2 c = bad-header _ (c .before .before .before .if1 .left) _ (c .before .before .header-fault .ensures) (c .before .if2 .taken) (c .refusal .ensures) (c .before .before .before .before .before .pre)
+returns-2 c =
+    let at-if2 = c .before in
+    let at-header-fault = at-if2 .before in
+    let at-if1 = at-header-fault .before in
+    let at-start = at-if1 .before .before in
+    bad-header _ (at-if1 .if1 .left) _ (at-header-fault .header-fault .ensures) (at-if2 .if2 .taken) (c .refusal .ensures) (at-start .pre)
 
 declared-requires : tie.Need-declared-requires
 declared-requires c κs = search needs
 
 read-at-requires : tie.Need-read-at-requires
-read-at-requires c κs = (ready-start _ (c .before .before .before .before .before .before .if1 .left) _ (c .before .before .before .declared .ensures) (sym (c .before .before .before .before .before .header-fault .ensures) ∙ c .before .before .before .before .if2 .left), c .before .before .before .before .before .before .before .before .pre)
+read-at-requires c κs =
+    let at-declared = c .before .before .before in
+    let at-if2 = at-declared .before in
+    let at-header-fault = at-if2 .before in
+    let at-if1 = at-header-fault .before in
+    let at-start = at-if1 .before .before in
+    (ready-start _ (at-if1 .if1 .left) _ (at-declared .declared .ensures) (sym (at-header-fault .header-fault .ensures) ∙ at-if2 .if2 .left), at-start .pre)
 
 enum-known-tree : tie.Need-enum-known-tree
 enum-known-tree c = search needs
@@ -41,13 +52,37 @@ enum-known-tree-2 : tie.Need-enum-known-tree-2
 enum-known-tree-2 c = search needs
 
 finished-requires : tie.Need-finished-requires
-finished-requires c κs = few-read _ (c .before .before .before .before .before .before .before .before .before .before .before .before .before .if1 .left) _ (c .before .before .before .before .before .before .before .before .before .before .declared .ensures) (sym (c .before .before .before .before .before .before .before .before .before .before .before .before .header-fault .ensures) ∙ c .before .before .before .before .before .before .before .before .before .before .before .if2 .left) (c .before .before .before .before .before .before .read-at .ensures) (c .before .before .before .before .tree2 .given .1)
+finished-requires c κs =
+    let at-tree2 = c .before .before .before .before in
+    let at-read-at = at-tree2 .before .before in
+    let at-declared = at-read-at .before .before .before .before in
+    let at-if2 = at-declared .before in
+    let at-header-fault = at-if2 .before in
+    let at-if1 = at-header-fault .before in
+    few-read _ (at-if1 .if1 .left) _ (at-declared .declared .ensures) (sym (at-header-fault .header-fault .ensures) ∙ at-if2 .if2 .left)
+    (at-read-at .read-at .ensures) (at-tree2 .tree2 .given .1)
 
 returns-3 : tie.Need-returns-3
-returns-3 c = tree-refused _ (c .before .before .before .before .before .before .before .before .before .before .before .if1 .left) _ (c .before .before .before .before .before .before .before .before .declared .ensures) (sym (c .before .before .before .before .before .before .before .before .before .before .header-fault .ensures) ∙ c .before .before .before .before .before .before .before .before .before .if2 .left) (c .before .before .before .before .read-at .ensures) (c .before .before .tree .given .1) (c .refusal2 .ensures)
+returns-3 c =
+    let at-tree = c .before .before in
+    let at-read-at = at-tree .before .before in
+    let at-declared = at-read-at .before .before .before .before in
+    let at-if2 = at-declared .before in
+    let at-header-fault = at-if2 .before in
+    let at-if1 = at-header-fault .before in
+    tree-refused _ (at-if1 .if1 .left) _ (at-declared .declared .ensures) (sym (at-header-fault .header-fault .ensures) ∙ at-if2 .if2 .left)
+    (at-read-at .read-at .ensures) (at-tree .tree .given .1) (c .refusal2 .ensures)
 
 returns-4 : tie.Need-returns-4
-returns-4 c = tree-ends _ (c .before .before .before .before .before .before .before .before .before .before .before .before .before .before .if1 .left) _ (c .before .before .before .before .before .before .before .before .before .before .before .declared .ensures) (sym (c .before .before .before .before .before .before .before .before .before .before .before .before .before .header-fault .ensures) ∙ c .before .before .before .before .before .before .before .before .before .before .before .before .if2 .left) (c .before .before .before .before .before .before .before .read-at .ensures) (c .before .before .before .before .before .tree2 .given .1) (c .finished .ensures)
+returns-4 c =
+    let at-tree2 = c .before .before .before .before .before in
+    let at-read-at = at-tree2 .before .before in
+    let at-declared = at-read-at .before .before .before .before in
+    let at-if2 = at-declared .before in
+    let at-header-fault = at-if2 .before in
+    let at-if1 = at-header-fault .before in
+    tree-ends _ (at-if1 .if1 .left) _ (at-declared .declared .ensures) (sym (at-header-fault .header-fault .ensures) ∙ at-if2 .if2 .left)
+    (at-read-at .read-at .ensures) (at-tree2 .tree2 .given .1) (c .finished .ensures)
 
 pub read-block-spec : {M : Type 1} → statement M
 read-block-spec =

@@ -34,12 +34,14 @@ returns c =
 
 round-of-requires : tie.Need-round-of-requires Inv-loop μ-loop
 round-of-requires c κs =
-    let p1 = c .before .before .before .before in
+    let at-place = c .before .before .before .before in
+    let p1 = at-place in
     p1 .pre
 
 add-rounds : tie.Need-add-rounds Inv-loop μ-loop
 add-rounds c =
-    let p1 = c .before .before .before in
+    let at-place = c .before .before .before in
+    let p1 = at-place in
     let p2 = p1 .before .before in
     omega (arith, p1 .loop-test .taken, p2 .pre .0)
 
@@ -52,7 +54,8 @@ returns-2 c =
 
 loop-less : tie.Need-loop-less Inv-loop μ-loop
 loop-less c =
-    let p1 = c .before .before .before .before .before in
+    let at-place = c .before .before .before .before .before in
+    let p1 = at-place in
     omega (arith, p1 .loop-test .taken)
 
 loop-again : tie.Need-loop-again Inv-loop μ-loop

@@ -20,7 +20,9 @@ returns c =
 
 returns-2 : tie.Need-returns-2
 returns-2 c =
-    let p1 = c .before .before .before in
+    let at-kept-for = c .before in
+    let at-place = at-kept-for .before .before in
+    let p1 = at-place in
     let p2 = p1 .before in
     let p3 = p2 .before in
     let p4 = p3 .before in
@@ -29,7 +31,7 @@ returns-2 c =
     is-known (lowest 18 (bits (p5 .args .last .codes))) (set-of (p5 .args .last .pauses)) (p1 .code-in .result .0)
     (the-code (p5 .args .last .codes) (p3 .legal-codes .result) (p3 .legal-codes .ensures) (p1 .code-in .result .0) (p1 .code-in .ensures (p2 .if1 .left)))
     (kept-answer (p1 .code-in .result .0) (set-of (p5 .args .last .pauses)) refl (outputs-stand z f refl refl (p4 .undecided-of .ensures) (p5 .args .end .rounds) refl) refl
-    (c .before .kept-for .ensures) (c .pause-count .ensures))
+    (at-kept-for .kept-for .ensures) (c .pause-count .ensures))
 
 pub answer-of-spec : {M : Type 1} → statement M
 answer-of-spec =

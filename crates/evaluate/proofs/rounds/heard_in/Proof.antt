@@ -9,7 +9,8 @@ use Rattle.evaluate.proofs.rounds.heard_in.Tie as tie
 
 returns : tie.Need-returns
 returns c =
-    let p1 = c .before .before .before .before in
+    let at-place = c .before .before .before .before in
+    let p1 = at-place in
     let p2 = p1 .before in
     λ b n z f. heard-event b (p1 .below .result) (p2 .args .given) (p2 .args .marks) (λ k. p1 .below .ensures k ∙ ap (ltb k) (sym (z .its-inputs))) (fine-block z f)
 

@@ -15,7 +15,8 @@ returns c =
 
 returns-2 : tie.Need-returns-2
 returns-2 c =
-    let p1 = c .before .before .before in
+    let at-place = c .before .before .before in
+    let p1 = at-place in
     sym (ap (λ (x : Bool). x && eqb (p1 .args .a .absent) (p1 .args .b .absent)) (ne-eqb (p1 .args .a .present) (p1 .args .b .present) (c .if1 .left)))
 
 pub same-marks-spec : {M : Type 1} → statement M

@@ -25,7 +25,12 @@ loop-holds : tie.Need-loop-holds Inv-loop μ-loop
 loop-holds c = (search needs, refl, refl)
 
 mul-put-number : tie.Need-mul-put-number Inv-loop μ-loop
-mul-put-number c = let t = c .before .loop-test .taken in let l = c .before .before .loop in let h : 8 * l .i + 8 ≤ length (now (c .before .before .before .before .before .args .answer)) = omega (arith, t, c .before .before .before .before .before .pre) in search needs
+mul-put-number c =
+    let at-loop-test = c .before in
+    let at-loop = at-loop-test .before in
+    let at-start = at-loop .before .before .before in
+    let t = at-loop-test .loop-test .taken in let l = at-loop .loop in let h : 8 * l .i + 8 ≤ length (now (at-start .args .answer)) = omega
+    (arith, t, at-start .pre) in search needs
 
 mul-put-number-2 : tie.Need-mul-put-number-2 Inv-loop μ-loop
 mul-put-number-2 c = search needs
@@ -34,7 +39,11 @@ shared-slice-read-put-number : tie.Need-shared-slice-read-put-number Inv-loop μ
 shared-slice-read-put-number c = search needs
 
 put-number-requires : tie.Need-put-number-requires Inv-loop μ-loop
-put-number-requires c κs = let t = c .before .before .loop-test .taken in omega (arith, t, c .before .before .before .before .before .before .pre, c .before .before .before .loop .inv .1)
+put-number-requires c κs =
+    let at-loop-test = c .before .before in
+    let at-loop = at-loop-test .before in
+    let at-start = at-loop .before .before .before in
+    let t = at-loop-test .loop-test .taken in omega (arith, t, at-start .pre, at-loop .loop .inv .1)
 
 add-i : tie.Need-add-i Inv-loop μ-loop
 add-i c = search needs
@@ -44,14 +53,21 @@ loop-less c = search needs
 
 loop-again : tie.Need-loop-again Inv-loop μ-loop
 loop-again c =
-    let a = c .before .before .before .before .before .before .before .before .before .args in let l = c .before .before .before .before .before .before .loop in
-    (search needs, search needs, one-stored (now (a .values)) (l .answer) (l .i) (c .before .before .before .before .before .loop-test .taken) (c .before .before .put-number .ensures) ∙ l .inv .2)
+    let at-put-number = c .before .before in
+    let at-loop-test = at-put-number .before .before .before in
+    let at-loop = at-loop-test .before in
+    let args = at-loop .before .before .before .args in
+    let a = args in let l = at-loop .loop in
+    (search needs, search needs, one-stored (now (a .values)) (l .answer) (l .i) (at-loop-test .loop-test .taken) (at-put-number .put-number .ensures) ∙ l .inv .2)
 
 same-length : tie.Need-same-length Inv-loop μ-loop
 same-length c = search needs
 
 returns : tie.Need-returns Inv-loop μ-loop
-returns c = let a = c .before .before .before .before .args in let l = c .before .loop in sym (all-stored (now (a .values)) (l .answer) (l .i) (c .loop-test .left)) ∙ l .inv .2
+returns c =
+    let at-loop = c .before in
+    let args = at-loop .before .before .before .args in
+    let a = args in let l = at-loop .loop in sym (all-stored (now (a .values)) (l .answer) (l .i) (c .loop-test .left)) ∙ l .inv .2
 
 pub put-values-spec : {M : Type 1} → statement M
 put-values-spec =

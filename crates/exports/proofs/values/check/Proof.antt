@@ -42,11 +42,17 @@ cast-t14 c = search needs
 
 returns : tie.Need-returns
 unfolding check-values
-returns c = ap check-values (sym (c .before .before .before .before .before .before .checked .given .1)) ∙ c .before .before .before .before .before .before .before .before .check .ensures
+returns c =
+    let at-checked = c .before .before .before .before .before .before in
+    let at-check = at-checked .before .before in
+    ap check-values (sym (at-checked .checked .given .1)) ∙ at-check .check .ensures
 
 returns-2 : tie.Need-returns-2
 unfolding check-values
-returns-2 c = with-number _ (c .number-of .ensures) ∙ ap check-values (sym (c .before .before .checked2 .given .1)) ∙ c .before .before .before .before .check .ensures
+returns-2 c =
+    let at-checked2 = c .before .before in
+    let at-check = at-checked2 .before .before in
+    with-number _ (c .number-of .ensures) ∙ ap check-values (sym (at-checked2 .checked2 .given .1)) ∙ at-check .check .ensures
 
 pub check-spec : {M : Type 1} → statement M
 check-spec =

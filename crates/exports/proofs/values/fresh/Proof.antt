@@ -30,14 +30,19 @@ same-length c = search needs
 
 returns : tie.Need-returns
 unfolding begun-values
-returns c = (ap begun-values (sym (c .enum-told .given .1)) ∙ c .before .before .before .before .fresh .ensures .0, c .before .before .before .before .fresh .ensures .1)
+returns c =
+    let at-fresh = c .before .before .before .before in
+    (ap begun-values (sym (c .enum-told .given .1)) ∙ at-fresh .fresh .ensures .0, at-fresh .fresh .ensures .1)
 
 same-length-2 : tie.Need-same-length-2
 same-length-2 c = search needs
 
 returns-2 : tie.Need-returns-2
 unfolding begun-values
-returns-2 c = (with-number _ (c .number-of .ensures) ∙ ap begun-values (sym (c .before .before .begun .given .1)) ∙ c .before .before .before .before .before .before .fresh .ensures .0, c .before .before .before .before .before .before .fresh .ensures .1)
+returns-2 c =
+    let at-begun = c .before .before in
+    let at-fresh = at-begun .before .before .before .before in
+    (with-number _ (c .number-of .ensures) ∙ ap begun-values (sym (at-begun .begun .given .1)) ∙ at-fresh .fresh .ensures .0, at-fresh .fresh .ensures .1)
 
 pub fresh-spec : {M : Type 1} → statement M
 fresh-spec =

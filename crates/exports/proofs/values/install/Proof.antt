@@ -18,7 +18,9 @@ same-length : tie.Need-same-length
 same-length c = search needs
 
 returns : tie.Need-returns
-returns c = (c .shelved .ensures ∙ c .before .before .before .install .ensures .0, c .before .before .before .install .ensures .1)
+returns c =
+    let at-install = c .before .before .before in
+    (c .shelved .ensures ∙ at-install .install .ensures .0, at-install .install .ensures .1)
 
 pub install-spec : {M : Type 1} → statement M
 install-spec = tie.close (tie.spec install-requires shelved-requires same-length returns)

@@ -20,7 +20,9 @@ same-length : tie.Need-same-length
 same-length c = search needs
 
 returns : tie.Need-returns
-returns c = (c .told-values .ensures ∙ ap (λ (t : Told). logged-values t 0) (c .before .before .before .instant .ensures .0), c .before .before .before .instant .ensures .1)
+returns c =
+    let at-instant = c .before .before .before in
+    (c .told-values .ensures ∙ ap (λ (t : Told). logged-values t 0) (at-instant .instant .ensures .0), at-instant .instant .ensures .1)
 
 pub instant-spec : {M : Type 1} → statement M
 instant-spec = tie.close (tie.spec instant-requires told-values-requires same-length returns)

@@ -20,7 +20,9 @@ same-length : tie.Need-same-length
 same-length c = search needs
 
 returns : tie.Need-returns
-returns c = (c .told-values .ensures ∙ ap (λ (t : Told). logged-values t 0) (c .before .before .before .instant-heard .ensures .0), c .before .before .before .instant-heard .ensures .1)
+returns c =
+    let at-instant-heard = c .before .before .before in
+    (c .told-values .ensures ∙ ap (λ (t : Told). logged-values t 0) (at-instant-heard .instant-heard .ensures .0), at-instant-heard .instant-heard .ensures .1)
 
 pub instant-heard-spec : {M : Type 1} → statement M
 instant-heard-spec = tie.close (tie.spec instant-heard-requires told-values-requires same-length returns)

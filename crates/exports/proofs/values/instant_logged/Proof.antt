@@ -22,7 +22,9 @@ same-length-2 : tie.Need-same-length-2
 same-length-2 c = search needs
 
 returns : tie.Need-returns
-returns c = let l = c .before .before .before .before .before .instant-logged .ensures in (c .told-values .ensures ∙ ap₂ logged-values (l .0) (l .1 .0), (l .1 .1 .0, l .1 .1 .1))
+returns c =
+    let at-instant-logged = c .before .before .before .before .before in
+    let l = at-instant-logged .instant-logged .ensures in (c .told-values .ensures ∙ ap₂ logged-values (l .0) (l .1 .0), (l .1 .1 .0, l .1 .1 .1))
 
 pub instant-logged-spec : {M : Type 1} → statement M
 instant-logged-spec =

@@ -52,19 +52,31 @@ cast-t19 c = search needs
 
 returns : tie.Need-returns
 unfolding instant-told
-returns c = ap (λ (x : Instant). logged-values (instant-told x) (c .before .before .before .before .before .before .args .end)) (sym (c .before .before .before .before .answer .given .1))
+returns c =
+    let at-answer = c .before .before .before .before in
+    let args = at-answer .before .before .args in
+    ap (λ (x : Instant). logged-values (instant-told x) (args .end)) (sym (at-answer .answer .given .1))
 
 returns-2 : tie.Need-returns-2
 unfolding instant-told
-returns-2 c = ap (λ (x : Instant). logged-values (instant-told x) (c .before .before .before .before .before .args .end)) (sym (c .before .before .before .answer2 .given .1))
+returns-2 c =
+    let at-answer2 = c .before .before .before in
+    let args = at-answer2 .before .before .args in
+    ap (λ (x : Instant). logged-values (instant-told x) (args .end)) (sym (at-answer2 .answer2 .given .1))
 
 returns-3 : tie.Need-returns-3
 unfolding instant-told
-returns-3 c = ap (λ (x : Instant). logged-values (instant-told x) (c .before .before .before .args .end)) (sym (c .before .answer3 .given .1))
+returns-3 c =
+    let at-answer3 = c .before in
+    let args = at-answer3 .before .before .args in
+    ap (λ (x : Instant). logged-values (instant-told x) (args .end)) (sym (at-answer3 .answer3 .given .1))
 
 returns-4 : tie.Need-returns-4
 unfolding instant-told
-returns-4 c = with-number _ (c .number-of .ensures) ∙ ap (λ (x : Instant). logged-values (instant-told x) (c .before .before .before .before .args .end)) (sym (c .before .before .answer4 .given .1))
+returns-4 c =
+    let at-answer4 = c .before .before in
+    let args = at-answer4 .before .before .args in
+    with-number _ (c .number-of .ensures) ∙ ap (λ (x : Instant). logged-values (instant-told x) (args .end)) (sym (at-answer4 .answer4 .given .1))
 
 pub told-values-spec : {M : Type 1} → statement M
 told-values-spec =

@@ -18,7 +18,9 @@ same-length : tie.Need-same-length
 same-length c = search needs
 
 returns : tie.Need-returns
-returns c = (c .shelved .ensures ∙ c .before .before .before .withdraw .ensures .0, c .before .before .before .withdraw .ensures .1)
+returns c =
+    let at-withdraw = c .before .before .before in
+    (c .shelved .ensures ∙ at-withdraw .withdraw .ensures .0, at-withdraw .withdraw .ensures .1)
 
 pub withdraw-spec : {M : Type 1} → statement M
 withdraw-spec = tie.close (tie.spec withdraw-requires shelved-requires same-length returns)

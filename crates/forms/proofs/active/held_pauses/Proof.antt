@@ -21,18 +21,21 @@ abbrev μ-loop : tie.MeasureT-loop
 
 loop-holds : tie.Need-loop-holds Inv-loop μ-loop
 loop-holds c =
-    let p1 = c .before .before .before in
+    let at-place = c .before .before .before in
+    let p1 = at-place in
     (omega arith, c .no-pause .ensures ∙ rows-none (table-of (p1 .args .kinds .now) (p1 .args .operands .now) (p1 .args .sizes .now)) (p1 .args .at) (set-of (p1 .args .set)))
 
 add-held-row : tie.Need-add-held-row Inv-loop μ-loop
 add-held-row c =
-    let p1 = c .before .before .before in
+    let at-place = c .before .before .before in
+    let p1 = at-place in
     let p2 = p1 .before .before in
     omega (arith, c .loop-test .taken, row (p2 .pre .tree) (p2 .pre .there .has) .its-size, p2 .pre .there .room, p1 .wide .ensures .0)
 
 held-row-requires : tie.Need-held-row-requires Inv-loop μ-loop
 held-row-requires c κs =
-    let p1 = c .before .before .before in
+    let at-place = c .before .before .before in
+    let p1 = at-place in
     let p2 = p1 .before .before in
     omega (arith, c .loop-test .taken, row (p2 .pre .tree) (p2 .pre .there .has) .its-size, p2 .pre .there .room, p1 .wide .ensures .0)
 
@@ -54,12 +57,14 @@ loop-again c =
 
 returns : tie.Need-returns Inv-loop μ-loop
 returns c =
-    let p1 = c .before .before .before in
+    let at-loop = c .before in
+    let at-place = at-loop .before .before in
+    let p1 = at-place in
     let p2 = p1 .before .before in
     λ t a.
-    c .before .loop .inv .1
-    ∙ rows-all (table-of (p2 .args .kinds .now) (p2 .args .operands .now) (p2 .args .sizes .now)) (p2 .args .at) (c .before .loop .n) (set-of (p2 .args .set)) t a
-    (both-ways (c .before .loop .inv .0) (c .loop-test .left) ∙ p1 .wide .ensures .0)
+    at-loop .loop .inv .1
+    ∙ rows-all (table-of (p2 .args .kinds .now) (p2 .args .operands .now) (p2 .args .sizes .now)) (p2 .args .at) (at-loop .loop .n) (set-of (p2 .args .set)) t a
+    (both-ways (at-loop .loop .inv .0) (c .loop-test .left) ∙ p1 .wide .ensures .0)
 
 pub held-pauses-spec : {M : Type 1} → statement M
 held-pauses-spec =

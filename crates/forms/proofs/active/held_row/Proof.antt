@@ -16,9 +16,11 @@ returns c =
 
 returns-2 : tie.Need-returns-2
 returns-2 c =
-    let p1 = c .before .before .before in
+    let at-if1 = c .before in
+    let at-place = at-if1 .before .before in
+    let p1 = at-place in
     λ sizes.
-    c .no-pause .ensures ∙ row-none (table-of (p1 .args .kinds .now) (p1 .args .operands .now) sizes) (p1 .args .at) (set-of (p1 .args .set)) (c .before .if1 .left)
+    c .no-pause .ensures ∙ row-none (table-of (p1 .args .kinds .now) (p1 .args .operands .now) sizes) (p1 .args .at) (set-of (p1 .args .set)) (at-if1 .if1 .left)
 
 pub held-row-spec : {M : Type 1} → statement M
 held-row-spec =

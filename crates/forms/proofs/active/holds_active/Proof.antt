@@ -16,13 +16,17 @@ returns-none c = λ l t a.
     none-active l t a (w .before .before .if1 .left) (omega (arith, w .wide .ensures .0, c .if2 .taken))
 
 returns-two : tie.Need-returns-3
-returns-two c = λ l t a.
-    let s = c .before .before .before in
+returns-two c =
+    let at-live-at2 = c .before in
+    let at-if3 = at-live-at2 .before in
+    let at-place = at-if3 .before in
+    λ l t a.
+    let s = at-place in
     let m = s .before .before in
     let w = m .before in
     c .or .ensures
     ∙ two-active l t a (w .before .before .if1 .left) (omega (arith, w .wide .ensures .0, m .if2 .left)) (s .second-at .ensures .0) (s .before .live-at .ensures)
-    (omega (arith, w .wide .ensures .0, c .before .before .if3 .taken)) (c .before .live-at2 .ensures)
+    (omega (arith, w .wide .ensures .0, at-if3 .if3 .taken)) (at-live-at2 .live-at2 .ensures)
 
 returns-one : tie.Need-returns-4
 returns-one c = λ l t a.

@@ -11,7 +11,9 @@ use Rattle.forms.proofs.form.resumed_form.Tie as tie
 
 -- Where the arms begin, and where the function does.
 abbrev start : tie.After-live-at2 → tie.Start
-start p = p .before .before .before .before .before
+start p =
+    let at-place = p .before .before .before .before .before in
+    at-place
 
 returns-present : tie.Need-returns
 returns-present c =
@@ -31,9 +33,12 @@ returns-second c =
 
 returns-parallel : tie.Need-returns-6
 returns-parallel c =
-    let p = c .before .before .before in
-    formed (resumed-formed (start p .pre) (p .before .before .second-at .ensures .0) (p .before .live-at .ensures) (p .live-at2 .ensures) 23 (c .before .before .match .keys5))
-    (ap₂ Beside (sym (c .before .arm .ensures)) (sym (c .arm2 .ensures)))
+    let at-arm = c .before in
+    let at-match = at-arm .before in
+    let at-place = at-match .before in
+    let p = at-place in
+    formed (resumed-formed (start p .pre) (p .before .before .second-at .ensures .0) (p .before .live-at .ensures) (p .live-at2 .ensures) 23 (at-match .match .keys5))
+    (ap₂ Beside (sym (at-arm .arm .ensures)) (sym (c .arm2 .ensures)))
 
 returns-rest : tie.Need-returns-9
 unfolding step-of form-for

@@ -10,7 +10,9 @@ use Rattle.forms.proofs.form.started_form.Tie as tie
 
 -- Where the arms begin, and where the function does.
 abbrev start : tie.After-second-at → tie.Start
-start p = p .before .before .before
+start p =
+    let at-place = p .before .before .before in
+    at-place
 
 returns-rest : tie.Need-returns-12
 unfolding step-of

@@ -26,10 +26,17 @@ at-inputs-requires : tie.Need-at-inputs-requires
 at-inputs-requires c κs = search needs
 
 returns : tie.Need-returns
-returns c = λ xs g o h st b. pair-way o st _ b (c .before .before .found .given .1) (c .before .before .before .before .first-clash .ensures (g .body) (searchable o _ h)) (c .stopped .ensures)
+returns c =
+    let at-found = c .before .before in
+    let at-first-clash = at-found .before .before in
+    λ xs g o h st b. pair-way o st _ b (at-found .found .given .1) (at-first-clash .first-clash .ensures (g .body) (searchable o _ h)) (c .stopped .ensures)
 
 returns-2 : tie.Need-returns-2
-returns-2 c = λ xs g o h st b. clear-way o st _ b (c .before .enum-told .given .1) (c .before .before .before .first-clash .ensures (g .body) (searchable o _ h)) (c .at-inputs .ensures _ g o st b)
+returns-2 c =
+    let at-enum-told = c .before in
+    let at-first-clash = at-enum-told .before .before in
+    λ xs g o h st b. clear-way o st _ b (at-enum-told .enum-told .given .1) (at-first-clash .first-clash .ensures (g .body) (searchable o _ h))
+    (c .at-inputs .ensures _ g o st b)
 
 pub at-clash-spec : {M : Type 1} → statement M
 at-clash-spec =

@@ -16,7 +16,11 @@ stopped-requires : tie.Need-stopped-requires
 stopped-requires c κs = search needs
 
 returns : tie.Need-returns
-returns c = λ tab g o st b. input-way o st (c .before .before .before .args .given) (c .before .before .wrong-inputs .ensures) (c .before .if1 .taken) (c .stopped .ensures)
+returns c =
+    let at-if1 = c .before in
+    let at-wrong-inputs = at-if1 .before in
+    let args = at-wrong-inputs .before .args in
+    λ tab g o st b. input-way o st (args .given) (at-wrong-inputs .wrong-inputs .ensures) (at-if1 .if1 .taken) (c .stopped .ensures)
 
 returns-2 : tie.Need-returns-2
 returns-2 c = λ tab g o st b. passed-way o st (c .before .before .args .given) (c .before .wrong-inputs .ensures) (c .if1 .left) b

@@ -14,28 +14,85 @@ read-state-requires : tie.Need-read-state-requires
 read-state-requires c κs = search needs
 
 at-names-requires : tie.Need-at-names-requires
-at-names-requires c κs = (c .before .before .before .before .pre .0, c .before .before .before .before .pre .1, c .before .before .before .before .pre .2, took-fresh (c .before .before .before .before .pre .2) (c .before .before .before .before .args .state .now) (record { byte = λ i. c .before .before .before .shared-slice-known .given i .fits }) _ (c .before .before .read-state .ensures) (c .match .keys1) .in-block)
+at-names-requires c κs =
+    let at-read-state = c .before .before in
+    let at-shared-slice-known = at-read-state .before in
+    let at-start = at-shared-slice-known .before in (
+      at-start .pre .0,
+      at-start .pre .1,
+      at-start .pre .2,
+      took-fresh (at-start .pre .2) (at-start .args .state .now)
+          (record { byte = λ i. at-shared-slice-known .shared-slice-known .given i .fits }) _ (at-read-state .read-state .ensures) (c .match .keys1) .in-block,
+    )
 
 at-names-requires-2 : tie.Need-at-names-requires-2
-at-names-requires-2 c κs = (c .before .before .before .before .pre .0, c .before .before .before .before .pre .1, c .before .before .before .before .pre .2, took-running (c .before .before .before .before .pre .2) (c .before .before .before .before .args .state .now) (record { byte = λ i. c .before .before .before .shared-slice-known .given i .fits }) _ (c .before .before .read-state .ensures) (c .match .keys2) .in-block)
+at-names-requires-2 c κs =
+    let at-read-state = c .before .before in
+    let at-shared-slice-known = at-read-state .before in
+    let at-start = at-shared-slice-known .before in (
+      at-start .pre .0,
+      at-start .pre .1,
+      at-start .pre .2,
+      took-running (at-start .pre .2) (at-start .args .state .now)
+          (record { byte = λ i. at-shared-slice-known .shared-slice-known .given i .fits }) _ (at-read-state .read-state .ensures) (c .match .keys2) .in-block,
+    )
 
 at-names-requires-3 : tie.Need-at-names-requires-3
-at-names-requires-3 c κs = (c .before .before .before .before .pre .0, c .before .before .before .before .pre .1, c .before .before .before .before .pre .2, took-finished (c .before .before .before .before .pre .2) (c .before .before .before .before .args .state .now) (record { byte = λ i. c .before .before .before .shared-slice-known .given i .fits }) _ (c .before .before .read-state .ensures) (c .match .keys3) .in-block)
+at-names-requires-3 c κs =
+    let at-read-state = c .before .before in
+    let at-shared-slice-known = at-read-state .before in
+    let at-start = at-shared-slice-known .before in (
+      at-start .pre .0,
+      at-start .pre .1,
+      at-start .pre .2,
+      took-finished (at-start .pre .2) (at-start .args .state .now)
+          (record { byte = λ i. at-shared-slice-known .shared-slice-known .given i .fits }) _ (at-read-state .read-state .ensures) (c .match .keys3) .in-block,
+    )
 
 stopped-requires : tie.Need-stopped-requires
 stopped-requires c κs = search needs
 
 returns : tie.Need-returns
-returns c = λ xs g o. let t = took-fresh o (c .before .before .before .before .before .args .state .now) (record { byte = λ i. c .before .before .before .before .shared-slice-known .given i .fits }) _ (c .before .before .before .read-state .ensures) (c .before .match .keys1) in state-way o (c .before .before .before .before .before .args .state .now) (record { byte = λ i. c .before .before .before .before .shared-slice-known .given i .fits }) _ (c .before .before .before .read-state .ensures) _ t (c .at-names .ensures xs g o (t .in-block) (t .st) (t .begins))
+returns c =
+    let at-match = c .before in
+    let at-read-state = at-match .before .before in
+    let at-shared-slice-known = at-read-state .before in
+    let args = at-shared-slice-known .before .args in
+    λ xs g o. let t = took-fresh o (args .state .now) (record { byte = λ i. at-shared-slice-known .shared-slice-known .given i .fits }) _
+    (at-read-state .read-state .ensures) (at-match .match .keys1) in state-way o (args .state .now)
+    (record { byte = λ i. at-shared-slice-known .shared-slice-known .given i .fits }) _ (at-read-state .read-state .ensures) _ t
+    (c .at-names .ensures xs g o (t .in-block) (t .st) (t .begins))
 
 returns-2 : tie.Need-returns-2
-returns-2 c = λ xs g o. let t = took-running o (c .before .before .before .before .before .args .state .now) (record { byte = λ i. c .before .before .before .before .shared-slice-known .given i .fits }) _ (c .before .before .before .read-state .ensures) (c .before .match .keys2) in state-way o (c .before .before .before .before .before .args .state .now) (record { byte = λ i. c .before .before .before .before .shared-slice-known .given i .fits }) _ (c .before .before .before .read-state .ensures) _ t (c .at-names2 .ensures xs g o (t .in-block) (t .st) (t .begins))
+returns-2 c =
+    let at-match = c .before in
+    let at-read-state = at-match .before .before in
+    let at-shared-slice-known = at-read-state .before in
+    let args = at-shared-slice-known .before .args in
+    λ xs g o. let t = took-running o (args .state .now) (record { byte = λ i. at-shared-slice-known .shared-slice-known .given i .fits }) _
+    (at-read-state .read-state .ensures) (at-match .match .keys2) in state-way o (args .state .now)
+    (record { byte = λ i. at-shared-slice-known .shared-slice-known .given i .fits }) _ (at-read-state .read-state .ensures) _ t
+    (c .at-names2 .ensures xs g o (t .in-block) (t .st) (t .begins))
 
 returns-3 : tie.Need-returns-3
-returns-3 c = λ xs g o. let t = took-finished o (c .before .before .before .before .before .args .state .now) (record { byte = λ i. c .before .before .before .before .shared-slice-known .given i .fits }) _ (c .before .before .before .read-state .ensures) (c .before .match .keys3) in state-way o (c .before .before .before .before .before .args .state .now) (record { byte = λ i. c .before .before .before .before .shared-slice-known .given i .fits }) _ (c .before .before .before .read-state .ensures) _ t (c .at-names3 .ensures xs g o (t .in-block) (t .st) (t .begins))
+returns-3 c =
+    let at-match = c .before in
+    let at-read-state = at-match .before .before in
+    let at-shared-slice-known = at-read-state .before in
+    let args = at-shared-slice-known .before .args in
+    λ xs g o. let t = took-finished o (args .state .now) (record { byte = λ i. at-shared-slice-known .shared-slice-known .given i .fits }) _
+    (at-read-state .read-state .ensures) (at-match .match .keys3) in state-way o (args .state .now)
+    (record { byte = λ i. at-shared-slice-known .shared-slice-known .given i .fits }) _ (at-read-state .read-state .ensures) _ t
+    (c .at-names3 .ensures xs g o (t .in-block) (t .st) (t .begins))
 
 returns-4 : tie.Need-returns-4
-returns-4 c = λ xs g o. no-state-way o (c .before .before .before .before .before .args .state .now) (record { byte = λ i. c .before .before .before .before .shared-slice-known .given i .fits }) _ (c .before .before .before .read-state .ensures) _ (c .before .match .rest .0 .0 .1) (c .before .match .rest .0 .1) (c .before .match .rest .1) (c .stopped .ensures)
+returns-4 c =
+    let at-match = c .before in
+    let at-read-state = at-match .before .before in
+    let at-shared-slice-known = at-read-state .before in
+    let args = at-shared-slice-known .before .args in
+    λ xs g o. no-state-way o (args .state .now) (record { byte = λ i. at-shared-slice-known .shared-slice-known .given i .fits }) _
+    (at-read-state .read-state .ensures) _ (at-match .match .rest .0 .0 .1) (at-match .match .rest .0 .1) (at-match .match .rest .1) (c .stopped .ensures)
 
 pub at-state-spec : {M : Type 1} → statement M
 at-state-spec =

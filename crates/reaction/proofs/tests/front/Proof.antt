@@ -23,13 +23,30 @@ enum-known-checked-2 : tie.Need-enum-known-checked-2
 enum-known-checked-2 c = search needs
 
 at-state-requires : tie.Need-at-state-requires
-at-state-requires c κs = let r = block-reads _ (c .before .before .before .before .before .read-block .ensures) (c .before .before .before .checked2 .given .1) in (_, r .0, r .1)
+at-state-requires c κs =
+    let at-checked2 = c .before .before .before in
+    let at-read-block = at-checked2 .before .before in
+    let r = block-reads _ (at-read-block .read-block .ensures) (at-checked2 .checked2 .given .1) in (_, r .0, r .1)
 
 returns : tie.Need-returns
-returns c = record { meets = block-fails _ (c .before .before .before .before .read-block .ensures) _ _ (c .before .before .checked .given .1) (c .stopped .ensures); full = c .before .before .before .before .read-block .ensures .full }
+returns c =
+    let at-checked = c .before .before in
+    let at-read-block = at-checked .before .before in
+    record {
+      meets = block-fails _ (at-read-block .read-block .ensures) _ _ (at-checked .checked .given .1) (c .stopped .ensures);
+      full =
+          at-read-block .read-block .ensures .full;
+    }
 
 returns-2 : tie.Need-returns-2
-returns-2 c = let r = block-reads _ (c .before .before .before .before .before .before .read-block .ensures) (c .before .before .before .before .checked2 .given .1) in record { meets = block-way _ (c .before .before .before .before .before .before .read-block .ensures) _ _ (r .2) (c .at-state .ensures _ (r .0) (r .1)); full = c .before .before .before .before .before .before .read-block .ensures .full }
+returns-2 c =
+    let at-checked2 = c .before .before .before .before in
+    let at-read-block = at-checked2 .before .before in
+    let r = block-reads _ (at-read-block .read-block .ensures) (at-checked2 .checked2 .given .1) in record {
+      meets = block-way _ (at-read-block .read-block .ensures) _ _ (r .2) (c .at-state .ensures _ (r .0) (r .1));
+      full =
+          at-read-block .read-block .ensures .full;
+    }
 
 pub front-spec : {M : Type 1} → statement M
 front-spec =

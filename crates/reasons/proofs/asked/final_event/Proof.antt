@@ -14,7 +14,11 @@ below-requires : tie.Need-below-requires
 below-requires c κs = search needs
 
 returns : tie.Need-returns
-returns c = λ b outs e p q. final-is b outs (c .before .before .below .result) (c .before .before .before .args .shown) (c .before .before .before .args .gone) (c .before .before .before .args .given) (λ k. c .before .before .below .ensures k ∙ ap (ltb k) (sym e)) p q
+returns c =
+    let at-below = c .before .before in
+    let args = at-below .before .args in
+    λ b outs e p q. final-is b outs (at-below .below .result) (args .shown) (args .gone) (args .given) (λ k. at-below .below .ensures k ∙ ap (ltb k) (sym e)) p
+    q
 
 pub final-event-spec : {M : Type 1} → statement M
 final-event-spec = tie.close (tie.spec below-requires returns)

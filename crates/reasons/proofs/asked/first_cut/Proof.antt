@@ -14,7 +14,10 @@ root-requires : tie.Need-root-requires
 root-requires c κs = search needs
 
 taken-requires : tie.Need-taken-requires
-taken-requires c κs = root-placed (c .before .before .root .ensures) (c .before .before .before .before .pre)
+taken-requires c κs =
+    let at-root = c .before .before in
+    let at-start = at-root .before .before in
+    root-placed (at-root .root .ensures) (at-start .pre)
 
 element-copy-out-wide : tie.Need-element-copy-out-wide
 element-copy-out-wide c = search needs
@@ -23,16 +26,41 @@ wide-requires : tie.Need-wide-requires
 wide-requires c κs = search needs
 
 is-open-emit-requires : tie.Need-is-open-emit-requires
-is-open-emit-requires c κs = count-fits (c .before .before .before .before .before .before .before .before .pre) (c .before .wide .ensures .0)
+is-open-emit-requires c κs =
+    let at-wide = c .before in
+    let at-start = at-wide .before .before .before .before .before .before .before in
+    count-fits (at-start .pre) (at-wide .wide .ensures .0)
 
 lowest-cut-requires : tie.Need-lowest-cut-requires
-lowest-cut-requires c κs = count-fits (c .before .before .before .before .before .before .before .before .before .before .before .pre) (c .before .before .before .before .wide .ensures .0)
+lowest-cut-requires c κs =
+    let at-wide = c .before .before .before .before in
+    let at-start = at-wide .before .before .before .before .before .before .before in
+    count-fits (at-start .pre) (at-wide .wide .ensures .0)
 
 returns : tie.Need-returns
-returns c = λ body a. cut-so (c .before .before .if1 .taken) (c .before .before .before .is-open-emit .ensures ∙ open-told (c .before .before .before .before .before .before .before .before .before .before .before .before .args .phase) (set-of (c .before .before .before .before .before .before .before .before .before .before .before .before .args .set)) (c .before .before .before .before .before .before .before .before .before .before .root .ensures) (c .before .before .before .before .before .before .before .taken .ensures) (c .before .before .before .before .before .before .before .before .before .before .before .actives .ensures) body a (c .before .before .before .before .before .wide .ensures .0) (c .before .before .before .before .before .before .before .before .before .before .before .before .args .n)) (c .lowest-cut .ensures) (cut-told (c .before .before .before .before .before .before .before .before .before .before .before .before .args .phase) (set-of (c .before .before .before .before .before .before .before .before .before .before .before .before .args .set)) (c .before .before .before .before .before .before .before .before .before .before .root .ensures) (c .before .before .before .before .before .before .before .taken .ensures) (c .before .before .before .before .before .before .before .before .before .before .before .actives .ensures) body a (c .before .before .before .before .before .wide .ensures .0) (c .before .before .before .before .before .before .before .before .before .before .before .before .args .n))
+returns c =
+    let at-if1 = c .before .before in
+    let at-is-open-emit = at-if1 .before in
+    let at-wide = at-is-open-emit .before .before in
+    let at-taken = at-wide .before .before in
+    let at-root = at-taken .before .before .before in
+    let at-actives = at-root .before in
+    let args = at-actives .before .args in
+    λ body a. cut-so (at-if1 .if1 .taken) (at-is-open-emit .is-open-emit .ensures ∙ open-told (args .phase) (set-of (args .set)) (at-root .root .ensures)
+    (at-taken .taken .ensures) (at-actives .actives .ensures) body a (at-wide .wide .ensures .0) (args .n)) (c .lowest-cut .ensures)
+    (cut-told (args .phase) (set-of (args .set)) (at-root .root .ensures) (at-taken .taken .ensures) (at-actives .actives .ensures) body a
+    (at-wide .wide .ensures .0) (args .n))
 
 returns-2 : tie.Need-returns-2
-returns-2 c = λ body a. cut-not _ (c .if1 .left) (c .before .is-open-emit .ensures ∙ open-told (c .before .before .before .before .before .before .before .before .before .before .args .phase) (set-of (c .before .before .before .before .before .before .before .before .before .before .args .set)) (c .before .before .before .before .before .before .before .before .root .ensures) (c .before .before .before .before .before .taken .ensures) (c .before .before .before .before .before .before .before .before .before .actives .ensures) body a (c .before .before .before .wide .ensures .0) (c .before .before .before .before .before .before .before .before .before .before .args .n))
+returns-2 c =
+    let at-is-open-emit = c .before in
+    let at-wide = at-is-open-emit .before .before in
+    let at-taken = at-wide .before .before in
+    let at-root = at-taken .before .before .before in
+    let at-actives = at-root .before in
+    let args = at-actives .before .args in
+    λ body a. cut-not _ (c .if1 .left) (at-is-open-emit .is-open-emit .ensures ∙ open-told (args .phase) (set-of (args .set)) (at-root .root .ensures)
+    (at-taken .taken .ensures) (at-actives .actives .ensures) body a (at-wide .wide .ensures .0) (args .n))
 
 pub first-cut-spec : {M : Type 1} → statement M
 first-cut-spec =

@@ -15,7 +15,10 @@ root-requires : tie.Need-root-requires
 root-requires c κs = search needs
 
 taken-requires : tie.Need-taken-requires
-taken-requires c κs = root-placed (c .before .before .root .ensures) (c .before .before .before .before .pre)
+taken-requires c κs =
+    let at-root = c .before .before in
+    let at-start = at-root .before .before in
+    root-placed (at-root .root .ensures) (at-start .pre)
 
 element-copy-out-wide : tie.Need-element-copy-out-wide
 element-copy-out-wide c = search needs
@@ -24,10 +27,20 @@ wide-requires : tie.Need-wide-requires
 wide-requires c κs = search needs
 
 lowest-marked-requires : tie.Need-lowest-marked-requires
-lowest-marked-requires c κs = count-fits (c .before .before .before .before .before .before .before .before .pre) (c .before .wide .ensures .0)
+lowest-marked-requires c κs =
+    let at-wide = c .before in
+    let at-start = at-wide .before .before .before .before .before .before .before in
+    count-fits (at-start .pre) (at-wide .wide .ensures .0)
 
 returns : tie.Need-returns
-returns c = λ body a. c .lowest-marked .ensures ∙ ap₂ lowest (count-is body a (c .before .before .wide .ensures .0)) (marks-of-root (c .before .before .before .before .before .before .before .before .before .args .phase) (set-of (c .before .before .before .before .before .before .before .before .before .args .set)) (c .before .before .before .before .before .before .before .root .ensures) (c .before .before .before .before .taken .ensures) (c .before .before .before .before .before .before .before .before .actives .ensures) body a)
+returns c =
+    let at-wide = c .before .before in
+    let at-taken = at-wide .before .before in
+    let at-root = at-taken .before .before .before in
+    let at-actives = at-root .before in
+    let args = at-actives .before .args in
+    λ body a. c .lowest-marked .ensures ∙ ap₂ lowest (count-is body a (at-wide .wide .ensures .0))
+    (marks-of-root (args .phase) (set-of (args .set)) (at-root .root .ensures) (at-taken .taken .ensures) (at-actives .actives .ensures) body a)
 
 pub first-reached-spec : {M : Type 1} → statement M
 first-reached-spec =

@@ -20,7 +20,10 @@ element-copy-out-result c = search needs
 
 returns : tie.Need-returns
 unfolding open-emit
-returns c = sym (simp (lt-ltb _ _ (c .before .before .before .if1 .taken), eq-eqb _ 18 (c .before .if2 .taken)))
+returns c =
+    let at-if2 = c .before in
+    let at-if1 = at-if2 .before .before in
+    sym (simp (lt-ltb _ _ (at-if1 .if1 .taken), eq-eqb _ 18 (at-if2 .if2 .taken)))
 
 returns-2 : tie.Need-returns-2
 unfolding open-emit

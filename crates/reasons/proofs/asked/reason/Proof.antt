@@ -23,7 +23,16 @@ enum-told c = search needs
 
 returns : tie.Need-returns
 unfolding Reacts
-returns c = λ body a. asked-for (record { inputs = c .before .before .before .before .before .args .inputs; outputs = c .before .before .before .before .before .args .outputs; body = body }) (state-of (c .before .before .before .before .before .args .phase) (set-of (c .before .before .before .before .before .args .set))) (hearing-of (c .before .before .before .before .before .args .given)) (ap asked-of (c .before .enum-told .given .1)) (refused-known (record { inputs = c .before .before .before .before .before .args .inputs; outputs = c .before .before .before .before .before .args .outputs; body = body }) (state-of (c .before .before .before .before .before .args .phase) (set-of (c .before .before .before .before .before .args .set))) (hearing-of (c .before .before .before .before .before .args .given)) (c .before .before .before .before .react .result) (react (record { inputs = c .before .before .before .before .before .args .inputs; outputs = c .before .before .before .before .before .args .outputs; body = body }) (state-of (c .before .before .before .before .before .args .phase) (set-of (c .before .before .before .before .before .args .set))) (hearing-of (c .before .before .before .before .before .args .given))) (c .before .before .before .before .react .ensures body a) (c .if1 .taken))
+returns c =
+    let at-enum-told = c .before in
+    let at-react = at-enum-told .before .before .before in
+    let args = at-react .before .args in
+    λ body a. asked-for (record { inputs = args .inputs; outputs = args .outputs; body = body }) (state-of (args .phase) (set-of (args .set)))
+    (hearing-of (args .given)) (ap asked-of (at-enum-told .enum-told .given .1))
+    (refused-known (record { inputs = args .inputs; outputs = args .outputs; body = body }) (state-of (args .phase) (set-of (args .set)))
+    (hearing-of (args .given)) (at-react .react .result)
+    (react (record { inputs = args .inputs; outputs = args .outputs; body = body }) (state-of (args .phase) (set-of (args .set))) (hearing-of (args .given)))
+    (at-react .react .ensures body a) (c .if1 .taken))
 
 first-reached-requires : tie.Need-first-reached-requires
 first-reached-requires c κs = search needs
@@ -42,7 +51,21 @@ first-reached-requires-2 c κs = search needs
 
 returns-2 : tie.Need-returns-2
 unfolding Reacts
-returns-2 c = λ body a. asked-for (record { inputs = c .before .before .before .before .before .before .before .before .args .inputs; outputs = c .before .before .before .before .before .before .before .before .args .outputs; body = body }) (state-of (c .before .before .before .before .before .before .before .before .args .phase) (set-of (c .before .before .before .before .before .before .before .before .args .set))) (hearing-of (c .before .before .before .before .before .before .before .before .args .given)) (ap asked-of (c .before .before .before .before .asked .given .1)) (present-so (record { inputs = c .before .before .before .before .before .before .before .before .args .inputs; outputs = c .before .before .before .before .before .before .before .before .args .outputs; body = body }) (state-of (c .before .before .before .before .before .before .before .before .args .phase) (set-of (c .before .before .before .before .before .before .before .before .args .set))) (hearing-of (c .before .before .before .before .before .before .before .before .args .given)) (c .before .before .before .before .before .before .before .react .result) (c .before .before .before .before .asked .given .0 .0) (react (record { inputs = c .before .before .before .before .before .before .before .before .args .inputs; outputs = c .before .before .before .before .before .before .before .before .args .outputs; body = body }) (state-of (c .before .before .before .before .before .before .before .before .args .phase) (set-of (c .before .before .before .before .before .before .before .before .args .set))) (hearing-of (c .before .before .before .before .before .before .before .before .args .given))) (c .before .before .before .before .before .before .before .react .ensures body a) (sym (c .before .before .is-present .ensures .0) ∙ c .before .if2 .taken) (c .before .before .before .before .before .before .final-event .result) (λ outs p q. c .before .before .before .before .before .before .final-event .ensures (record { inputs = c .before .before .before .before .before .before .before .before .args .inputs; outputs = c .before .before .before .before .before .before .before .before .args .outputs; body = body }) outs refl p q) (c .first-reached2 .ensures body a))
+returns-2 c =
+    let at-if2 = c .before in
+    let at-is-present = at-if2 .before in
+    let at-asked = at-is-present .before .before in
+    let at-final-event = at-asked .before .before in
+    let at-react = at-final-event .before in
+    let args = at-react .before .args in
+    λ body a. asked-for (record { inputs = args .inputs; outputs = args .outputs; body = body }) (state-of (args .phase) (set-of (args .set)))
+    (hearing-of (args .given)) (ap asked-of (at-asked .asked .given .1))
+    (present-so (record { inputs = args .inputs; outputs = args .outputs; body = body }) (state-of (args .phase) (set-of (args .set)))
+    (hearing-of (args .given)) (at-react .react .result) (at-asked .asked .given .0 .0)
+    (react (record { inputs = args .inputs; outputs = args .outputs; body = body }) (state-of (args .phase) (set-of (args .set))) (hearing-of (args .given)))
+    (at-react .react .ensures body a) (sym (at-is-present .is-present .ensures .0) ∙ at-if2 .if2 .taken) (at-final-event .final-event .result)
+    (λ outs p q. at-final-event .final-event .ensures (record { inputs = args .inputs; outputs = args .outputs; body = body }) outs refl p q)
+    (c .first-reached2 .ensures body a))
 
 enum-known-asked-2 : tie.Need-enum-known-asked-2
 enum-known-asked-2 c = search needs
@@ -52,19 +75,64 @@ first-cut-requires c κs = search needs
 
 returns-3 : tie.Need-returns-3
 unfolding Reacts
-returns-3 c = λ body a. asked-for (record { inputs = c .before .before .before .before .before .before .before .args .inputs; outputs = c .before .before .before .before .before .before .before .args .outputs; body = body }) (state-of (c .before .before .before .before .before .before .before .args .phase) (set-of (c .before .before .before .before .before .before .before .args .set))) (hearing-of (c .before .before .before .before .before .before .before .args .given)) (ap asked-of (c .before .before .before .asked2 .given .1)) (executed-known (record { inputs = c .before .before .before .before .before .before .before .args .inputs; outputs = c .before .before .before .before .before .before .before .args .outputs; body = body }) (state-of (c .before .before .before .before .before .before .before .args .phase) (set-of (c .before .before .before .before .before .before .before .args .set))) (hearing-of (c .before .before .before .before .before .before .before .args .given)) (c .before .before .before .before .before .before .react .result) (c .before .before .before .asked2 .given .0 .0) (react (record { inputs = c .before .before .before .before .before .before .before .args .inputs; outputs = c .before .before .before .before .before .before .before .args .outputs; body = body }) (state-of (c .before .before .before .before .before .before .before .args .phase) (set-of (c .before .before .before .before .before .before .before .args .set))) (hearing-of (c .before .before .before .before .before .before .before .args .given))) (c .before .before .before .before .before .before .react .ensures body a) (c .before .if3 .taken) (c .before .before .before .before .before .final-event .result) (λ outs p q. c .before .before .before .before .before .final-event .ensures (record { inputs = c .before .before .before .before .before .before .before .args .inputs; outputs = c .before .before .before .before .before .before .before .args .outputs; body = body }) outs refl p q) (c .first-cut .ensures body a))
+returns-3 c =
+    let at-if3 = c .before in
+    let at-asked2 = at-if3 .before .before in
+    let at-final-event = at-asked2 .before .before in
+    let at-react = at-final-event .before in
+    let args = at-react .before .args in
+    λ body a. asked-for (record { inputs = args .inputs; outputs = args .outputs; body = body }) (state-of (args .phase) (set-of (args .set)))
+    (hearing-of (args .given)) (ap asked-of (at-asked2 .asked2 .given .1))
+    (executed-known (record { inputs = args .inputs; outputs = args .outputs; body = body }) (state-of (args .phase) (set-of (args .set)))
+    (hearing-of (args .given)) (at-react .react .result) (at-asked2 .asked2 .given .0 .0)
+    (react (record { inputs = args .inputs; outputs = args .outputs; body = body }) (state-of (args .phase) (set-of (args .set))) (hearing-of (args .given)))
+    (at-react .react .ensures body a) (at-if3 .if3 .taken) (at-final-event .final-event .result)
+    (λ outs p q. at-final-event .final-event .ensures (record { inputs = args .inputs; outputs = args .outputs; body = body }) outs refl p q)
+    (c .first-cut .ensures body a))
 
 returns-4 : tie.Need-returns-4
 unfolding Reacts
-returns-4 c = λ body a. asked-for (record { inputs = c .before .before .before .before .before .before .args .inputs; outputs = c .before .before .before .before .before .before .args .outputs; body = body }) (state-of (c .before .before .before .before .before .before .args .phase) (set-of (c .before .before .before .before .before .before .args .set))) (hearing-of (c .before .before .before .before .before .before .args .given)) (ap asked-of (c .before .before .enum-told .given .1)) (refused-unknown (record { inputs = c .before .before .before .before .before .before .args .inputs; outputs = c .before .before .before .before .before .before .args .outputs; body = body }) (state-of (c .before .before .before .before .before .before .args .phase) (set-of (c .before .before .before .before .before .before .args .set))) (hearing-of (c .before .before .before .before .before .before .args .given)) (c .before .before .before .before .before .react .result) (react (record { inputs = c .before .before .before .before .before .before .args .inputs; outputs = c .before .before .before .before .before .before .args .outputs; body = body }) (state-of (c .before .before .before .before .before .before .args .phase) (set-of (c .before .before .before .before .before .before .args .set))) (hearing-of (c .before .before .before .before .before .before .args .given))) (c .before .before .before .before .before .react .ensures body a) (c .before .if1 .left) (c .before .before .before .before .final-event .result) (λ outs p q. c .before .before .before .before .final-event .ensures (record { inputs = c .before .before .before .before .before .before .args .inputs; outputs = c .before .before .before .before .before .before .args .outputs; body = body }) outs refl p q) (c .first-reached .ensures body a))
+returns-4 c =
+    let at-if1 = c .before in
+    let at-enum-told = at-if1 .before in
+    let at-final-event = at-enum-told .before .before in
+    let at-react = at-final-event .before in
+    let args = at-react .before .args in
+    λ body a. asked-for (record { inputs = args .inputs; outputs = args .outputs; body = body }) (state-of (args .phase) (set-of (args .set)))
+    (hearing-of (args .given)) (ap asked-of (at-enum-told .enum-told .given .1))
+    (refused-unknown (record { inputs = args .inputs; outputs = args .outputs; body = body }) (state-of (args .phase) (set-of (args .set)))
+    (hearing-of (args .given)) (at-react .react .result)
+    (react (record { inputs = args .inputs; outputs = args .outputs; body = body }) (state-of (args .phase) (set-of (args .set))) (hearing-of (args .given)))
+    (at-react .react .ensures body a) (at-if1 .if1 .left) (at-final-event .final-event .result)
+    (λ outs p q. at-final-event .final-event .ensures (record { inputs = args .inputs; outputs = args .outputs; body = body }) outs refl p q)
+    (c .first-reached .ensures body a))
 
 returns-5 : tie.Need-returns-5
 unfolding Reacts
-returns-5 c = λ body a. asked-for (record { inputs = c .before .before .before .before .before .before .before .args .inputs; outputs = c .before .before .before .before .before .before .before .args .outputs; body = body }) (state-of (c .before .before .before .before .before .before .before .args .phase) (set-of (c .before .before .before .before .before .before .before .args .set))) (hearing-of (c .before .before .before .before .before .before .before .args .given)) (ap asked-of (c .before .before .before .asked .given .1)) (present-not (record { inputs = c .before .before .before .before .before .before .before .args .inputs; outputs = c .before .before .before .before .before .before .before .args .outputs; body = body }) (state-of (c .before .before .before .before .before .before .before .args .phase) (set-of (c .before .before .before .before .before .before .before .args .set))) (hearing-of (c .before .before .before .before .before .before .before .args .given)) (c .before .before .before .before .before .before .react .result) (c .before .before .before .asked .given .0 .0) (react (record { inputs = c .before .before .before .before .before .before .before .args .inputs; outputs = c .before .before .before .before .before .before .before .args .outputs; body = body }) (state-of (c .before .before .before .before .before .before .before .args .phase) (set-of (c .before .before .before .before .before .before .before .args .set))) (hearing-of (c .before .before .before .before .before .before .before .args .given))) (c .before .before .before .before .before .before .react .ensures body a) (sym (c .before .is-present .ensures .0) ∙ c .if2 .left))
+returns-5 c =
+    let at-is-present = c .before in
+    let at-asked = at-is-present .before .before in
+    let at-react = at-asked .before .before .before in
+    let args = at-react .before .args in
+    λ body a. asked-for (record { inputs = args .inputs; outputs = args .outputs; body = body }) (state-of (args .phase) (set-of (args .set)))
+    (hearing-of (args .given)) (ap asked-of (at-asked .asked .given .1))
+    (present-not (record { inputs = args .inputs; outputs = args .outputs; body = body }) (state-of (args .phase) (set-of (args .set)))
+    (hearing-of (args .given)) (at-react .react .result) (at-asked .asked .given .0 .0)
+    (react (record { inputs = args .inputs; outputs = args .outputs; body = body }) (state-of (args .phase) (set-of (args .set))) (hearing-of (args .given)))
+    (at-react .react .ensures body a) (sym (at-is-present .is-present .ensures .0) ∙ c .if2 .left))
 
 returns-6 : tie.Need-returns-6
 unfolding Reacts
-returns-6 c = λ body a. asked-for (record { inputs = c .before .before .before .before .before .before .args .inputs; outputs = c .before .before .before .before .before .before .args .outputs; body = body }) (state-of (c .before .before .before .before .before .before .args .phase) (set-of (c .before .before .before .before .before .before .args .set))) (hearing-of (c .before .before .before .before .before .before .args .given)) (ap asked-of (c .before .before .asked2 .given .1)) (executed-unknown (record { inputs = c .before .before .before .before .before .before .args .inputs; outputs = c .before .before .before .before .before .before .args .outputs; body = body }) (state-of (c .before .before .before .before .before .before .args .phase) (set-of (c .before .before .before .before .before .before .args .set))) (hearing-of (c .before .before .before .before .before .before .args .given)) (c .before .before .before .before .before .react .result) (c .before .before .asked2 .given .0 .0) (react (record { inputs = c .before .before .before .before .before .before .args .inputs; outputs = c .before .before .before .before .before .before .args .outputs; body = body }) (state-of (c .before .before .before .before .before .before .args .phase) (set-of (c .before .before .before .before .before .before .args .set))) (hearing-of (c .before .before .before .before .before .before .args .given))) (c .before .before .before .before .before .react .ensures body a) (c .if3 .left))
+returns-6 c =
+    let at-asked2 = c .before .before in
+    let at-react = at-asked2 .before .before .before in
+    let args = at-react .before .args in
+    λ body a. asked-for (record { inputs = args .inputs; outputs = args .outputs; body = body }) (state-of (args .phase) (set-of (args .set)))
+    (hearing-of (args .given)) (ap asked-of (at-asked2 .asked2 .given .1))
+    (executed-unknown (record { inputs = args .inputs; outputs = args .outputs; body = body }) (state-of (args .phase) (set-of (args .set)))
+    (hearing-of (args .given)) (at-react .react .result) (at-asked2 .asked2 .given .0 .0)
+    (react (record { inputs = args .inputs; outputs = args .outputs; body = body }) (state-of (args .phase) (set-of (args .set))) (hearing-of (args .given)))
+    (at-react .react .ensures body a) (c .if3 .left))
 
 pub reason-spec : {M : Type 1} → statement M
 reason-spec =

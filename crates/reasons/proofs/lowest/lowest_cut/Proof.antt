@@ -41,7 +41,15 @@ cut-here-requires c κs = tt
 
 returns : tie.Need-returns Inv-loop μ-loop
 unfolding cut-rows
-returns c = found-here (c .before .before .before .before .before .before .before .args .count) (cut-rows (c .before .before .before .before .before .before .before .args .sizes .now) (c .before .before .before .before .before .before .before .args .n) (marked-in (c .before .before .before .before .before .before .before .args .executed .now))) (c .before .before .before .before .before .before .loop .i) (c .before .before .before .before .before .before .loop .inv .1) (c .before .before .before .before .before .loop-test .taken) (cut-is (getD (c .before .before .before .before .before .before .before .args .executed .now) (c .before .before .before .before .before .before .loop .i) false) (c .before .before .before .passed-by .ensures) (c .before .cut-here .ensures) (c .if1 .taken))
+returns c =
+    let at-cut-here = c .before in
+    let at-passed-by = at-cut-here .before .before in
+    let at-loop-test = at-passed-by .before .before in
+    let at-loop = at-loop-test .before in
+    let args = at-loop .before .args in
+    found-here (args .count) (cut-rows (args .sizes .now) (args .n) (marked-in (args .executed .now))) (at-loop .loop .i) (at-loop .loop .inv .1)
+    (at-loop-test .loop-test .taken) (cut-is (getD (args .executed .now) (at-loop .loop .i) false) (at-passed-by .passed-by .ensures)
+    (at-cut-here .cut-here .ensures) (c .if1 .taken))
 
 add-i : tie.Need-add-i Inv-loop μ-loop
 add-i c = search needs
@@ -51,10 +59,24 @@ loop-less c = search needs
 
 loop-again : tie.Need-loop-again Inv-loop μ-loop
 unfolding cut-rows
-loop-again c = (omega (arith, c .before .before .before .before .before .loop-test .taken), not-here (c .before .before .before .before .before .before .before .args .count) (cut-rows (c .before .before .before .before .before .before .before .args .sizes .now) (c .before .before .before .before .before .before .before .args .n) (marked-in (c .before .before .before .before .before .before .before .args .executed .now))) (c .before .before .before .before .before .before .loop .i) (c .before .before .before .before .before .before .loop .inv .1) (cut-is (getD (c .before .before .before .before .before .before .before .args .executed .now) (c .before .before .before .before .before .before .loop .i) false) (c .before .before .before .passed-by .ensures) (c .before .cut-here .ensures) (c .if1 .left)))
+loop-again c =
+    let at-cut-here = c .before in
+    let at-passed-by = at-cut-here .before .before in
+    let at-loop-test = at-passed-by .before .before in
+    let at-loop = at-loop-test .before in
+    let args = at-loop .before .args in (
+      omega (arith, at-loop-test .loop-test .taken),
+      not-here (args .count) (cut-rows (args .sizes .now) (args .n) (marked-in (args .executed .now)))
+          (at-loop .loop .i) (at-loop .loop .inv .1)
+          (cut-is (getD (args .executed .now) (at-loop .loop .i) false) (at-passed-by .passed-by .ensures) (at-cut-here .cut-here .ensures) (c .if1 .left)),
+    )
 
 returns-2 : tie.Need-returns-2 Inv-loop μ-loop
-returns-2 c = found-none (c .before .before .args .count) (cut-rows (c .before .before .args .sizes .now) (c .before .before .args .n) (marked-in (c .before .before .args .executed .now))) (c .before .loop .i) (c .before .loop .inv .1) (omega (arith, c .loop-test .left))
+returns-2 c =
+    let at-loop = c .before in
+    let args = at-loop .before .args in
+    found-none (args .count) (cut-rows (args .sizes .now) (args .n) (marked-in (args .executed .now))) (at-loop .loop .i) (at-loop .loop .inv .1)
+    (omega (arith, c .loop-test .left))
 
 pub lowest-cut-spec : {M : Type 1} → statement M
 lowest-cut-spec =

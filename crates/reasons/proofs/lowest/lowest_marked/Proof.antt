@@ -24,7 +24,11 @@ element-copy-out-if1 : tie.Need-element-copy-out-if1 Inv-loop μ-loop
 element-copy-out-if1 c = omega (arith, c .loop-test .taken, c .before .before .pre)
 
 returns : tie.Need-returns Inv-loop μ-loop
-returns c = found-here (c .before .before .before .before .args .count) (marked-in (c .before .before .before .before .args .marks .now)) (c .before .before .before .loop .i) (c .before .before .before .loop .inv .1) (c .before .before .loop-test .taken) (c .if1 .taken)
+returns c =
+    let at-loop-test = c .before .before in
+    let at-loop = at-loop-test .before in
+    let args = at-loop .before .args in
+    found-here (args .count) (marked-in (args .marks .now)) (at-loop .loop .i) (at-loop .loop .inv .1) (at-loop-test .loop-test .taken) (c .if1 .taken)
 
 add-i : tie.Need-add-i Inv-loop μ-loop
 add-i c = search needs
@@ -33,7 +37,14 @@ loop-less : tie.Need-loop-less Inv-loop μ-loop
 loop-less c = search needs
 
 loop-again : tie.Need-loop-again Inv-loop μ-loop
-loop-again c = (omega (arith, c .before .before .loop-test .taken), not-here (c .before .before .before .before .args .count) (marked-in (c .before .before .before .before .args .marks .now)) (c .before .before .before .loop .i) (c .before .before .before .loop .inv .1) (c .if1 .left))
+loop-again c =
+    let at-loop-test = c .before .before in
+    let at-loop = at-loop-test .before in
+    let args = at-loop .before .args in (
+      omega (arith, at-loop-test .loop-test .taken),
+      not-here (args .count) (marked-in (args .marks .now)) (at-loop .loop .i) (at-loop .loop .inv .1)
+          (c .if1 .left),
+    )
 
 returns-2 : tie.Need-returns-2 Inv-loop μ-loop
 returns-2 c = found-none (c .before .before .args .count) (marked-in (c .before .before .args .marks .now)) (c .before .loop .i) (c .before .loop .inv .1) (omega (arith, c .loop-test .left))

@@ -86,7 +86,10 @@ unfolding hit
 returns c = λ n. by-form _ _ (c .before .before .form .given .1) (c .wants-emit .ensures)
 
 returns-2 : tie.Need-returns-2
-returns-2 c = λ n. by-test _ _ (c .before .before .before .form2 .given .1) (c .wants-test .ensures) (c .before .status-at .ensures) n
+returns-2 c =
+    let at-status-at = c .before in
+    let at-form2 = at-status-at .before .before in
+    λ n. by-test _ _ (at-form2 .form2 .given .1) (c .wants-test .ensures) (at-status-at .status-at .ensures) n
 
 returns-3 : tie.Need-returns-3
 unfolding hit

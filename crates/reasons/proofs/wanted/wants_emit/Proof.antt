@@ -22,7 +22,10 @@ returns : tie.Need-returns
 returns c = search needs
 
 returns-2 : tie.Need-returns-2
-returns-2 c = ap (λ w. wants-emit (wanted-of w) (c .before .before .before .args .s)) (sym (c .before .w .given .1))
+returns-2 c =
+    let at-w = c .before in
+    let args = at-w .before .before .args in
+    ap (λ w. wants-emit (wanted-of w) (args .s)) (sym (at-w .w .given .1))
 
 returns-3 : tie.Need-returns-3
 returns-3 c = search needs

@@ -15,8 +15,11 @@ bit-from-requires : tie.Need-bit-from-requires
 bit-from-requires c κs = search needs
 
 returns : tie.Need-returns
-returns c = let ws = c .before .before .before .args .t2 in let low : Fits w64 (getD ws 0 0) = search needs in let high : Fits w64 (getD ws 1 0) = search needs in
-    sym (beyond-low (getD ws 0 0) (getD ws 1 0) (low .fits) (high .fits) (c .before .before .before .args .pauses) (shift-set (getD ws 0 0) (c .before .before .before .args .pauses) (c .before .bit-from .ensures) (c .if2 .taken)))
+returns c =
+    let at-bit-from = c .before in
+    let args = at-bit-from .before .before .args in
+    let ws = args .t2 in let low : Fits w64 (getD ws 0 0) = search needs in let high : Fits w64 (getD ws 1 0) = search needs in
+    sym (beyond-low (getD ws 0 0) (getD ws 1 0) (low .fits) (high .fits) (args .pauses) (shift-set (getD ws 0 0) (args .pauses) (at-bit-from .bit-from .ensures) (c .if2 .taken)))
 
 array-read-result : tie.Need-array-read-result
 array-read-result c = search needs
@@ -28,8 +31,13 @@ bit-from-requires-2 : tie.Need-bit-from-requires-2
 bit-from-requires-2 c κs = search needs
 
 returns-2 : tie.Need-returns-2
-returns-2 c = let ws = c .before .before .before .args .t2 in let low : Fits w64 (getD ws 0 0) = search needs in let high : Fits w64 (getD ws 1 0) = search needs in
-    sym (beyond-high (getD ws 0 0) (getD ws 1 0) (low .fits) (high .fits) (c .before .before .before .args .pauses) (c .before .before .if1 .taken) (shift-clear (getD ws 0 0) (c .before .before .before .args .pauses) (c .before .bit-from .ensures) (c .if2 .left)))
+returns-2 c =
+    let at-bit-from = c .before in
+    let at-if1 = at-bit-from .before in
+    let args = at-if1 .before .args in
+    let ws = args .t2 in let low : Fits w64 (getD ws 0 0) = search needs in let high : Fits w64 (getD ws 1 0) = search needs in
+    sym (beyond-high (getD ws 0 0) (getD ws 1 0) (low .fits) (high .fits) (args .pauses) (at-if1 .if1 .taken)
+    (shift-clear (getD ws 0 0) (args .pauses) (at-bit-from .bit-from .ensures) (c .if2 .left)))
 
 returns-3 : tie.Need-returns-3
 returns-3 c = let ws = c .before .before .args .t2 in let low : Fits w64 (getD ws 0 0) = search needs in let high : Fits w64 (getD ws 1 0) = search needs in

@@ -14,12 +14,23 @@ input-over-requires-2 : tie.Need-input-over-requires-2
 input-over-requires-2 c κs = search needs
 
 returns-2 : tie.Need-returns-2
-returns-2 c = let a = c .before .before .before .before .args in
-    wrong-absent (a .inputs) (a .present) (a .absent) (c .before .before .before .input-over .ensures) (c .before .before .if1 .left) (c .before .input-over2 .ensures) (c .if2 .taken)
+returns-2 c =
+    let at-input-over2 = c .before in
+    let at-if1 = at-input-over2 .before in
+    let at-input-over = at-if1 .before in
+    let args = at-input-over .before .args in
+    let a = args in
+    wrong-absent (a .inputs) (a .present) (a .absent) (at-input-over .input-over .ensures) (at-if1 .if1 .left) (at-input-over2 .input-over2 .ensures) (c .if2 .taken)
 
 returns-3 : tie.Need-returns-3
-returns-3 c = let a = c .before .before .before .before .args in
-    wrong-both (a .inputs) (a .present) (a .absent) (c .before .before .before .input-over .ensures) (c .before .before .if1 .left) (c .before .input-over2 .ensures) (c .before .before .before .before .fits .present .fits) (c .before .before .before .before .fits .absent .fits) (c .if2 .left)
+returns-3 c =
+    let at-input-over2 = c .before in
+    let at-if1 = at-input-over2 .before in
+    let at-input-over = at-if1 .before in
+    let at-start = at-input-over .before in
+    let a = at-start .args in
+    wrong-both (a .inputs) (a .present) (a .absent) (at-input-over .input-over .ensures) (at-if1 .if1 .left) (at-input-over2 .input-over2 .ensures)
+    (at-start .fits .present .fits) (at-start .fits .absent .fits) (c .if2 .left)
 
 pub inputs-wrong-spec : {M : Type 1} → statement M
 inputs-wrong-spec =

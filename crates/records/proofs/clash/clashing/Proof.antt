@@ -12,13 +12,24 @@ has-requires : tie.Need-has-requires
 has-requires c κs = search needs
 
 in-parallel-requires : tie.Need-in-parallel-requires
-in-parallel-requires c κs = let a = c .before .before .args in let p = c .before .before .pre in
-    (p .tree, root-place (now (a .kinds)) (now (a .sizes)) (now (a .firsts)) (a .active) (p .count) (a .m) (a .n) (p .tree) (p .searchable) (p .filled) (p .lower) (of-true (sym (c .before .has .ensures) ∙ c .if1 .taken)))
+in-parallel-requires c κs =
+    let at-has = c .before in
+    let at-start = at-has .before in
+    let a = at-start .args in let p = at-start .pre in (
+      p .tree,
+      root-place (now (a .kinds)) (now (a .sizes)) (now (a .firsts)) (a .active) (p .count) (a .m) (a .n) (p .tree) (p .searchable) (p .filled)
+          (p .lower) (of-true (sym (at-has .has .ensures) ∙ c .if1 .taken)),
+    )
 
 returns : tie.Need-returns
-returns c = let a = c .before .before .before .args in let p = c .before .before .before .pre in λ count t S f.
-    clash-tested t (set-of (a .active)) (a .m) (a .n) (p .member) (sym (c .before .before .has .ensures) ∙ c .before .if1 .taken) (p .lower)
-    (c .in-parallel .ensures t (root-place (now (a .kinds)) (now (a .sizes)) (now (a .firsts)) (a .active) count (a .m) (a .n) t S f (p .lower) (of-true (sym (c .before .before .has .ensures) ∙ c .before .if1 .taken))))
+returns c =
+    let at-if1 = c .before in
+    let at-has = at-if1 .before in
+    let at-start = at-has .before in
+    let a = at-start .args in let p = at-start .pre in λ count t S f.
+    clash-tested t (set-of (a .active)) (a .m) (a .n) (p .member) (sym (at-has .has .ensures) ∙ at-if1 .if1 .taken) (p .lower)
+    (c .in-parallel .ensures t (root-place (now (a .kinds)) (now (a .sizes)) (now (a .firsts)) (a .active) count (a .m) (a .n) t S f (p .lower)
+    (of-true (sym (at-has .has .ensures) ∙ at-if1 .if1 .taken))))
 
 returns-2 : tie.Need-returns-2
 returns-2 c = let a = c .before .before .args in λ count t S f. clash-inactive t (set-of (a .active)) (a .m) (a .n) (sym (c .before .has .ensures) ∙ c .if1 .left)

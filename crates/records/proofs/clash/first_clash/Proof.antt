@@ -41,7 +41,8 @@ add-n c = search needs
 
 loop-holds : tie.Need-loop-holds Inv-loop μ-loop Inv-pairs μ-pairs
 loop-holds c =
-    let o = c .before .before .before in let s = o .before .before in
+    let at-place = c .before .before .before in
+    let o = at-place in let s = o .before .before in
     (o .pairs .inv .0, search needs, λ t S. second-begin t (set-of (s .args .active)) (o .pairs .m))
 
 clashing-requires : tie.Need-clashing-requires Inv-loop μ-loop Inv-pairs μ-pairs
@@ -65,11 +66,13 @@ loop-less c = search needs
 
 loop-again : tie.Need-loop-again Inv-loop μ-loop Inv-pairs μ-pairs
 loop-again c =
-    let l = c .before .before .before .before in let o = l .before .before .before .before in let s = o .before .before in (
+    let at-clashing = c .before in
+    let at-place = at-clashing .before .before .before in
+    let l = at-place in let o = l .before .before .before .before in let s = o .before .before in (
       l .loop .inv .0,
       search needs,
       λ t S. second-more t (set-of (s .args .active)) (o .pairs .m) (l .loop .n) (l .loop .inv .2 t S)
-          (c .before .clashing .ensures (s .args .count) t S (o .before .pauses-before .ensures)) (c .if2 .left),
+          (at-clashing .clashing .ensures (s .args .count) t S (o .before .pauses-before .ensures)) (c .if2 .left),
     )
 
 add-m : tie.Need-add-m Inv-loop μ-loop Inv-pairs μ-pairs
@@ -80,11 +83,13 @@ pairs-less c = search needs
 
 pairs-again : tie.Need-pairs-again Inv-loop μ-loop Inv-pairs μ-pairs
 pairs-again c =
-    let o = c .before .before .before in let s = o .before .before in (
+    let at-has = c .before in
+    let at-place = at-has .before .before in
+    let o = at-place in let s = o .before .before in (
       ⊎-elim (λ w. w .3 ∙ w .1 .inv .0) (λ w. w .1 ∙ o .pairs .inv .0) (c .if1 .came),
       λ t S. ⊎-elim
           (λ w. first-tested t (set-of (s .args .active)) (o .pairs .m) (w .1 .n) (o .pairs .inv .1 t S) (w .1 .inv .2 t S) (s .pre .1 .bound) (w .2 .left))
-          (λ w. first-passed t (set-of (s .args .active)) (o .pairs .m) (o .pairs .inv .1 t S) (c .before .has .ensures) (w .0 .left)) (c .if1 .came),
+          (λ w. first-passed t (set-of (s .args .active)) (o .pairs .m) (o .pairs .inv .1 t S) (at-has .has .ensures) (w .0 .left)) (c .if1 .came),
     )
 
 returns : tie.Need-returns Inv-loop μ-loop Inv-pairs μ-pairs
@@ -96,10 +101,15 @@ returns c =
 returns-2 : tie.Need-returns-2 Inv-loop μ-loop Inv-pairs μ-pairs
 unfolding pair-of
 returns-2 c =
-    let l = c .before .before .before .before in let o = l .before .before .before .before in let s = o .before .before in
-    λ t S. pair-found t (set-of (s .args .active)) (o .pairs .m) (l .loop .n) (let h = l .before .before .before .pairs-test .taken in omega (arith, h, s .pre .1 .width)) (let h = c .before .before .before .loop-test .taken in omega (arith, h, s .pre .1 .width))
+    let at-clashing = c .before in
+    let at-loop-test = at-clashing .before .before in
+    let at-place = at-loop-test .before in
+    let l = at-place in let o = l .before .before .before .before in let s = o .before .before in
+    λ t S. pair-found t (set-of (s .args .active)) (o .pairs .m) (l .loop .n)
+    (let h = l .before .before .before .pairs-test .taken in omega (arith, h, s .pre .1 .width))
+    (let h = at-loop-test .loop-test .taken in omega (arith, h, s .pre .1 .width))
     (o .pairs .inv .1 t S) (l .loop .inv .2 t S)
-    (of-true (sym (c .before .clashing .ensures (s .args .count) t S (o .before .pauses-before .ensures)) ∙ c .if2 .taken))
+    (of-true (sym (at-clashing .clashing .ensures (s .args .count) t S (o .before .pauses-before .ensures)) ∙ c .if2 .taken))
 
 pub first-clash-spec : {M : Type 1} → statement M
 first-clash-spec =

@@ -16,7 +16,10 @@ enum-told : tie.Need-enum-told
 enum-told c = search needs
 
 returns : tie.Need-returns
-returns c = two-by _ _ (shaped _ (sym (c .before .before .before .before .shape-of .ensures) ∙ c .before .before .s .given .1) .its-children)
+returns c =
+    let at-s = c .before .before in
+    let at-shape-of = at-s .before .before in
+    two-by _ _ (shaped _ (sym (at-shape-of .shape-of .ensures) ∙ at-s .s .given .1) .its-children)
 
 returns-2 : tie.Need-returns-2
 returns-2 c = two-of-none _ (sym (c .before .before .shape-of .ensures) ∙ c .enum-told .given .1)

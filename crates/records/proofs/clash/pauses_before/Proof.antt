@@ -44,7 +44,10 @@ loop-less : tie.Need-loop-less Inv-loop μ-loop
 loop-less c = search needs
 
 loop-again : tie.Need-loop-again Inv-loop μ-loop
-loop-again c = let a = c .before .before .before .before .args in let l = c .before .before .before .loop in
+loop-again c =
+    let at-loop = c .before .before .before in
+    let args = at-loop .before .args in
+    let a = args in let l = at-loop .loop in
     let e : l .n ≡ before (now (a .kinds)) (l .i) = l .inv .3 in (
       search needs,
       length-set (l .firsts) (l .i) (l .n) ∙ l .inv .1,

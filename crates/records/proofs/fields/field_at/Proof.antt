@@ -27,10 +27,14 @@ shared-slice-read-at : tie.Need-shared-slice-read-at Inv-loop μ-loop
 shared-slice-read-at c = search needs
 
 add-at : tie.Need-add-at Inv-loop μ-loop
-add-at c = let a = c .before .before .before .before .before .args in let l = c .before .before .loop in
-    let n = place-next (now (a .widths)) (l .k) (omega (arith, c .before .loop-test .taken, c .before .before .before .before .before .pre .1)) in
+add-at c =
+    let at-loop-test = c .before in
+    let at-loop = at-loop-test .before in
+    let at-start = at-loop .before .before .before in
+    let a = at-start .args in let l = at-loop .loop in
+    let n = place-next (now (a .widths)) (l .k) (omega (arith, at-loop-test .loop-test .taken, at-start .pre .1)) in
     let w = place-within (now (a .widths)) (suc (l .k)) in
-    let h : l .at + getD (now (a .widths)) (l .k) 0 ≤ length (now (a .s)) = omega (arith, n, w, l .inv .1, c .before .before .before .before .before .pre .0) in
+    let h : l .at + getD (now (a .widths)) (l .k) 0 ≤ length (now (a .s)) = omega (arith, n, w, l .inv .1, at-start .pre .0) in
     search needs
 
 add-k : tie.Need-add-k Inv-loop μ-loop
@@ -40,11 +44,15 @@ loop-less : tie.Need-loop-less Inv-loop μ-loop
 loop-less c = search needs
 
 loop-again : tie.Need-loop-again Inv-loop μ-loop
-loop-again c = let a = c .before .before .before .before .before .args in let l = c .before .before .loop in let q : suc (l .k) ≡ l .k + 1 = omega arith in (
-  search needs,
-  ap (λ (n : ℕ). n + getD (now (a .widths)) (l .k) 0) (l .inv .1) ∙ place-next (now (a .widths)) (l .k) (omega (arith, c .before .loop-test .taken, c .before .before .before .before .before .pre .1))
-      ∙ ap (place (now (a .widths))) q,
-)
+loop-again c =
+    let at-loop-test = c .before in
+    let at-loop = at-loop-test .before in
+    let at-start = at-loop .before .before .before in
+    let a = at-start .args in let l = at-loop .loop in let q : suc (l .k) ≡ l .k + 1 = omega arith in (
+      search needs,
+      ap (λ (n : ℕ). n + getD (now (a .widths)) (l .k) 0) (l .inv .1) ∙ place-next (now (a .widths)) (l .k) (omega (arith, at-loop-test .loop-test .taken, at-start .pre .1))
+          ∙ ap (place (now (a .widths))) q,
+    )
 
 mul-number-at : tie.Need-mul-number-at Inv-loop μ-loop
 mul-number-at c = search needs
@@ -53,16 +61,24 @@ shared-slice-read-number-at : tie.Need-shared-slice-read-number-at Inv-loop μ-l
 shared-slice-read-number-at c = search needs
 
 number-at-requires : tie.Need-number-at-requires Inv-loop μ-loop
-number-at-requires c κs = let a = c .before .before .before .before .before .args in let l = c .before .before .loop in
-    let k : l .k ≡ a .i = omega (arith, c .before .loop-test .left, l .inv .0) in
-    let n = place-next (now (a .widths)) (a .i) (c .before .before .before .before .before .pre .1) in
+number-at-requires c κs =
+    let at-loop-test = c .before in
+    let at-loop = at-loop-test .before in
+    let at-start = at-loop .before .before .before in
+    let a = at-start .args in let l = at-loop .loop in
+    let k : l .k ≡ a .i = omega (arith, at-loop-test .loop-test .left, l .inv .0) in
+    let n = place-next (now (a .widths)) (a .i) (at-start .pre .1) in
     let w = place-within (now (a .widths)) (suc (a .i)) in
     let e : l .at ≡ place (now (a .widths)) (a .i) = l .inv .1 ∙ ap (place (now (a .widths))) k in
-    (omega (arith, e, n, w, c .before .before .before .before .before .pre .0), c .before .before .before .before .before .pre .2)
+    (omega (arith, e, n, w, at-start .pre .0), at-start .pre .2)
 
 returns : tie.Need-returns Inv-loop μ-loop
-returns c = let a = c .before .before .before .before .before .before .args in let l = c .before .before .before .loop in
-    let k : l .k ≡ a .i = omega (arith, c .before .before .loop-test .left, l .inv .0) in
+returns c =
+    let at-loop-test = c .before .before in
+    let at-loop = at-loop-test .before in
+    let args = at-loop .before .before .before .args in
+    let a = args in let l = at-loop .loop in
+    let k : l .k ≡ a .i = omega (arith, at-loop-test .loop-test .left, l .inv .0) in
     c .number-at .ensures ∙ ap (λ (n : ℕ). field (now (a .s)) n (getD (now (a .widths)) (a .i) 0)) (l .inv .1 ∙ ap (place (now (a .widths))) k)
 
 pub field-at-spec : {M : Type 1} → statement M

@@ -36,12 +36,19 @@ shared-slice-read-put-number c = search needs
 
 put-number-requires : tie.Need-put-number-requires Inv-loop μ-loop
 put-number-requires c κs =
-    let l = c .before .before .before .before .loop in omega (arith, size-left (now (c .before .before .before .before .before .before .before .before .args .widths)) (l .i) (c .before .before .before .loop-test .taken), l .inv .1, l .inv .2, c .before .before .before .before .before .before .before .before .pre .0)
+    let at-loop-test = c .before .before .before in
+    let at-loop = at-loop-test .before in
+    let at-start = at-loop .before .before .before .before in
+    let l = at-loop .loop in omega (arith, size-left (now (at-start .args .widths)) (l .i) (at-loop-test .loop-test .taken), l .inv .1, l .inv .2, at-start .pre .0)
 
 add-to : tie.Need-add-to Inv-loop μ-loop
-add-to c = let a = c .before .before .before .before .before .before .before .before .before .before .before .args in let l = c .before .before .before .before .before .before .before .loop in
-    let n = size-left (now (a .widths)) (l .i) (c .before .before .before .before .before .before .loop-test .taken) in
-    let h : l .to + getD (now (a .widths)) (l .i) 0 ≤ length (now (a .s)) = omega (arith, n, l .inv .2, c .before .before .before .before .before .before .before .before .before .before .before .pre .0) in
+add-to c =
+    let at-loop-test = c .before .before .before .before .before .before in
+    let at-loop = at-loop-test .before in
+    let at-start = at-loop .before .before .before .before in
+    let a = at-start .args in let l = at-loop .loop in
+    let n = size-left (now (a .widths)) (l .i) (at-loop-test .loop-test .taken) in
+    let h : l .to + getD (now (a .widths)) (l .i) 0 ≤ length (now (a .s)) = omega (arith, n, l .inv .2, at-start .pre .0) in
     search needs
 
 add-i : tie.Need-add-i Inv-loop μ-loop
@@ -52,18 +59,25 @@ loop-less c = search needs
 
 loop-again : tie.Need-loop-again Inv-loop μ-loop
 loop-again c =
-    let a = c .before .before .before .before .before .before .before .before .before .before .before .args in let l = c .before .before .before .before .before .before .before .loop in (
+    let at-put-number = c .before .before in
+    let at-loop-test = at-put-number .before .before .before .before in
+    let at-loop = at-loop-test .before in
+    let at-start = at-loop .before .before .before .before in
+    let a = at-start .args in let l = at-loop .loop in (
       search needs,
       search needs,
-      omega (arith, size-left (now (a .widths)) (l .i) (c .before .before .before .before .before .before .loop-test .taken), l .inv .2),
-      one-laid (now (a .widths)) (now (a .values)) (l .s) (l .i) (l .to) (c .before .before .before .before .before .before .loop-test .taken) (c .before .before .before .before .before .before .before .before .before .before .before .pre .1) (c .before .before .put-number .ensures) ∙ l .inv .3,
+      omega (arith, size-left (now (a .widths)) (l .i) (at-loop-test .loop-test .taken), l .inv .2),
+      one-laid (now (a .widths)) (now (a .values)) (l .s) (l .i) (l .to) (at-loop-test .loop-test .taken) (at-start .pre .1) (at-put-number .put-number .ensures) ∙ l .inv .3,
     )
 
 same-length : tie.Need-same-length Inv-loop μ-loop
 same-length c = search needs
 
 returns : tie.Need-returns Inv-loop μ-loop
-returns c = let a = c .before .before .before .before .before .args in let l = c .before .loop in sym (all-laid (now (a .widths)) (now (a .values)) (l .s) (l .i) (l .to) (c .loop-test .left)) ∙ l .inv .3
+returns c =
+    let at-loop = c .before in
+    let args = at-loop .before .before .before .before .args in
+    let a = args in let l = at-loop .loop in sym (all-laid (now (a .widths)) (now (a .values)) (l .s) (l .i) (l .to) (c .loop-test .left)) ∙ l .inv .3
 
 pub put-fields-spec : {M : Type 1} → statement M
 put-fields-spec =

@@ -25,8 +25,15 @@ same-length : tie.Need-same-length
 same-length c = search needs
 
 returns : tie.Need-returns
-returns c = let a = c .before .before .before .before .before .args in
-    (refl, lent-on (now (a .log)) (a .end) (record { inputs-present = a .present; inputs-absent = a .absent; outputs-present = a .outputs; code = a .code .0; rounds = a .rounds }) (c .before .before .write-record .ensures))
+returns c =
+    let at-write-record = c .before .before in
+    let args = at-write-record .before .before .before .args in
+    let a = args in (
+      refl,
+      lent-on (now (a .log)) (a .end) (record
+          { inputs-present = a .present; inputs-absent = a .absent; outputs-present = a .outputs; code = a .code .0; rounds = a .rounds })
+          (at-write-record .write-record .ensures),
+    )
 
 pub write-at-end-spec : {M : Type 1} → statement M
 write-at-end-spec =

@@ -21,7 +21,12 @@ same-length : tie.Need-same-length
 same-length c = search needs
 
 returns : tie.Need-returns
-returns c = let a = c .before .before .before .before .before .before .before .before .args in log-stored (now (a .part)) (record { inputs-present = a .present; inputs-absent = a .absent; outputs-present = a .outputs; code = a .code .0; rounds = a .rounds }) (c .before .before .before .before .before .before .before .before .pre) (c .before .before .put-fields .ensures)
+returns c =
+    let at-put-fields = c .before .before in
+    let at-start = at-put-fields .before .before .before .before .before .before in
+    let a = at-start .args in log-stored (now (a .part))
+    (record { inputs-present = a .present; inputs-absent = a .absent; outputs-present = a .outputs; code = a .code .0; rounds = a .rounds }) (at-start .pre)
+    (at-put-fields .put-fields .ensures)
 
 pub write-record-spec : {M : Type 1} → statement M
 write-record-spec =

@@ -33,21 +33,30 @@ shared-slice-read-x : tie.Need-shared-slice-read-x Inv-loop μ-loop
 shared-slice-read-x c = search needs
 
 cast-x : tie.Need-cast-x Inv-loop μ-loop
-cast-x c = let a = c .before .before .before .args in let l = c .before .before .loop in omega (arith, c .shared-slice-known .given (a .at + (l .k - 1)))
+cast-x c =
+    let at-loop = c .before .before in
+    let args = at-loop .before .args in
+    let a = args in let l = at-loop .loop in omega (arith, c .shared-slice-known .given (a .at + (l .k - 1)))
 
 add-x-2 : tie.Need-add-x-2 Inv-loop μ-loop
-add-x-2 c = let a = c .before .before .before .args in let l = c .before .before .loop in
+add-x-2 c =
+    let at-loop = c .before .before in
+    let args = at-loop .before .args in
+    let a = args in let l = at-loop .loop in
     record { fits = to-eight (omega arith) (more-fits (a .n - l .k) {i = a .n - (l .k - 1)} (omega arith) (l .inv .2) (omega (arith, c .shared-slice-known .given (a .at + (l .k - 1))))) }
 
 loop-less : tie.Need-loop-less Inv-loop μ-loop
 loop-less c = search needs
 
 loop-again : tie.Need-loop-again Inv-loop μ-loop
-loop-again c = let a = c .before .before .before .args in let l = c .before .before .loop in (
-  search needs,
-  field-more (now (a .s)) (a .at + (l .k - 1)) (a .n - l .k) (omega arith) (omega arith) (omega arith) (l .inv .1),
-  more-fits (a .n - l .k) (omega arith) (l .inv .2) (omega (arith, c .shared-slice-known .given (a .at + (l .k - 1)))),
-)
+loop-again c =
+    let at-loop = c .before .before in
+    let args = at-loop .before .args in
+    let a = args in let l = at-loop .loop in (
+      search needs,
+      field-more (now (a .s)) (a .at + (l .k - 1)) (a .n - l .k) (omega arith) (omega arith) (omega arith) (l .inv .1),
+      more-fits (a .n - l .k) (omega arith) (l .inv .2) (omega (arith, c .shared-slice-known .given (a .at + (l .k - 1)))),
+    )
 
 returns : tie.Need-returns Inv-loop μ-loop
 returns c = let a = c .before .before .args in let l = c .before .loop in l .inv .1 ∙ field-end (now (a .s)) (a .at) (a .n) (l .k) (c .loop-test .left)

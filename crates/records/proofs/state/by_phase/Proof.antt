@@ -13,16 +13,31 @@ no-bit-requires : tie.Need-no-bit-requires
 no-bit-requires c κs = search needs
 
 returns : tie.Need-returns
-returns c = let a = c .before .before .before .args in λ bs q. by-fresh (a .phase) (a .pauses) (a .active) bs q (c .before .before .no-bit .ensures) (c .before .if1 .taken) (c .if2 .taken)
+returns c =
+    let at-if1 = c .before in
+    let at-no-bit = at-if1 .before in
+    let args = at-no-bit .before .args in
+    let a = args in λ bs q. by-fresh (a .phase) (a .pauses) (a .active) bs q (at-no-bit .no-bit .ensures) (at-if1 .if1 .taken) (c .if2 .taken)
 
 returns-2 : tie.Need-returns-2
-returns-2 c = let a = c .before .before .before .before .args in λ bs q. by-finished (a .phase) (a .pauses) (a .active) bs q (c .before .before .before .no-bit .ensures) (c .before .before .if1 .taken) (c .if3 .taken)
+returns-2 c =
+    let at-if1 = c .before .before in
+    let at-no-bit = at-if1 .before in
+    let args = at-no-bit .before .args in
+    let a = args in λ bs q. by-finished (a .phase) (a .pauses) (a .active) bs q (at-no-bit .no-bit .ensures) (at-if1 .if1 .taken) (c .if3 .taken)
 
 no-state-requires : tie.Need-no-state-requires
 no-state-requires c κs = search needs
 
 returns-3 : tie.Need-returns-3
-returns-3 c = let a = c .before .before .before .before .before .args in λ bs q. c .no-state .ensures ∙ ap held-of (by-neither (a .phase) (a .pauses) (a .active) bs q (c .before .before .before .before .no-bit .ensures) (c .before .before .before .if1 .taken) (c .before .before .if2 .left) (c .before .if3 .left))
+returns-3 c =
+    let at-if3 = c .before in
+    let at-if2 = at-if3 .before in
+    let at-if1 = at-if2 .before in
+    let at-no-bit = at-if1 .before in
+    let args = at-no-bit .before .args in
+    let a = args in λ bs q. c .no-state .ensures ∙ ap held-of
+    (by-neither (a .phase) (a .pauses) (a .active) bs q (at-no-bit .no-bit .ensures) (at-if1 .if1 .taken) (at-if2 .if2 .left) (at-if3 .if3 .left))
 
 bit-beyond-requires : tie.Need-bit-beyond-requires
 bit-beyond-requires c κs = search needs
@@ -31,16 +46,38 @@ no-state-requires-2 : tie.Need-no-state-requires-2
 no-state-requires-2 c κs = search needs
 
 returns-4 : tie.Need-returns-4
-returns-4 c = let a = c .before .before .before .before .before .args in λ bs q. c .no-state2 .ensures ∙ ap held-of (by-far (a .phase) (a .pauses) (a .active) bs q (c .before .before .before .before .no-bit .ensures) (c .before .before .bit-beyond .ensures) (c .before .before .before .if1 .left) (c .before .if4 .taken))
+returns-4 c =
+    let at-if4 = c .before in
+    let at-bit-beyond = at-if4 .before in
+    let at-if1 = at-bit-beyond .before in
+    let at-no-bit = at-if1 .before in
+    let args = at-no-bit .before .args in
+    let a = args in λ bs q. c .no-state2 .ensures ∙ ap held-of
+    (by-far (a .phase) (a .pauses) (a .active) bs q (at-no-bit .no-bit .ensures) (at-bit-beyond .bit-beyond .ensures) (at-if1 .if1 .left) (at-if4 .if4 .taken))
 
 returns-5 : tie.Need-returns-5
-returns-5 c = let a = c .before .before .before .before .before .args in λ bs q. by-running (a .phase) (a .pauses) (a .active) bs q (c .before .before .before .before .no-bit .ensures) (c .before .before .bit-beyond .ensures) (let w : Fits w64 (getD (a .active) 0 0) = search needs in w .fits) (let w : Fits w64 (getD (a .active) 1 0) = search needs in w .fits) (c .before .before .before .if1 .left) (c .before .if4 .left) (c .if5 .taken)
+returns-5 c =
+    let at-if4 = c .before in
+    let at-bit-beyond = at-if4 .before in
+    let at-if1 = at-bit-beyond .before in
+    let at-no-bit = at-if1 .before in
+    let args = at-no-bit .before .args in
+    let a = args in λ bs q. by-running (a .phase) (a .pauses) (a .active) bs q (at-no-bit .no-bit .ensures) (at-bit-beyond .bit-beyond .ensures)
+    (let w : Fits w64 (getD (a .active) 0 0) = search needs in w .fits) (let w : Fits w64 (getD (a .active) 1 0) = search needs in w .fits) (at-if1 .if1 .left)
+    (at-if4 .if4 .left) (c .if5 .taken)
 
 no-state-requires-3 : tie.Need-no-state-requires-3
 no-state-requires-3 c κs = search needs
 
 returns-6 : tie.Need-returns-6
-returns-6 c = let a = c .before .before .before .before .before .before .args in λ bs q. c .no-state3 .ensures ∙ ap held-of (by-other (a .phase) (a .pauses) (a .active) bs q (c .before .before .before .before .before .no-bit .ensures) (c .before .before .before .bit-beyond .ensures) (c .before .before .before .before .if1 .left) (c .before .if5 .left))
+returns-6 c =
+    let at-if5 = c .before in
+    let at-bit-beyond = at-if5 .before .before in
+    let at-if1 = at-bit-beyond .before in
+    let at-no-bit = at-if1 .before in
+    let args = at-no-bit .before .args in
+    let a = args in λ bs q. c .no-state3 .ensures ∙ ap held-of
+    (by-other (a .phase) (a .pauses) (a .active) bs q (at-no-bit .no-bit .ensures) (at-bit-beyond .bit-beyond .ensures) (at-if1 .if1 .left) (at-if5 .if5 .left))
 
 pub by-phase-spec : {M : Type 1} → statement M
 by-phase-spec =

@@ -15,7 +15,11 @@ field-at-requires : tie.Need-field-at-requires
 field-at-requires c κs = search needs
 
 returns-2 : tie.Need-returns-2
-returns-2 c = let a = c .before .before .before .before .before .args in named-other (a .version) (a .statements) (now (a .state)) (c .before .field-at .ensures) (c .before .before .before .if1 .left) (c .if2 .taken)
+returns-2 c =
+    let at-field-at = c .before in
+    let at-if1 = at-field-at .before .before in
+    let args = at-if1 .before .before .args in
+    let a = args in named-other (a .version) (a .statements) (now (a .state)) (at-field-at .field-at .ensures) (at-if1 .if1 .left) (c .if2 .taken)
 
 slice-aggregate-field-at-2 : tie.Need-slice-aggregate-field-at-2
 slice-aggregate-field-at-2 c = search needs
@@ -24,8 +28,13 @@ field-at-requires-2 : tie.Need-field-at-requires-2
 field-at-requires-2 c κs = search needs
 
 returns-3 : tie.Need-returns-3
-returns-3 c = let a = c .before .before .before .before .before .before .before .args in
-    named-by (a .version) (a .statements) (now (a .state)) (c .before .before .before .field-at .ensures) (c .field-at2 .ensures) (c .before .before .before .before .before .if1 .left) (c .before .before .if2 .left)
+returns-3 c =
+    let at-if2 = c .before .before in
+    let at-field-at = at-if2 .before in
+    let at-if1 = at-field-at .before .before in
+    let args = at-if1 .before .before .args in
+    let a = args in
+    named-by (a .version) (a .statements) (now (a .state)) (at-field-at .field-at .ensures) (c .field-at2 .ensures) (at-if1 .if1 .left) (at-if2 .if2 .left)
 
 pub names-block-spec : {M : Type 1} → statement M
 names-block-spec =

@@ -24,7 +24,10 @@ same-length : tie.Need-same-length
 same-length c = search needs
 
 returns : tie.Need-returns
-returns c = let a = c .before .before .before .before .before .before .before .args in state-stored (now (a .state)) (a .version) (a .statements) (a .phase) (a .t5) (c .before .before .before .before .before .before .before .pre) (c .before .before .put-fields .ensures)
+returns c =
+    let at-put-fields = c .before .before in
+    let at-start = at-put-fields .before .before .before .before .before in
+    let a = at-start .args in state-stored (now (a .state)) (a .version) (a .statements) (a .phase) (a .t5) (at-start .pre) (at-put-fields .put-fields .ensures)
 
 pub put-state-spec : {M : Type 1} → statement M
 put-state-spec =

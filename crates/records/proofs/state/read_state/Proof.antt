@@ -14,7 +14,10 @@ no-state-requires : tie.Need-no-state-requires
 no-state-requires c κs = search needs
 
 returns : tie.Need-returns
-returns c = let a = c .before .before .before .args in c .no-state .ensures ∙ ap held-of (read-sized (a .pauses) (now (a .state)) (c .before .if1 .taken))
+returns c =
+    let at-if1 = c .before in
+    let args = at-if1 .before .before .args in
+    let a = args in c .no-state .ensures ∙ ap held-of (read-sized (a .pauses) (now (a .state)) (at-if1 .if1 .taken))
 
 slice-aggregate-field-at : tie.Need-slice-aggregate-field-at
 slice-aggregate-field-at c = search needs
@@ -26,7 +29,11 @@ no-state-requires-2 : tie.Need-no-state-requires-2
 no-state-requires-2 c κs = search needs
 
 returns-2 : tie.Need-returns-2
-returns-2 c = let a = c .before .before .before .before .before .before .args in c .no-state2 .ensures ∙ ap held-of (read-headed (a .pauses) (now (a .state)) (c .before .before .field-at .ensures) (c .before .if2 .taken))
+returns-2 c =
+    let at-if2 = c .before in
+    let at-field-at = at-if2 .before in
+    let args = at-field-at .before .before .before .before .args in
+    let a = args in c .no-state2 .ensures ∙ ap held-of (read-headed (a .pauses) (now (a .state)) (at-field-at .field-at .ensures) (at-if2 .if2 .taken))
 
 slice-aggregate-field-at-2 : tie.Need-slice-aggregate-field-at-2
 slice-aggregate-field-at-2 c = search needs
@@ -38,7 +45,11 @@ no-state-requires-3 : tie.Need-no-state-requires-3
 no-state-requires-3 c κs = search needs
 
 returns-3 : tie.Need-returns-3
-returns-3 c = let a = c .before .before .before .before .before .before .before .before .before .args in c .no-state3 .ensures ∙ ap held-of (read-kind (a .pauses) (now (a .state)) (c .before .before .field-at2 .ensures) (c .before .if3 .taken))
+returns-3 c =
+    let at-if3 = c .before in
+    let at-field-at2 = at-if3 .before in
+    let args = at-field-at2 .before .before .before .before .before .before .before .args in
+    let a = args in c .no-state3 .ensures ∙ ap held-of (read-kind (a .pauses) (now (a .state)) (at-field-at2 .field-at2 .ensures) (at-if3 .if3 .taken))
 
 slice-aggregate-field-at-3 : tie.Need-slice-aggregate-field-at-3
 slice-aggregate-field-at-3 c = search needs
@@ -62,11 +73,21 @@ by-phase-requires : tie.Need-by-phase-requires
 by-phase-requires c κs = search needs
 
 returns-4 : tie.Need-returns-4
-returns-4 c = let a = c .before .before .before .before .before .before .before .before .before .before .before .before .before .before .before .args in
-    c .by-phase .ensures (now (a .state)) (ap₂ (λ (x y : ℕ). x ∷ y ∷ []) (c .before .before .before .field-at4 .ensures) (c .before .field-at5 .ensures))
+returns-4 c =
+    let at-field-at5 = c .before in
+    let at-field-at4 = at-field-at5 .before .before in
+    let at-field-at3 = at-field-at4 .before .before in
+    let at-if3 = at-field-at3 .before .before in
+    let at-field-at2 = at-if3 .before in
+    let at-if2 = at-field-at2 .before .before in
+    let at-field-at = at-if2 .before in
+    let at-if1 = at-field-at .before .before in
+    let args = at-if1 .before .before .args in
+    let a = args in
+    c .by-phase .ensures (now (a .state)) (ap₂ (λ (x y : ℕ). x ∷ y ∷ []) (at-field-at4 .field-at4 .ensures) (at-field-at5 .field-at5 .ensures))
     ∙ ap held-of
-    (ap (λ (p : ℕ). in-phase p (a .pauses) (now (a .state))) (c .before .before .before .before .before .field-at3 .ensures)
-    ∙ read-whole (a .pauses) (now (a .state)) (c .before .before .before .before .before .before .before .before .before .before .before .before .before .if1 .left) (sym (c .before .before .before .before .before .before .before .before .before .before .before .field-at .ensures) ∙ c .before .before .before .before .before .before .before .before .before .before .if2 .left) (sym (c .before .before .before .before .before .before .before .before .field-at2 .ensures) ∙ c .before .before .before .before .before .before .before .if3 .left))
+    (ap (λ (p : ℕ). in-phase p (a .pauses) (now (a .state))) (at-field-at3 .field-at3 .ensures)
+    ∙ read-whole (a .pauses) (now (a .state)) (at-if1 .if1 .left) (sym (at-field-at .field-at .ensures) ∙ at-if2 .if2 .left) (sym (at-field-at2 .field-at2 .ensures) ∙ at-if3 .if3 .left))
 
 pub read-state-spec : {M : Type 1} → statement M
 read-state-spec =

@@ -25,8 +25,13 @@ same-length : tie.Need-same-length
 same-length c = search needs
 
 returns : tie.Need-returns
-returns c = let a = c .before .before .before .before .before .before .before .before .before .before .before .args in
-    c .before .before .put-state .ensures ∙ ap₂ (λ (v n : ℕ). state-bytes v n (a .phase) (a .active)) (c .before .before .before .before .before .before .before .field-at .ensures) (c .before .before .before .before .field-at2 .ensures)
+returns c =
+    let at-put-state = c .before .before in
+    let at-field-at2 = at-put-state .before .before in
+    let at-field-at = at-field-at2 .before .before .before in
+    let args = at-field-at .before .before .before .before .args in
+    let a = args in
+    at-put-state .put-state .ensures ∙ ap₂ (λ (v n : ℕ). state-bytes v n (a .phase) (a .active)) (at-field-at .field-at .ensures) (at-field-at2 .field-at2 .ensures)
 
 pub write-next-spec : {M : Type 1} → statement M
 write-next-spec =

@@ -17,10 +17,17 @@ number-at-requires-2 : tie.Need-number-at-requires-2
 number-at-requires-2 c κs = search needs
 
 returns : tie.Need-returns
-returns c = read-if (c .before .before .before .before .args .party) (c .before .before .number-at .ensures) (c .before .if1 .taken) (c .number-at2 .ensures)
+returns c =
+    let at-if1 = c .before in
+    let at-number-at = at-if1 .before in
+    let args = at-number-at .before .before .args in
+    read-if (args .party) (at-number-at .number-at .ensures) (at-if1 .if1 .taken) (c .number-at2 .ensures)
 
 returns-2 : tie.Need-returns-2
-returns-2 c = none-if _ (c .before .before .before .args .party) (c .before .number-at .ensures) (c .if1 .left)
+returns-2 c =
+    let at-number-at = c .before in
+    let args = at-number-at .before .before .args in
+    none-if _ (args .party) (at-number-at .number-at .ensures) (c .if1 .left)
 
 pub counted-spec : {M : Type 1} → statement M
 counted-spec =

@@ -20,22 +20,52 @@ loop-holds : tie.Need-loop-holds Inv-loop μ-loop
 loop-holds c = summed-begin
 
 counted-requires : tie.Need-counted-requires Inv-loop μ-loop
-counted-requires c κs = let p = c .before .before .before .pre in let w = c .before .loop .inv in room (p .1) (w .reached (p .0) (p .1)) (c .loop-test .taken) .eight
+counted-requires c κs =
+    let at-loop = c .before in
+    let at-start = at-loop .before .before in
+    let p = at-start .pre in let w = at-loop .loop .inv in room (p .1) (w .reached (p .0) (p .1)) (c .loop-test .taken) .eight
 
 add-held : tie.Need-add-held Inv-loop μ-loop
-add-held c = let p = c .before .before .before .before .pre in omega (arith, summed-fits (summed-more (c .before .before .loop .inv) (c .before .loop-test .taken) refl (c .counted .ensures)) (p .0) (p .1))
+add-held c =
+    let at-loop-test = c .before in
+    let at-loop = at-loop-test .before in
+    let at-start = at-loop .before .before in
+    let p = at-start .pre in omega (
+      arith,
+      summed-fits (summed-more (at-loop .loop .inv) (at-loop-test .loop-test .taken) refl (c .counted .ensures)) (p .0)
+          (p .1),
+    )
 
 number-at-requires : tie.Need-number-at-requires Inv-loop μ-loop
-number-at-requires c κs = let p = c .before .before .before .before .pre in let w = c .before .before .loop .inv in let r = room (p .1) (w .reached (p .0) (p .1)) (c .before .loop-test .taken) in (omega (arith, r .eight), omega arith)
+number-at-requires c κs =
+    let at-loop-test = c .before in
+    let at-loop = at-loop-test .before in
+    let at-start = at-loop .before .before in
+    let p = at-start .pre in let w = at-loop .loop .inv in let r = room (p .1) (w .reached (p .0) (p .1)) (at-loop-test .loop-test .taken) in
+    (omega (arith, r .eight), omega arith)
 
 add-at : tie.Need-add-at Inv-loop μ-loop
-add-at c = let p = c .before .before .before .before .before .pre in let w = c .before .before .before .loop .inv in let r = room (p .1) (w .reached (p .0) (p .1)) (c .before .before .loop-test .taken) in omega (arith, r .ends, c .number-at .ensures)
+add-at c =
+    let at-loop-test = c .before .before in
+    let at-loop = at-loop-test .before in
+    let at-start = at-loop .before .before in
+    let p = at-start .pre in let w = at-loop .loop .inv in let r = room (p .1) (w .reached (p .0) (p .1)) (at-loop-test .loop-test .taken) in omega
+    (arith, r .ends, c .number-at .ensures)
 
 loop-less : tie.Need-loop-less Inv-loop μ-loop
-loop-less c = let p = c .before .before .before .before .before .pre in let w = c .before .before .before .loop .inv in let r = room (p .1) (w .reached (p .0) (p .1)) (c .before .before .loop-test .taken) in omega (arith, r .ends, r .further, c .number-at .ensures)
+loop-less c =
+    let at-loop-test = c .before .before in
+    let at-loop = at-loop-test .before in
+    let at-start = at-loop .before .before in
+    let p = at-start .pre in let w = at-loop .loop .inv in let r = room (p .1) (w .reached (p .0) (p .1)) (at-loop-test .loop-test .taken) in omega
+    (arith, r .ends, r .further, c .number-at .ensures)
 
 loop-again : tie.Need-loop-again Inv-loop μ-loop
-loop-again c = summed-more (c .before .before .before .loop .inv) (c .before .before .loop-test .taken) (c .number-at .ensures) (c .before .counted .ensures)
+loop-again c =
+    let at-counted = c .before in
+    let at-loop-test = at-counted .before in
+    let at-loop = at-loop-test .before in
+    summed-more (at-loop .loop .inv) (at-loop-test .loop-test .taken) (c .number-at .ensures) (at-counted .counted .ensures)
 
 returns : tie.Need-returns Inv-loop μ-loop
 returns c = summed-end (c .before .loop .inv) (c .loop-test .left)

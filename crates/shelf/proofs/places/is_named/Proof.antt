@@ -20,10 +20,17 @@ number-at-requires-2 : tie.Need-number-at-requires-2
 number-at-requires-2 c κs = search needs
 
 returns : tie.Need-returns
-returns c = let a = c .before .before .before .before .args in both-read (a .party) (a .name) (c .before .before .number-at .ensures) (c .number-at2 .ensures) (c .before .if1 .taken)
+returns c =
+    let at-if1 = c .before in
+    let at-number-at = at-if1 .before in
+    let args = at-number-at .before .before .args in
+    let a = args in both-read (a .party) (a .name) (at-number-at .number-at .ensures) (c .number-at2 .ensures) (at-if1 .if1 .taken)
 
 returns-2 : tie.Need-returns-2
-returns-2 c = let a = c .before .before .before .args in first-other _ (a .party) (a .name) (c .before .number-at .ensures) (c .if1 .left)
+returns-2 c =
+    let at-number-at = c .before in
+    let args = at-number-at .before .before .args in
+    let a = args in first-other _ (a .party) (a .name) (at-number-at .number-at .ensures) (c .if1 .left)
 
 pub is-named-spec : {M : Type 1} → statement M
 is-named-spec =

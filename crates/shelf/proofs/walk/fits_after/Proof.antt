@@ -19,16 +19,27 @@ entry-of-requires : tie.Need-entry-of-requires
 entry-of-requires c κs = search needs
 
 returns-2 : tie.Need-returns-2
-returns-2 c = let a = c .before .before .before .before .args in let p = c .before .before .before .before .pre in name-taken (now (a .shelf)) (a .at) (a .party) (a .name) (a .size) (p .1 .0) (p .1 .1) (c .before .entry-of .ensures) (c .if2 .taken)
+returns-2 c =
+    let at-entry-of = c .before in
+    let at-start = at-entry-of .before .before .before in
+    let a = at-start .args in let p = at-start .pre in name-taken (now (a .shelf)) (a .at) (a .party) (a .name) (a .size) (p .1 .0) (p .1 .1)
+    (at-entry-of .entry-of .ensures) (c .if2 .taken)
 
 held-of-requires : tie.Need-held-of-requires
 held-of-requires c κs = search needs
 
 add-if3 : tie.Need-add-if3
-add-if3 c = let a = c .before .before .before .before .before .args in let p = c .before .before .before .before .before .pre in omega (arith, c .held-of .ensures (p .0 .0) (p .0 .1), quota (a .party) (p .0 .0) (p .0 .1 .legal), p .1 .1)
+add-if3 c =
+    let at-start = c .before .before .before .before .before in
+    let a = at-start .args in let p = at-start .pre in omega
+    (arith, c .held-of .ensures (p .0 .0) (p .0 .1), quota (a .party) (p .0 .0) (p .0 .1 .legal), p .1 .1)
 
 returns-3 : tie.Need-returns-3
-returns-3 c = let a = c .before .before .before .before .before .before .args in let p = c .before .before .before .before .before .before .pre in over-quota (now (a .shelf)) (a .at) (a .party) (a .name) (a .size) (p .1 .0) (p .1 .1) (c .before .held-of .ensures) (c .if3 .taken)
+returns-3 c =
+    let at-held-of = c .before in
+    let at-start = at-held-of .before .before .before .before .before in
+    let a = at-start .args in let p = at-start .pre in over-quota (now (a .shelf)) (a .at) (a .party) (a .name) (a .size) (p .1 .0) (p .1 .1)
+    (at-held-of .held-of .ensures) (c .if3 .taken)
 
 add-good-block : tie.Need-add-good-block
 add-good-block c = search needs
@@ -49,7 +60,15 @@ good-block-requires : tie.Need-good-block-requires
 good-block-requires c κs = search needs
 
 returns-4 : tie.Need-returns-4
-returns-4 c = let a = c .before .before .before .before .before .before .before .before .args in let p = c .before .before .before .before .before .before .before .before .pre in by-its-block (now (a .shelf)) (a .at) (a .party) (a .name) (a .size) (p .1 .0) (p .1 .1) (p .1 .2) (c .before .before .before .before .before .before .if1 .left) (c .before .before .before .before .before .entry-of .ensures) (c .before .before .before .before .if2 .left) (c .before .before .before .held-of .ensures) (c .before .before .if3 .left) (c .good-block .ensures)
+returns-4 c =
+    let at-if3 = c .before .before in
+    let at-held-of = at-if3 .before in
+    let at-if2 = at-held-of .before in
+    let at-entry-of = at-if2 .before in
+    let at-if1 = at-entry-of .before in
+    let at-start = at-if1 .before .before in
+    let a = at-start .args in let p = at-start .pre in by-its-block (now (a .shelf)) (a .at) (a .party) (a .name) (a .size) (p .1 .0) (p .1 .1) (p .1 .2)
+    (at-if1 .if1 .left) (at-entry-of .entry-of .ensures) (at-if2 .if2 .left) (at-held-of .held-of .ensures) (at-if3 .if3 .left) (c .good-block .ensures)
 
 pub fits-after-spec : {M : Type 1} → statement M
 fits-after-spec =

@@ -31,13 +31,37 @@ entry-end-requires : tie.Need-entry-end-requires Inv-loop μ-loop
 entry-end-requires c κs = let w = c .before .before .loop .inv .0 in (w .before, w .laid)
 
 returns-2 : tie.Need-returns-2 Inv-loop μ-loop
-returns-2 c = no-shelf _ (walking-ends (c .before .before .before .before .loop .inv .0) (sym (not-true _ (c .before .before .if2 .taken)) ∙ c .before .before .before .zeros-from .ensures) (c .before .entry-end .ensures) (c .if3 .taken))
+returns-2 c =
+    let at-entry-end = c .before in
+    let at-if2 = at-entry-end .before in
+    let at-zeros-from = at-if2 .before in
+    let at-loop = at-zeros-from .before in
+    no-shelf _ (walking-ends (at-loop .loop .inv .0) (sym (not-true _ (at-if2 .if2 .taken)) ∙ at-zeros-from .zeros-from .ensures)
+    (at-entry-end .entry-end .ensures) (c .if3 .taken))
 
 loop-less : tie.Need-loop-less Inv-loop μ-loop
-loop-less c = omega (arith, forward (c .before .before .before .before .loop .inv .0) (sym (not-true _ (c .before .before .if2 .taken)) ∙ c .before .before .before .zeros-from .ensures) (c .before .entry-end .ensures) (c .if3 .left))
+loop-less c =
+    let at-entry-end = c .before in
+    let at-if2 = at-entry-end .before in
+    let at-zeros-from = at-if2 .before in
+    let at-loop = at-zeros-from .before in
+    omega (
+      arith,
+      forward (at-loop .loop .inv .0) (sym (not-true _ (at-if2 .if2 .taken)) ∙ at-zeros-from .zeros-from .ensures)
+          (at-entry-end .entry-end .ensures) (c .if3 .left),
+    )
 
 loop-again : tie.Need-loop-again Inv-loop μ-loop
-loop-again c = (walking-more (c .before .before .before .before .loop .inv .0) (sym (not-true _ (c .before .before .if2 .taken)) ∙ c .before .before .before .zeros-from .ensures) (c .before .entry-end .ensures) (c .if3 .left) (record { byte = λ i. c .before .before .before .before .before .before .shared-slice-known .given i .fits }), c .before .before .before .before .loop .inv .1)
+loop-again c =
+    let at-entry-end = c .before in
+    let at-if2 = at-entry-end .before in
+    let at-zeros-from = at-if2 .before in
+    let at-loop = at-zeros-from .before in
+    let at-shared-slice-known = at-loop .before .before in (
+      walking-more (at-loop .loop .inv .0) (sym (not-true _ (at-if2 .if2 .taken)) ∙ at-zeros-from .zeros-from .ensures) (at-entry-end .entry-end .ensures)
+          (c .if3 .left) (record { byte = λ i. at-shared-slice-known .shared-slice-known .given i .fits }),
+      at-loop .loop .inv .1,
+    )
 
 returns-3 : tie.Need-returns-3 Inv-loop μ-loop
 returns-3 c = on-shelf (walking-end (c .before .before .loop .inv .0) (c .before .before .loop .inv .1) (sym (not-false _ (c .if2 .left)) ∙ c .before .zeros-from .ensures))

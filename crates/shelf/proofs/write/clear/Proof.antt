@@ -33,7 +33,11 @@ loop-less : tie.Need-loop-less Inv-loop μ-loop
 loop-less c = search needs
 
 loop-again : tie.Need-loop-again Inv-loop μ-loop
-loop-again c = let a = c .before .before .args in let l = c .before .loop in (search needs, search needs, clear-more (now (a .shelf)) (a .from) (a .count) (l .i) (l .inv .2) (c .before .before .pre) (c .loop-test .taken))
+loop-again c =
+    let at-loop = c .before in
+    let at-start = at-loop .before in
+    let a = at-start .args in let l = at-loop .loop in
+    (search needs, search needs, clear-more (now (a .shelf)) (a .from) (a .count) (l .i) (l .inv .2) (at-start .pre) (c .loop-test .taken))
 
 same-length : tie.Need-same-length Inv-loop μ-loop
 same-length c = search needs

@@ -29,7 +29,12 @@ same-length : tie.Need-same-length
 same-length c = search needs
 
 returns : tie.Need-returns
-returns c = let a = c .before .before .before .before .before .before .before .before .before .args in gap-closed (now (a .shelf)) (a .at) (a .gap) (a .end) (c .before .before .before .before .before .before .before .before .before .pre .0) (c .before .before .before .before .before .before .before .before .before .pre .1) refl (c .before .before .before .before .before .before .move-down .ensures) (c .before .before .clear .ensures)
+returns c =
+    let at-clear = c .before .before in
+    let at-move-down = at-clear .before .before .before .before in
+    let at-start = at-move-down .before .before .before in
+    let a = at-start .args in gap-closed (now (a .shelf)) (a .at) (a .gap) (a .end) (at-start .pre .0) (at-start .pre .1) refl
+    (at-move-down .move-down .ensures) (at-clear .clear .ensures)
 
 pub close-gap-spec : {M : Type 1} → statement M
 close-gap-spec =

@@ -42,13 +42,22 @@ loop-less : tie.Need-loop-less Inv-loop μ-loop
 loop-less c = search needs
 
 loop-again : tie.Need-loop-again Inv-loop μ-loop
-loop-again c = let a = c .before .before .before .args in let l = c .before .before .loop in (search needs, search needs, move-more (now (a .shelf)) (a .at) (a .gap) (a .count) (c .before .before .before .pre) (l .i) (l .inv .2) (c .before .loop-test .taken))
+loop-again c =
+    let at-loop-test = c .before in
+    let at-loop = at-loop-test .before in
+    let at-start = at-loop .before in
+    let a = at-start .args in let l = at-loop .loop in
+    (search needs, search needs, move-more (now (a .shelf)) (a .at) (a .gap) (a .count) (at-start .pre) (l .i) (l .inv .2) (at-loop-test .loop-test .taken))
 
 same-length : tie.Need-same-length Inv-loop μ-loop
 same-length c = search needs
 
 returns : tie.Need-returns Inv-loop μ-loop
-returns c = let a = c .before .before .args in let l = c .before .loop in all-moved (now (a .shelf)) (a .at) (a .gap) (a .count) (c .before .before .pre) (l .i) (l .inv .2) (l .inv .0) (c .loop-test .left)
+returns c =
+    let at-loop = c .before in
+    let at-start = at-loop .before in
+    let a = at-start .args in let l = at-loop .loop in all-moved (now (a .shelf)) (a .at) (a .gap) (a .count) (at-start .pre) (l .i) (l .inv .2) (l .inv .0)
+    (c .loop-test .left)
 
 pub move-down-spec : {M : Type 1} → statement M
 move-down-spec =

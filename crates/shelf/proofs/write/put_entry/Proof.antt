@@ -33,7 +33,15 @@ same-length : tie.Need-same-length
 same-length c = search needs
 
 returns : tie.Need-returns
-returns c = let a = c .before .before .before .before .before .before .before .before .before .before .before .before .before .before .before .before .before .before .before .before .before .before .args in entry-stored (now (a .part)) (entry (a .party) (a .name) (now (a .block))) refl (c .before .before .before .before .before .before .before .before .before .before .before .before .before .before .before .before .before .before .put-number .ensures) (c .before .before .before .before .before .before .before .before .before .before .before .before .before .before .put-number2 .ensures) (c .before .before .before .before .before .before .before .before .before .before .put-number3 .ensures) (c .before .before .before .before .before .before .put-number4 .ensures) (c .before .before .copy-at .ensures)
+returns c =
+    let at-copy-at = c .before .before in
+    let at-put-number4 = at-copy-at .before .before .before .before in
+    let at-put-number3 = at-put-number4 .before .before .before .before in
+    let at-put-number2 = at-put-number3 .before .before .before .before in
+    let at-put-number = at-put-number2 .before .before .before .before in
+    let args = at-put-number .before .before .before .before .args in
+    let a = args in entry-stored (now (a .part)) (entry (a .party) (a .name) (now (a .block))) refl (at-put-number .put-number .ensures)
+    (at-put-number2 .put-number2 .ensures) (at-put-number3 .put-number3 .ensures) (at-put-number4 .put-number4 .ensures) (at-copy-at .copy-at .ensures)
 
 pub put-entry-spec : {M : Type 1} → statement M
 put-entry-spec =

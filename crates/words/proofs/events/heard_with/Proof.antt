@@ -10,19 +10,23 @@ use Rattle.words.proofs.events.heard_with.Tie as tie
 
 returns : tie.Need-returns
 returns c =
-    let p1 = c .before .before .before .before .before in
+    let at-enum-told = c .before in
+    let at-place = at-enum-told .before .before .before .before in
+    let p1 = at-place in
     let p2 = p1 .before in
     λ h.
     give-present (p2 .args .e) (p1 .bit .result) (p2 .args .s) (p1 .bit .ensures h)
-    ∙ ap (λ v. giving (event-of (p2 .args .e)) (p2 .args .s) (seen-as v)) (sym (c .before .enum-told .given .1))
+    ∙ ap (λ v. giving (event-of (p2 .args .e)) (p2 .args .s) (seen-as v)) (sym (at-enum-told .enum-told .given .1))
 
 returns-2 : tie.Need-returns-2
 returns-2 c =
-    let p1 = c .before .before .before .before .before in
+    let at-enum-told2 = c .before in
+    let at-place = at-enum-told2 .before .before .before .before in
+    let p1 = at-place in
     let p2 = p1 .before in
     λ h.
     give-absent (p2 .args .e) (p1 .bit .result) (p2 .args .s) (p1 .bit .ensures h)
-    ∙ ap (λ v. giving (event-of (p2 .args .e)) (p2 .args .s) (seen-as v)) (sym (c .before .enum-told2 .given .1))
+    ∙ ap (λ v. giving (event-of (p2 .args .e)) (p2 .args .s) (seen-as v)) (sym (at-enum-told2 .enum-told2 .given .1))
 
 returns-3 : tie.Need-returns-3
 returns-3 c =

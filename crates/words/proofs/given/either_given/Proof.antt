@@ -6,7 +6,8 @@ use Rattle.words.proofs.given.either_given.Tie as tie
 
 returns : tie.Need-returns
 returns c =
-    let p1 = c .before .before .before .before in
+    let at-place = c .before .before .before .before in
+    let p1 = at-place in
     either-is (p1 .args .a) (p1 .args .b)
 
 pub either-given-spec : {M : Type 1} → statement M

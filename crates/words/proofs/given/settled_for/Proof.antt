@@ -10,21 +10,25 @@ use Rattle.words.proofs.given.settled_for.Tie as tie
 
 returns : tie.Need-returns
 returns c =
-    let p1 = c .before .before .before in
+    let at-enum-told = c .before in
+    let at-place = at-enum-told .before .before in
+    let p1 = at-place in
     let p2 = p1 .before in
     let p3 = p2 .before in
     λ h.
     c .marked-as .ensures ∙ settled-plus (p3 .args .a) (p3 .args .s) (p2 .has-signal .ensures h) (p1 .has-signal2 .ensures h)
-    ∙ ap (λ m. local-status (can (mark-of m)) (p3 .args .s) (given-of (p3 .args .a .must)) (given-of (p3 .args .a .can))) (sym (c .before .enum-told .given .1))
+    ∙ ap (λ m. local-status (can (mark-of m)) (p3 .args .s) (given-of (p3 .args .a .must)) (given-of (p3 .args .a .can))) (sym (at-enum-told .enum-told .given .1))
 
 returns-2 : tie.Need-returns-2
 returns-2 c =
-    let p1 = c .before .before .before in
+    let at-enum-told2 = c .before in
+    let at-place = at-enum-told2 .before .before in
+    let p1 = at-place in
     let p2 = p1 .before in
     let p3 = p2 .before in
     λ h.
     c .marked-as2 .ensures ∙ settled-open (p3 .args .a) (p3 .args .s) (p2 .has-signal .ensures h) (p1 .has-signal2 .ensures h)
-    ∙ ap (λ m. local-status (can (mark-of m)) (p3 .args .s) (given-of (p3 .args .a .must)) (given-of (p3 .args .a .can))) (sym (c .before .enum-told2 .given .1))
+    ∙ ap (λ m. local-status (can (mark-of m)) (p3 .args .s) (given-of (p3 .args .a .must)) (given-of (p3 .args .a .can))) (sym (at-enum-told2 .enum-told2 .given .1))
 
 pub settled-for-spec : {M : Type 1} → statement M
 settled-for-spec =
