@@ -43,7 +43,7 @@ extern "C" {
 #define FOLDHERON_VERSION_PATCH 0
 #define FOLDHERON_VERSION "2.0.0"
 
-/* The numbers of refusals, the first that applies in this order. 1 to 8, the block: every call; 9, the state: fresh and the instants; 17, then 10,
+/* The numbers of refusals, the first that applies in this order. 1 to 8, the block: every call that takes one (an install after 18 and 19); 9, the state: fresh and the instants; 17, then 10,
  * 11 and 13: the instants; 12: those with a log, before 13; 14: an excerpt. 64, the answer's bytes, comes before all of them. */
 #define FOLDHERON_GOOD 0
 #define FOLDHERON_BROKEN 1           /* a record is cut off, or has a length below 4 */

@@ -8,14 +8,15 @@
 #include <stdio.h>
 #include <string.h>
 
-/* A case: which call, the bytes that are lent to it, and its numbers; other is a log's end or the number of an excerpt. */
+/* A case: which call, the bytes that are lent to it, and its numbers; other is a log's end or the number of an excerpt. Of a call on a shelf
+ * inputs is the party, other the name, absent the shelf's size, and shelf_size how many of its bytes stand in the file: the rest are 0. */
 struct call {
     unsigned kind;
-    size_t block_size, state_size, log_size;
+    size_t block_size, state_size, log_size, shelf_size;
     uint64_t inputs, other, absent;
 };
 
-static uint8_t block[1 << 20], state[256], log_bytes[1 << 16], answer[FOLDHERON_LOGGED_SIZE];
+static uint8_t block[1 << 20], state[256], log_bytes[1 << 16], shelf[1 << 17], fetched[FOLDHERON_BLOCK_MOST], answer[FOLDHERON_LOGGED_SIZE];
 
 static uint64_t number(const uint8_t *bytes, size_t count)
 {
@@ -41,11 +42,15 @@ static int next_call(FILE *file, struct call *call)
     call->inputs = number(head + 8, 8);
     call->other = number(head + 16, 8);
     call->absent = number(head + 24, 8);
-    if (call->block_size > sizeof block)
+    call->shelf_size = call->kind >= 9 ? (size_t)number(head + 32, 8) : 0;
+    if (call->block_size > sizeof block || call->shelf_size > sizeof shelf || (call->kind >= 9 && call->absent > sizeof shelf))
         return -1;
+    memset(shelf, 0, sizeof shelf);
     if (fread(block, 1, call->block_size, file) != call->block_size || fread(state, 1, call->state_size, file) != call->state_size)
         return -1;
-    return fread(log_bytes, 1, call->log_size, file) == call->log_size ? 1 : -1;
+    if (fread(log_bytes, 1, call->log_size, file) != call->log_size)
+        return -1;
+    return fread(shelf, 1, call->shelf_size, file) == call->shelf_size ? 1 : -1;
 }
 
 /* The number that was given back, and those of the answer that begin at these bytes, in base 16. */
@@ -63,6 +68,16 @@ static void put_bytes(const uint8_t *bytes, size_t count)
         printf("%02x", bytes[n]);
     if (count == 0)
         putchar('-');
+}
+
+/* A shelf by its bytes up to the last that is not 0, and the number of zeros after it. */
+static void put_shelf(size_t size)
+{
+    size_t count = size;
+    while (count > 0 && shelf[count - 1] == 0)
+        count--;
+    put_bytes(shelf, count);
+    printf("+%zx", size - count);
 }
 
 static const size_t at_check[] = {FOLDHERON_AT_NUMBER, FOLDHERON_AT_PLACE, FOLDHERON_AT_VERSION, FOLDHERON_AT_INPUTS, FOLDHERON_AT_OUTPUTS,
@@ -131,10 +146,38 @@ static void answer_heard_logged(const struct call *call)
     put_bytes(log_bytes, call->log_size);
 }
 
+static void answer_install(const struct call *call)
+{
+    unsigned given = foldheron_install(shelf, (size_t)call->absent, (uint16_t)call->inputs, (uint16_t)call->other, block, call->block_size, answer,
+                                       FOLDHERON_INSTALL_SIZE);
+    printf("install");
+    put_numbers(given, at_instant, 2);
+    put_shelf((size_t)call->absent);
+}
+
+static void answer_fetch(const struct call *call)
+{
+    unsigned given = foldheron_fetch(shelf, (size_t)call->absent, (uint16_t)call->inputs, (uint16_t)call->other, fetched, sizeof fetched, answer,
+                                     FOLDHERON_FETCH_SIZE);
+    printf("fetch");
+    put_numbers(given, at_instant, 2);
+    put_bytes(fetched, foldheron_read_fetch(answer).count);
+}
+
+static void answer_withdraw(const struct call *call)
+{
+    unsigned given = foldheron_withdraw(shelf, (size_t)call->absent, (uint16_t)call->inputs, (uint16_t)call->other, answer, FOLDHERON_WITHDRAW_SIZE);
+    printf("withdraw");
+    put_numbers(given, at_instant, 2);
+    put_shelf((size_t)call->absent);
+}
+
+/* Call 8 is none of the library's. */
 int main(int argc, char **argv)
 {
     static void (*const answers[])(const struct call *) = {answer_check, answer_fresh, answer_instant, answer_logged, answer_excerpt,
-                                                             answer_heard, answer_heard_logged};
+                                                             answer_heard, answer_heard_logged, NULL, answer_install, answer_fetch,
+                                                             answer_withdraw};
     struct call call;
     int more = -1;
     if (argc != 2) {
@@ -146,7 +189,7 @@ int main(int argc, char **argv)
         fprintf(stderr, "answer: %s: %s\n", argv[1], strerror(errno));
         return 1;
     }
-    while ((more = next_call(file, &call)) == 1 && call.kind >= 1 && call.kind <= 7) {
+    while ((more = next_call(file, &call)) == 1 && call.kind >= 1 && call.kind <= 11 && call.kind != 8) {
         memset(answer, 0xA5, sizeof answer);
         answers[call.kind - 1](&call);
         putchar('\n');

@@ -1,5 +1,5 @@
--- Demand 3 on the caller's bytes, as a caller sees it: `check` answered Good, `fresh` wrote this record, and then calls of `instant` are made
--- with declared input sets. Each answered one is the only coherent reaction, and the state that it wrote is legal for the block. What a call
+-- Demand 3 on the caller's bytes, as a caller sees it: `check` answered Good, `fresh` wrote this record, and then instants are called for, with
+-- one declared input set or with two. Each answered one is the only coherent reaction, and the state that it wrote is legal for the block. What a call
 -- answers and leaves is known by its own contract (`specs/Calls`). Each theorem is proved in the file that the `use` lines name: Good gives the
 -- conditions on the tree, no test of the call then fails, and demand 3 of the rules says the rest. Assumes nothing.
 use mathlib.Core.Path.{_≡_}
@@ -33,7 +33,7 @@ use Rattle.promises.proofs.Instants.{promised}
 use Rattle.promises.proofs.Runs.{promised-run, same-verdict, same-run}
 use Rattle.promises.proofs.Calls.{good-is-read, fresh-is-held, call, calls, calls-keep, call-with-log}
 use Rattle.promises.proofs.LoggedRuns.{without-log}
-use Rattle.promises.proofs.Heard.{stays, no-unknown}
+use Rattle.promises.proofs.Heard.{stays, logged-stays, same-call, same-logged-call}
 use Rattle.theorems.specs.Order.{HearsMore}
 use Rattle.reaction.specs.declared.Given.the-variants.{All, Two}
 
@@ -100,6 +100,13 @@ module _ (b : List ℕ) (said : Summary) (good-answer : CheckCalled b (GoodOne s
         → Alike (instant-told r) (instant-told r′) × (s₂ ≡ s₁)
     an-answer-stays-whatever-more-is-heard = stays b g e s st h
 
+    -- with a log too, where it has room,
+    pub a-logged-answer-stays-whatever-more-is-heard : (w w′ : Inputs g) → HearsMore (block-of g) (heard-of g (w .given)) (heard-of g (w′ .given))
+        → (log : List ℕ) (end : ℕ) → end + 32 ≤ length log → (r r′ : Logged) (s₁ s₂ log₁ log₂ : List ℕ) → LoggedFor b s (w .given) log end r s₁ log₁
+        → LoggedFor b s (w′ .given) log end r′ s₂ log₂ → instant-told (r .answer) .number ≡ 0
+        → Alike (instant-told (r .answer)) (instant-told (r′ .answer)) × (s₂ ≡ s₁)
+    a-logged-answer-stays-whatever-more-is-heard = logged-stays b g e s st h
+
     pub each-of-the-calls-keeps-the-promise : (ws : List (Inputs g)) (rs : List Instant) (s′ : List ℕ) → Calls b s (givens ws) rs s′ → PromisedCalls g s st ws rs s′
     each-of-the-calls-keeps-the-promise = calls-keep b g e s st h
 
@@ -124,10 +131,17 @@ module _ (b : List ℕ) (said : Summary) (good-answer : CheckCalled b (GoodOne s
     pub each-run-is-the-rules-run : (ws : List (Inputs g)) → PromisedRun b g s st ws
     each-run-is-the-rules-run = promised-run b g e s st h
 
--- An input set says the same as two sets with no unknowns: the set itself, and every other input absent.
-pub a-set-has-no-unknowns : (g : Good) (s : List ℕ) (w rest : ℕ) → ((n : ℕ) → bits rest n ≡ (ltb n (g .header .inputs) && not (bits w n))) → (roomless : Bool)
-    (b : List ℕ) → reading b ≡ good g → verdict b s (All w) roomless ≡ verdict b s (Two w rest) roomless
-a-set-has-no-unknowns = no-unknown
+-- A call with one input set is the call with two and no unknowns: the set itself, and every other input absent. The answer, the state and, with a log,
+-- its bytes and its end are the same.
+module _ (b : List ℕ) (g : Good) (e : reading b ≡ good g) (s : List ℕ) (w rest : ℕ) (f : (n : ℕ) → bits rest n ≡ (ltb n (g .header .inputs) && not (bits w n))) where
+  pub a-set-has-no-unknowns : (r r′ : Instant) (s₁ s₂ : List ℕ) → CalledFor b s (All w) r s₁ → CalledFor b s (Two w rest) r′ s₂
+      → (instant-told r ≡ instant-told r′) × (s₁ ≡ s₂)
+  a-set-has-no-unknowns = same-call b g e s w rest f
+
+  pub a-set-has-no-unknowns-with-a-log : (log : List ℕ) (end : ℕ) (r r′ : Logged) (s₁ s₂ log₁ log₂ : List ℕ) → LoggedFor b s (All w) log end r s₁ log₁
+      → LoggedFor b s (Two w rest) log end r′ s₂ log₂
+      → (instant-told (r .answer) ≡ instant-told (r′ .answer)) × (r .end ≡ r′ .end) × (s₁ ≡ s₂) × (log₁ ≡ log₂)
+  a-set-has-no-unknowns-with-a-log = same-logged-call b g e s w rest f
 
 -- With room in the log an instant with a log is the one without, and so is a run with room for a record each.
 pub with-room-the-same-instant : (log : List ℕ) (end : ℕ) → end + 32 ≤ length log → (b s : List ℕ) (w : Given) → verdict b s w (no-room log end) ≡ verdict b s w false

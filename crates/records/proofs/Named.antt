@@ -1,5 +1,5 @@
--- The state record before it named its block, and that nothing else changed: without its two names a record is read as it was. Each field
--- of the shorter record is read back, so both readings choose by the same numbers. Assumes nothing.
+-- The state record before it named its block, and that nothing else changed: without its two names a record is read as it was, and it is that record with
+-- the names put in. Each field of the shorter record is read back, so both readings choose by the same numbers. Assumes nothing.
 use mathlib.Core.Path.{_≡_, refl, sym, ap, ap₂, _∙_}
 use mathlib.Core.Bool.{_&&_}
 use mathlib.Core.List.{List, [], _∷_}
@@ -9,9 +9,10 @@ use lib.Dec.{eqb}
 use lib.ListN.{length, getD}
 use Rattle.sets.specs.Words.{two-words}
 use Rattle.records.specs.Numerals.{Bytes}
-use Rattle.records.specs.Fields.{size, place, laid, value}
-use Rattle.records.specs.StateRecord.{state-widths, state-size, length-in, kind-in, phase-in, low-in, high-in, Found, beyond, in-phase, read-state}
-use Rattle.records.proofs.Widths.{length-laid, value-laid}
+use Rattle.records.specs.Fields.{size, place, laid, value, values}
+use Rattle.records.specs.StateRecord.{state-widths, state-size, state-values, length-in, kind-in, version-in, statements-in, phase-in, low-in, high-in}
+use Rattle.records.specs.StateRecord.{Found, beyond, in-phase, read-state}
+use Rattle.records.proofs.Widths.{length-laid, value-laid, value-of, laid-only}
 use Rattle.records.proofs.Reading.{choose, headed, in-phase-of}
 use Rattle.records.proofs.LegalStates.{field-lt}
 
@@ -57,3 +58,32 @@ read-without-names pauses bs b l h =
 
     back : (i : ℕ) → i < 5 → getD xs i 0 < 256 ^ getD unnamed-widths i 0 → told i ≡ getD xs i 0
     back = value-laid unnamed-widths xs
+
+-- And the record is the one without its names, with the names put in before the phase.
+abbrev pub named : ℕ → ℕ → List ℕ → List ℕ
+named version statements us =
+    laid state-widths
+    (state-values version statements (value unnamed-widths 2 us) (value unnamed-widths 3 us) (value unnamed-widths 4 us))
+
+pub names-put-in : (bs : List ℕ) → Bytes bs → length bs ≡ state-size → length-in bs ≡ state-size → kind-in bs ≡ 2
+    → named (version-in bs) (statements-in bs) (unnamed bs) ≡ bs
+unfolding values
+names-put-in bs b l h k =
+    ap (laid state-widths)
+    (ap₂ _∷_ (sym h ∙ sym (its 0 (omega arith)))
+    (ap₂ _∷_ (sym k ∙ sym (its 1 (omega arith)))
+    (ap₂ _∷_ (sym (its 2 (omega arith)))
+    (ap₂ _∷_ (sym (its 3 (omega arith)))
+    (ap₂ _∷_ (back 2 (omega arith) (field-lt bs b (place state-widths 4) 2) ∙ sym (its 4 (omega arith)))
+    (ap₂ _∷_ (back 3 (omega arith) (field-lt bs b (place state-widths 5) 8) ∙ sym (its 5 (omega arith)))
+    (ap₂ _∷_ (back 4 (omega arith) (field-lt bs b (place state-widths 6) 8) ∙ sym (its 6 (omega arith))) refl)))))))
+    ∙ laid-only state-widths bs b l
+  where
+    xs : List ℕ
+    xs = unnamed-size ∷ kind-in bs ∷ phase-in bs ∷ low-in bs ∷ high-in bs ∷ []
+
+    back : (i : ℕ) → i < 5 → getD xs i 0 < 256 ^ getD unnamed-widths i 0 → value unnamed-widths i (laid unnamed-widths xs) ≡ getD xs i 0
+    back = value-laid unnamed-widths xs
+
+    its : (i : ℕ) → i < 7 → getD (values state-widths bs) i 0 ≡ value state-widths i bs
+    its = value-of state-widths bs

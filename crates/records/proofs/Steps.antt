@@ -1,9 +1,9 @@
 -- The step down: each way through `toward` has one law, from the tests on the way to where the search goes. Assumes nothing.
 use mathlib.Core.Path.{_≡_, refl, sym, ap, ap₂, _∙_, subst, subst⁻¹}
 use mathlib.Core.Logic.{_⊎_, inl, inr}
-use mathlib.Core.Bool.{Bool, true, false, cond}
-use mathlib.Core.List.{List}
-use mathlib.Core.Option.{Option, none, some}
+use mathlib.Core.Bool.{Bool, true, false, cond, _||_}
+use mathlib.Core.List.{List, [], _∷_}
+use mathlib.Core.Option.{none}
 use Prim.Native.Nat.{ℕ, _+_, _≤_, _<_}
 use native.Mathlib.Omega.{arith}
 use lib.Dec.{eqb}
@@ -14,9 +14,8 @@ use borrow.Author.Tests.{ne-eqb, eqb-true, eqb-false}
 use Rattle.rules.specs.Statements.{Stmt, pauses, Numbered}
 use Rattle.rules.specs.States.{holds-both, lowest-above, is-parallel, compatible}
 use Rattle.block.specs.Table.{Table, kind-of, statements}
-use Rattle.block.specs.Format.{Shape as Shaped, shape as shape-of, of-shape, children-of}
-use Rattle.block.specs.Told.{wire-of}
-use Rattle.block.specs.declared.kinds.Wire.the-variants.{Unknown}
+use Rattle.sets.specs.Numbers.{listed}
+use Rattle.block.specs.Format.{short, long, of-shape}
 use Rattle.records.specs.Clashing.{before, two-parts, Place, Goes}
 use Rattle.records.proofs.Walk.{row, statements-pos, One, Two, Shape, leaf, one, two, shape, before-step, before-part, before-next, numbered-one}
 use Rattle.records.proofs.Walk.{numbered-first, numbered-second, holds, holds-not-first, holds-not-second}
@@ -187,25 +186,30 @@ module _ (kinds sizes firsts : List ℕ) (m n i : ℕ) (p : Stmt) (P : Place kin
           by-second (two-of t .0) (two-of t .1) (two-of t .2) w,
         )
 
--- Two parts, by the shape of the kind.
-by-children : (k : ℕ) (o : Option Shaped) → shape-of k ≡ o → of-shape (λ s. s .children) o ≡ children-of k
-unfolding children-of
-by-children k o q = ap (of-shape (λ s. s .children)) (sym q)
+-- Two parts, by the shape of the kind: the three kinds have two children, and any other has none or one.
+pub two-yes : (k : ℕ) → (k ≡ 19) ⊎ ((k ≡ 21) ⊎ (k ≡ 23)) → true ≡ two-parts k
+unfolding two-parts listed
+two-yes k (inl e) = sym (ap two-parts e)
+two-yes k (inr (inl e)) = sym (ap two-parts e)
+two-yes k (inr (inr e)) = sym (ap two-parts e)
 
-pub two-by : (k n : ℕ) → n ≡ children-of k → eqb n 2 ≡ two-parts k
-unfolding two-parts
-two-by k n e = ap (λ (m : ℕ). eqb m 2) e
+none-two : (a b d e : Bool)
+    → eqb (of-shape (λ s. s .children) (cond a (short 0) (cond b (short 1) (cond false (short 2) (cond d (long 0) (cond e (long 1) (cond false (long 2) none))))))) 2 ≡ false
+none-two true b d e = refl
+none-two false true d e = refl
+none-two false false true e = refl
+none-two false false false true = refl
+none-two false false false false = refl
 
-pub two-of-none : (k : ℕ) → wire-of (shape-of k) ≡ Unknown → false ≡ two-parts k
-unfolding wire-of
-two-of-none k e = go (shape-of k) refl e
-  where
-    by : (o : Option Shaped) → shape-of k ≡ o → of-shape (λ s. s .children) o ≡ children-of k
-    by o q = by-children k o q
-
-    go : (o : Option Shaped) → shape-of k ≡ o → wire-of o ≡ Unknown → false ≡ two-parts k
-    go none q u = two-by k 0 (by none q)
-    go (some s) q u = let z : _≡_ {A = ℕ} 0 1 = cc in absurd (omega arith)
+pub two-no : (k : ℕ) → ((k ≡ 19) ⊎ ((k ≡ 21) ⊎ (k ≡ 23)) → ⊥) → false ≡ two-parts k
+unfolding two-parts listed
+two-no k f =
+    let plain : listed (21 ∷ 23 ∷ []) k ≡ false = ap₂ (λ (x y : Bool). x || (y || false)) (ne-eqb k 21 (λ e. f (inr (inl e)))) (ne-eqb k 23 (λ e. f (inr (inr e)))) in
+    let test : listed (19 ∷ []) k ≡ false = ap (λ (x : Bool). x || false) (ne-eqb k 19 (λ e. f (inl e))) in
+    sym (ap₂ (λ (x y : Bool). eqb (of-shape (λ s. s .children)
+    (cond (listed (16 ∷ 17 ∷ []) k) (short 0) (cond (listed (22 ∷ 24 ∷ []) k) (short 1) (cond x (short 2)
+    (cond (listed (18 ∷ 25 ∷ []) k) (long 0) (cond (listed (20 ∷ 26 ∷ []) k) (long 1) (cond y (long 2) none))))))) 2) plain test
+    ∙ none-two (listed (16 ∷ 17 ∷ []) k) (listed (22 ∷ 24 ∷ []) k) (listed (18 ∷ 25 ∷ []) k) (listed (20 ∷ 26 ∷ []) k))
 
 -- The pass that counts the pauses before each statement.
 pub count-more : (kinds : List ℕ) (i : ℕ) {n : ℕ} → n ≡ before kinds i → getD kinds i 0 ≡ 17 → n + 1 ≡ before kinds (i + 1)
