@@ -67,6 +67,13 @@ extern "C" {
 #define FOLDHERON_TAKEN 20           /* the party has a block of that name there */
 #define FOLDHERON_QUOTA 21           /* the party would hold more than it may */
 #define FOLDHERON_ABSENT 22          /* the party has no block of that name there */
+/* Those of the calls that read text, say why, compare two blocks and draw the maze. */
+#define FOLDHERON_TEXT 15            /* text outside the grammar, or a name that may not stand there */
+#define FOLDHERON_QUESTION 16        /* what is asked about is not so */
+#define FOLDHERON_INTERFACE 23       /* not as many inputs, or not as many outputs */
+#define FOLDHERON_WIDE 24            /* more than 6 inputs */
+#define FOLDHERON_PAIRS 25           /* more than 1,024 pairs of states */
+#define FOLDHERON_FORM 26            /* not a block that has a maze */
 #define FOLDHERON_ANSWER 64          /* not as many bytes as this call's answer has */
 
 /* A block has at most so many bytes, a state exactly so many, a log record exactly so many. */
@@ -207,12 +214,18 @@ static inline const char *foldheron_name(unsigned number)
     case FOLDHERON_ROOM: return "ROOM";
     case FOLDHERON_NOT_CONSTRUCTIVE: return "NOT CONSTRUCTIVE";
     case FOLDHERON_INDEX: return "INDEX";
+    case FOLDHERON_TEXT: return "TEXT";
+    case FOLDHERON_QUESTION: return "QUESTION";
     case FOLDHERON_OTHER_BLOCK: return "OTHER BLOCK";
     case FOLDHERON_PARTY: return "PARTY";
     case FOLDHERON_SHELF: return "SHELF";
     case FOLDHERON_TAKEN: return "TAKEN";
     case FOLDHERON_QUOTA: return "QUOTA";
     case FOLDHERON_ABSENT: return "ABSENT";
+    case FOLDHERON_INTERFACE: return "INTERFACE";
+    case FOLDHERON_WIDE: return "WIDE";
+    case FOLDHERON_PAIRS: return "PAIRS";
+    case FOLDHERON_FORM: return "FORM";
     case FOLDHERON_ANSWER: return "ANSWER";
     default: return NULL;
     }

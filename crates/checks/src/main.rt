@@ -34,12 +34,18 @@ pub(crate) fn number(w: Why) -> u64 {
         Why::Room => 12,
         Why::NotConstructive => 13,
         Why::Index => 14,
+        Why::Text => 15,
+        Why::Question => 16,
         Why::OtherBlock => 17,
         Why::Party => 18,
         Why::Shelf => 19,
         Why::Taken => 20,
         Why::Quota => 21,
         Why::Absent => 22,
+        Why::Interface => 23,
+        Why::Wide => 24,
+        Why::Pairs => 25,
+        Why::Form => 26,
     }
 }
 

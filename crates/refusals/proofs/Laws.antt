@@ -9,7 +9,7 @@ use borrow.Author.Tests.{eq-eqb, ne-eqb}
 use native.Mathlib.Decide.{ℕ-discrete}
 use Rattle.refusals.specs.declared.Why.{Why}
 use Rattle.refusals.specs.declared.Why.the-variants.{Broken, Kind, Edition, Limit, Signal, Exit, Shape, Loop, State, Clash, Input, Room, NotConstructive}
-use Rattle.refusals.specs.declared.Why.the-variants.{Index, OtherBlock, Party, Shelf, Taken, Quota, Absent}
+use Rattle.refusals.specs.declared.Why.the-variants.{Index, Text, Question, OtherBlock, Party, Shelf, Taken, Quota, Absent, Interface, Wide, Pairs, Form}
 use Rattle.refusals.specs.Refusals.{number, refusals, has-number, first-with, has-refusal, why-of}
 
 number-in : (ws : List Why) (n : ℕ) → T (has-number ws n) → number (first-with ws n) ≡ n
@@ -69,12 +69,18 @@ why-back Input = refl
 why-back Room = refl
 why-back NotConstructive = refl
 why-back Index = refl
+why-back Text = refl
+why-back Question = refl
 why-back OtherBlock = refl
 why-back Party = refl
 why-back Shelf = refl
 why-back Taken = refl
 why-back Quota = refl
 why-back Absent = refl
+why-back Interface = refl
+why-back Wide = refl
+why-back Pairs = refl
+why-back Form = refl
 
 pub numbers-differ : (v w : Why) → number v ≡ number w → v ≡ w
 numbers-differ v w e = sym (why-back v) ∙ ap why-of e ∙ why-back w

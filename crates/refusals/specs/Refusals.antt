@@ -5,7 +5,7 @@ use Prim.Native.Nat.{ℕ}
 use lib.Dec.{eqb}
 use Rattle.refusals.specs.declared.Why.{Why}
 use Rattle.refusals.specs.declared.Why.the-variants.{Broken, Kind, Edition, Limit, Signal, Exit, Shape, Loop, State, Clash, Input, Room, NotConstructive}
-use Rattle.refusals.specs.declared.Why.the-variants.{Index, OtherBlock, Party, Shelf, Taken, Quota, Absent}
+use Rattle.refusals.specs.declared.Why.the-variants.{Index, Text, Question, OtherBlock, Party, Shelf, Taken, Quota, Absent, Interface, Wide, Pairs, Form}
 
 -- The numbers given back when a call is turned down.
 unfoldable pub number : Why → ℕ
@@ -23,16 +23,24 @@ number Input = 11
 number Room = 12
 number NotConstructive = 13
 number Index = 14
+number Text = 15
+number Question = 16
 number OtherBlock = 17
 number Party = 18
 number Shelf = 19
 number Taken = 20
 number Quota = 21
 number Absent = 22
+number Interface = 23
+number Wide = 24
+number Pairs = 25
+number Form = 26
 
 -- All of them, by rising numbers.
 abbrev pub refusals : List Why
-refusals = Broken ∷ Kind ∷ Edition ∷ Limit ∷ Signal ∷ Exit ∷ Shape ∷ Loop ∷ State ∷ Clash ∷ Input ∷ Room ∷ NotConstructive ∷ Index ∷ OtherBlock ∷ Party ∷ Shelf ∷ Taken ∷ Quota ∷ Absent ∷ []
+refusals =
+    Broken ∷ Kind ∷ Edition ∷ Limit ∷ Signal ∷ Exit ∷ Shape ∷ Loop ∷ State ∷ Clash ∷ Input ∷ Room ∷ NotConstructive ∷ Index ∷
+    Text ∷ Question ∷ OtherBlock ∷ Party ∷ Shelf ∷ Taken ∷ Quota ∷ Absent ∷ Interface ∷ Wide ∷ Pairs ∷ Form ∷ []
 
 -- Whether one of a list has a number, and which one has it first; INDEX, where none has it.
 unfoldable pub has-number : List Why → ℕ → Bool

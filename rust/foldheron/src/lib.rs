@@ -45,12 +45,18 @@ pub fn name_of(number: u16) -> Option<&'static str> {
         12 => "ROOM",
         13 => "NOT CONSTRUCTIVE",
         14 => "INDEX",
+        15 => "TEXT",
+        16 => "QUESTION",
         17 => "OTHER BLOCK",
         18 => "PARTY",
         19 => "SHELF",
         20 => "TAKEN",
         21 => "QUOTA",
         22 => "ABSENT",
+        23 => "INTERFACE",
+        24 => "WIDE",
+        25 => "PAIRS",
+        26 => "FORM",
         _ => return None,
     })
 }

@@ -68,6 +68,24 @@ enum-told-19 c = search needs
 enum-told-20 : tie.Need-enum-told-20
 enum-told-20 c = search needs
 
+enum-told-21 : tie.Need-enum-told-21
+enum-told-21 c = search needs
+
+enum-told-22 : tie.Need-enum-told-22
+enum-told-22 c = search needs
+
+enum-told-23 : tie.Need-enum-told-23
+enum-told-23 c = search needs
+
+enum-told-24 : tie.Need-enum-told-24
+enum-told-24 c = search needs
+
+enum-told-25 : tie.Need-enum-told-25
+enum-told-25 c = search needs
+
+enum-told-26 : tie.Need-enum-told-26
+enum-told-26 c = search needs
+
 returns : tie.Need-returns
 unfolding number
 returns c = ap number (sym (c .enum-told .given .1))
@@ -148,6 +166,30 @@ returns-20 : tie.Need-returns-20
 unfolding number
 returns-20 c = ap number (sym (c .enum-told20 .given .1))
 
+returns-21 : tie.Need-returns-21
+unfolding number
+returns-21 c = ap number (sym (c .enum-told21 .given .1))
+
+returns-22 : tie.Need-returns-22
+unfolding number
+returns-22 c = ap number (sym (c .enum-told22 .given .1))
+
+returns-23 : tie.Need-returns-23
+unfolding number
+returns-23 c = ap number (sym (c .enum-told23 .given .1))
+
+returns-24 : tie.Need-returns-24
+unfolding number
+returns-24 c = ap number (sym (c .enum-told24 .given .1))
+
+returns-25 : tie.Need-returns-25
+unfolding number
+returns-25 c = ap number (sym (c .enum-told25 .given .1))
+
+returns-26 : tie.Need-returns-26
+unfolding number
+returns-26 c = ap number (sym (c .enum-told26 .given .1))
+
 pub number-of-spec : {M : Type 1} → statement M
 number-of-spec =
     tie.close
@@ -172,6 +214,12 @@ number-of-spec =
     enum-told-18
     enum-told-19
     enum-told-20
+    enum-told-21
+    enum-told-22
+    enum-told-23
+    enum-told-24
+    enum-told-25
+    enum-told-26
     returns
     returns-2
     returns-3
@@ -191,4 +239,10 @@ number-of-spec =
     returns-17
     returns-18
     returns-19
-    returns-20)
+    returns-20
+    returns-21
+    returns-22
+    returns-23
+    returns-24
+    returns-25
+    returns-26)

@@ -89,8 +89,32 @@ unfolding number first-with
 returns-20 c = ap why-of (sym (c .match .keys20))
 
 returns-21 : tie.Need-returns-21
+unfolding number first-with
+returns-21 c = ap why-of (sym (c .match .keys21))
+
+returns-22 : tie.Need-returns-22
+unfolding number first-with
+returns-22 c = ap why-of (sym (c .match .keys22))
+
+returns-23 : tie.Need-returns-23
+unfolding number first-with
+returns-23 c = ap why-of (sym (c .match .keys23))
+
+returns-24 : tie.Need-returns-24
+unfolding number first-with
+returns-24 c = ap why-of (sym (c .match .keys24))
+
+returns-25 : tie.Need-returns-25
+unfolding number first-with
+returns-25 c = ap why-of (sym (c .match .keys25))
+
+returns-26 : tie.Need-returns-26
+unfolding number first-with
+returns-26 c = ap why-of (sym (c .match .keys26))
+
+returns-27 : tie.Need-returns-27
 unfolding number NoneOf
-returns-21 c = none-of _ refusals _ (c .match .rest) .1
+returns-27 c = none-of _ refusals _ (c .match .rest) .1
 
 pub refusal-spec : {M : Type 1} → statement M
 refusal-spec =
@@ -116,4 +140,10 @@ refusal-spec =
     returns-18
     returns-19
     returns-20
-    returns-21)
+    returns-21
+    returns-22
+    returns-23
+    returns-24
+    returns-25
+    returns-26
+    returns-27)
