@@ -15,7 +15,7 @@ use Rattle.rules.specs.Rounds.{Answer, answered, not-constructive, undec
 
 -- A whole answer with its sets as lists: refusal (0 or 13), the outputs' statuses in order, how many are undecided, the code,
 -- the rounds, the phase of the next state (0, 1, 2; 0 where there is none) and the pauses kept.
-pub record Told : Type 0 where
+pub record WholeAnswer : Type 0 where
   pub refusal : ℕ
   pub statuses : List Status
   pub undecided : ℕ
@@ -28,7 +28,7 @@ abbrev pub pauses-of : Stmt → State → List ℕ
 unfolding members pauses active-of
 pauses-of p st = members (length (pauses p)) (active-of st)
 
-abbrev pub tell : Stmt → Answer → Told
+abbrev pub tell : Stmt → Answer → WholeAnswer
 unfolding members pauses phase-of active-of undecided
 tell p (answered vs c st n) =
     record { refusal = 0; statuses = vs; undecided = undecided vs; code = c; rounds = n; phase = phase-of st; keeps = pauses-of p st }
@@ -43,13 +43,13 @@ pub record Row : Type 0 where
   pub begins : State
   pub given : List ℕ
   pub unheard : List ℕ
-  pub told : Told
+  pub told : WholeAnswer
 
-abbrev pub row : ℕ → ℕ → Stmt → State → List ℕ → Told → Row
+abbrev pub row : ℕ → ℕ → Stmt → State → List ℕ → WholeAnswer → Row
 row i o p st given t = record { inputs = i; outputs = o; body = p; begins = st; given = given; unheard = []; told = t }
 
 -- With inputs not heard yet: the others are present where they are given and else absent.
-abbrev pub late-row : ℕ → ℕ → Stmt → State → List ℕ → List ℕ → Told → Row
+abbrev pub late-row : ℕ → ℕ → Stmt → State → List ℕ → List ℕ → WholeAnswer → Row
 late-row i o p st given late t = record { inputs = i; outputs = o; body = p; begins = st; given = given; unheard = late; told = t }
 
 abbrev pub active-on : List ℕ → State
@@ -64,7 +64,7 @@ abbrev pub reaction : Row → Answer
 unfolding react listed
 reaction r = react (record { inputs = r .inputs; outputs = r .outputs; body = r .body }) (r .begins) (heard-in r)
 
-abbrev pub answers : Row → Told
+abbrev pub answers : Row → WholeAnswer
 unfolding react listed members pauses phase-of active-of undecided
 answers r = tell (r .body) (reaction r)
 
@@ -77,15 +77,15 @@ unfolding react listed
 after r = left-by (reaction r)
 
 -- Answered with code 0, which finishes the block.
-abbrev pub ends : List Status → ℕ → Told
+abbrev pub ends : List Status → ℕ → WholeAnswer
 ends vs n = record { refusal = 0; statuses = vs; undecided = 0; code = 0; rounds = n; phase = 2; keeps = [] }
 
 -- Answered with code 1, which leaves it running on these pauses.
-abbrev pub waits : List Status → ℕ → List ℕ → Told
+abbrev pub waits : List Status → ℕ → List ℕ → WholeAnswer
 waits vs n ks = record { refusal = 0; statuses = vs; undecided = 0; code = 1; rounds = n; phase = 1; keeps = ks }
 
 -- NOT CONSTRUCTIVE.
-abbrev pub stuck : List Status → ℕ → ℕ → Told
+abbrev pub stuck : List Status → ℕ → ℕ → WholeAnswer
 stuck vs u n = record { refusal = 13; statuses = vs; undecided = u; code = 0; rounds = n; phase = 0; keeps = [] }
 
 -- The cases that document 01 marks, with their letters.

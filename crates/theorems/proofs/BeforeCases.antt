@@ -11,11 +11,11 @@ use Rattle.rules.specs.Instant.{any, active, held, started, resumed}
 use Rattle.rules.specs.MustCan.{gives}
 use Rattle.rules.specs.States.{fresh, phase-of, active-of, step, kept, next}
 use Rattle.rules.specs.Rounds.{undecided, marks, round, begin, all-same, settle, final-of, answer, react}
-use Rattle.rules.proofs.Cases.{Told, tell, Row, row, heard-in, answers, ends, stuck, N, table}
+use Rattle.rules.proofs.Cases.{WholeAnswer, tell, Row, row, heard-in, answers, ends, stuck, N, table}
 use Rattle.theorems.specs.Before.{gives-by, kept-before, round-before, settle-before, react-before}
 
 -- The answer that the rules gave to a row's instant.
-abbrev pub answered-before : Row → Told
+abbrev pub answered-before : Row → WholeAnswer
 unfolding react-before listed members pauses phase-of active-of undecided
 answered-before r = tell (r .body) (react-before (record { inputs = r .inputs; outputs = r .outputs; body = r .body }) (r .begins) (heard-in r))
 

@@ -20,7 +20,7 @@ use Rattle.rules.proofs.OneCode.{one-code}
 use Rattle.theorems.specs.Order.{Below, _⊑_, HearsMore, Choice, whole, Inside, Between}
 use Rattle.theorems.specs.Reach.{Reached, at-first, Final}
 use Rattle.theorems.specs.Reactions.{Some, OnlyReaction}
-use Rattle.theorems.specs.Checked.{Checked, Part, NeverZero, ZeroOrOne}
+use Rattle.theorems.specs.Checked.{Checked, StandsIn, NeverZero, ZeroOrOne}
 use Rattle.theorems.specs.Traces.{InputSet, Instant, Trace}
 use Rattle.theorems.specs.Demand.{NeverStuck}
 use Rattle.theorems.specs.Late.{SameButRounds}
@@ -47,7 +47,7 @@ a-block-that-passes-the-check-never-gets-stuck = never-stuck
 
 -- "From any state legal for it, over any run of instants with inputs it declares, no loop body ends with code 0 in the instant it began,"
 -- wherever the loop stands, at every event and in every run of the started body.
-pub no-loop-body-ends-with-0 : (b : Block) → Checked b → (q : Stmt) → Part (loop q) (b .body) → NeverZero (started q)
+pub no-loop-body-ends-with-0 : (b : Block) → Checked b → (q : Stmt) → StandsIn (loop q) (b .body) → NeverZero (started q)
 no-loop-body-ends-with-0 b checked q part = loop-body-never-zero q (b .body) part (checked .loops-are-good)
 
 -- "every exit finds its trap,"

@@ -13,7 +13,7 @@ use Rattle.rules.specs.MustCan.{gives}
 use Rattle.rules.specs.Loops.{codes-of, loops-pass}
 use Rattle.rules.specs.States.{State, fresh, running, finished, step, Legal, kept, next}
 use Rattle.rules.specs.Rounds.{Answer, answered, not-constructive, marks, round, begin, all-same, settle, final-of, answer, react}
-use Rattle.theorems.specs.Checked.{Checked, Part, itself, in-trap, in-left}
+use Rattle.theorems.specs.Checked.{Checked, StandsIn, itself, in-trap, in-left}
 use Rattle.theorems.specs.Traces.{InputSet, run}
 use Rattle.theorems.specs.Demand.{NeverStuck}
 use Rattle.theorems.proofs.Traces.{never-stuck}
@@ -70,7 +70,7 @@ waiting-never-stuck : NeverStuck waiting fresh waiting-inputs
 unfolding Legal
 waiting-never-stuck = never-stuck waiting waiting-checked fresh tt waiting-inputs
 
-waiting-loop : Part (loop (pause 0 ⨾ (present? 0 then (emit 1 ⨾ exit (depth 0)) else nothing))) (waiting .body)
+waiting-loop : StandsIn (loop (pause 0 ⨾ (present? 0 then (emit 1 ⨾ exit (depth 0)) else nothing))) (waiting .body)
 waiting-loop = in-trap (in-left itself)
 
 -- present I then (present O then emit O else nothing) else pause.

@@ -12,7 +12,7 @@ use Rattle.rules.specs.Instant.{started}
 use Rattle.rules.specs.MustCan.{Question, gives}
 use Rattle.rules.specs.Loops.{codes-of, loops-pass}
 use Rattle.rules.specs.Coherence.{Locals, execute}
-use Rattle.theorems.specs.Checked.{NeverZero, Part, itself, in-then, in-else, in-suspend, in-first, in-second, in-loop, in-left, in-right, in-trap, in-local}
+use Rattle.theorems.specs.Checked.{NeverZero, StandsIn, itself, in-then, in-else, in-suspend, in-first, in-second, in-loop, in-left, in-right, in-trap, in-local}
 use Rattle.theorems.proofs.Ends.{ends, codes-after-mono, given-ends, run-ends}
 
 zero-free : (a : Numbers) → T (not (a 0)) → Within a (without 0 a)
@@ -45,7 +45,7 @@ pub run-codes : (p : Stmt) → T (loops-pass p) → (l : Locals (started p)) (W 
 run-codes p h l W = ends-in-codes p h .at (execute (started p) l W .completes) (run-ends (started p) l W)
 
 -- Every part of a statement whose loops pass has loops that pass.
-part-passes : {q p : Stmt} → Part q p → T (loops-pass p) → T (loops-pass q)
+part-passes : {q p : Stmt} → StandsIn q p → T (loops-pass p) → T (loops-pass q)
 unfolding loops-pass
 part-passes itself h = h
 part-passes (in-then {p = p} {r = r} m) h = part-passes m (and-left (loops-pass p) (loops-pass r) h)
@@ -60,7 +60,7 @@ part-passes (in-trap m) h = part-passes m h
 part-passes (in-local m) h = part-passes m h
 
 -- A loop's body, started, never has code 0.
-module _ (q p : Stmt) (part : Part (loop q) p) (h : T (loops-pass p)) where
+module _ (q p : Stmt) (part : StandsIn (loop q) p) (h : T (loops-pass p)) where
   body-checked : T (not (codes-of q 0) && loops-pass q)
   unfolding loops-pass
   body-checked = part-passes part h

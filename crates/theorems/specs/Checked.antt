@@ -16,19 +16,19 @@ pub record Checked (b : Block) : Type 0 where
   pub exits-are-trapped : Trapped 0 (b .body)
   pub pauses-are-numbered : Numbered 0 (b .body)
 
--- Part q p: the statement q stands in p, or is p.
-pub data Part (q : Stmt) : Stmt → Type 0 where
-  itself : Part q q
-  in-then : {s : ℕ} {p r : Stmt} → Part q p → Part q (present? s then p else r)
-  in-else : {s : ℕ} {p r : Stmt} → Part q r → Part q (present? s then p else r)
-  in-suspend : {s : ℕ} {p : Stmt} → Part q p → Part q (suspend p on s)
-  in-first : {p r : Stmt} → Part q p → Part q (p ⨾ r)
-  in-second : {p r : Stmt} → Part q r → Part q (p ⨾ r)
-  in-loop : {p : Stmt} → Part q p → Part q (loop p)
-  in-left : {p r : Stmt} → Part q p → Part q (p parallel r)
-  in-right : {p r : Stmt} → Part q r → Part q (p parallel r)
-  in-trap : {p : Stmt} → Part q p → Part q (trap p)
-  in-local : {s : ℕ} {p : Stmt} → Part q p → Part q (local s p)
+-- StandsIn q p: the statement q stands in p, or is p.
+pub data StandsIn (q : Stmt) : Stmt → Type 0 where
+  itself : StandsIn q q
+  in-then : {s : ℕ} {p r : Stmt} → StandsIn q p → StandsIn q (present? s then p else r)
+  in-else : {s : ℕ} {p r : Stmt} → StandsIn q r → StandsIn q (present? s then p else r)
+  in-suspend : {s : ℕ} {p : Stmt} → StandsIn q p → StandsIn q (suspend p on s)
+  in-first : {p r : Stmt} → StandsIn q p → StandsIn q (p ⨾ r)
+  in-second : {p r : Stmt} → StandsIn q r → StandsIn q (p ⨾ r)
+  in-loop : {p : Stmt} → StandsIn q p → StandsIn q (loop p)
+  in-left : {p r : Stmt} → StandsIn q p → StandsIn q (p parallel r)
+  in-right : {p r : Stmt} → StandsIn q r → StandsIn q (p parallel r)
+  in-trap : {p : Stmt} → StandsIn q p → StandsIn q (trap p)
+  in-local : {s : ℕ} {p : Stmt} → StandsIn q p → StandsIn q (local s p)
 
 -- A step never has code 0: not in must, not in can at any event under either mark, and in no execution.
 pub record NeverZero (S : Step) : Type 0 where

@@ -6,14 +6,14 @@ use Rattle.rules.specs.Statements.{Block, Stmt, loop}
 use Rattle.rules.specs.Instant.{started}
 use Rattle.rules.specs.States.{State, step, Legal}
 use Rattle.rules.specs.Rounds.{Answer}
-use Rattle.theorems.specs.Checked.{Part, NeverZero, ZeroOrOne}
+use Rattle.theorems.specs.Checked.{StandsIn, NeverZero, ZeroOrOne}
 use Rattle.theorems.specs.Reactions.{OnlyIfAnswered}
 use Rattle.theorems.specs.Traces.{InputSet, Instant, after, Trace, Throughout, run, arrives}
 
 -- Of an instant from a state, with an input set and an answer:
 pub record NotStuck (b : Block) (st : State) (given : InputSet b) (a : Answer) : Type 0 where
   -- no loop body ends with code 0 in the instant it began,
-  pub loop-bodies : (q : Stmt) → Part (loop q) (b .body) → NeverZero (started q)
+  pub loop-bodies : (q : Stmt) → StandsIn (loop q) (b .body) → NeverZero (started q)
   -- every exit finds its trap,
   pub exits : ZeroOrOne (step (b .body) st)
   -- the states before and after are legal,
