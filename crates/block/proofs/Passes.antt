@@ -1,5 +1,5 @@
 -- What is known of a record that passes all tests, and the bounds that this keeps.
-use mathlib.Core.Path.{_≡_, refl, _∙_, ap}
+use mathlib.Core.Path.{_≡_, refl, sym, _∙_, ap}
 use mathlib.Core.Logic.{_⊎_, inl, inr, ⊎-elim}
 use mathlib.Core.Bool.{Bool, true, false, not, cond, _&&_, _||_}
 use mathlib.Core.List.{List}
@@ -11,7 +11,7 @@ use borrow.Author.Tests.{ltb-true, ltb-false, leb-true, leb-false, eqb-true, eqb
 use Rattle.sets.proofs.Members.{of-true, is-true}
 use Rattle.block.specs.Format.{Header, Around, Sofar, length-at, kind-at, operand-at, is-broken, declared-here, over-limit, wrong-signal, wrong-exit, statement-fault, length-of}
 use Rattle.block.proofs.Views.{Kind, kind?, known-length}
-use Rattle.block.proofs.Tests.{fault-none}
+use Rattle.block.proofs.Tests.{fault-last}
 
 -- A record of kind k with operand x that passes.
 pub record Passes (room end : ℕ) (h : Header) (a : Around) (r : Sofar) (k x : ℕ) : Type 0 where
@@ -222,4 +222,4 @@ no-fault room b h a r e p =
     let l = known-length (p .its-kind) in
     let ends = p .ends in
     let long : 4 ≤ length-at b (r .place) = omega (arith, e) in
-    fault-none room b h a r (omega arith) (is-whole b (r .place) (omega arith) long (omega (arith, e))) _ _ refl refl e (within-limits p) _ refl (right-signal p) (right-exit p)
+    fault-last room b h a r (omega arith) (is-whole b (r .place) (omega arith) long (omega (arith, e))) _ _ refl refl e (within-limits p) _ refl (right-signal p) false (sym (right-exit p))

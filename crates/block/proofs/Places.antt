@@ -15,26 +15,12 @@ use Rattle.sets.specs.Words.{bits}
 use Rattle.rules.specs.Statements.{depth, code, Stmt, nothing, pause, emit, present?_then_else_, suspend_on_, _⨾_, loop, _parallel_, trap, exit, local}
 use Rattle.rules.specs.Loops.{codes-of}
 use Rattle.rules.proofs.Preorder.{only-child, first-child, second-child}
--- Known from the rules, and handed on.
+-- Known from the rules and from the rows, and handed on.
 pub use Rattle.rules.proofs.Preorder.{first-is, all-counted, some-statement}
-use Rattle.block.specs.Table.{Table, Row, Has, kind-of, operand-of, statements, Small}
+pub use Rattle.block.proofs.Rows.{has-row}
+use Rattle.block.specs.Table.{Table, Has, kind-of, operand-of, statements, Small}
 use Rattle.block.specs.Format.{preorder, numbered, endless}
 use Rattle.block.specs.Codes.{codes-for, Fed}
-
--- The table's row of a statement that it has.
-pub has-row : {tab : Table} {i : ℕ} (p : Stmt) → Has tab i p → Row tab i p
-unfolding Has
-has-row nothing h = h
-has-row (pause n) h = h
-has-row (emit s) h = h
-has-row (present? s then p else q) h = h .0
-has-row (suspend p on s) h = h .0
-has-row (p ⨾ q) h = h .0
-has-row (loop p) h = h .0
-has-row (p parallel q) h = h .0
-has-row (trap p) h = h .0
-has-row (exit d) h = h
-has-row (local s p) h = h .0
 
 -- Statement i of the tree, with the table's base at the tree's own number: it ends within the tree, the table has it, it is small,
 -- and the statements below it come directly after it.

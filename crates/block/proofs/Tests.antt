@@ -111,15 +111,10 @@ module _ (room : ℕ) (b : List ℕ) (h : Header) (a : Around) (r : Sofar) where
           fault-signal e =
               simp (lt-leb (length b) (r .place) due, whole, ← ek, ← el, ← ex, eq-eqb (length-of k) l right, within, e)
 
-          pub fault-exit : wrong-signal h a r k x ≡ false → wrong-exit a k x ≡ true → fault ≡ 6
+          pub fault-last : wrong-signal h a r k x ≡ false → (z : Bool) → z ≡ wrong-exit a k x → fault ≡ cond z 6 0
           unfolding statement-fault
-          fault-exit n e =
-              simp (lt-leb (length b) (r .place) due, whole, ← ek, ← el, ← ex, eq-eqb (length-of k) l right, within, n, e)
-
-          pub fault-none : wrong-signal h a r k x ≡ false → wrong-exit a k x ≡ false → fault ≡ 0
-          unfolding statement-fault
-          fault-none n e =
-              simp (lt-leb (length b) (r .place) due, whole, ← ek, ← el, ← ex, eq-eqb (length-of k) l right, within, n, e)
+          fault-last n z e =
+              simp (lt-leb (length b) (r .place) due, whole, ← ek, ← el, ← ex, eq-eqb (length-of k) l right, within, n, ← e)
 
 -- The header's number, by the first test that fails.
 module _ (b : List ℕ) where

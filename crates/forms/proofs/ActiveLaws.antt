@@ -19,8 +19,8 @@ use Rattle.rules.specs.Statements.{depth, Stmt, nothing, pause, emit, present?_
 use Rattle.rules.specs.Instant.{any, active, held}
 use Rattle.block.specs.Table.{Table, kind-of, operand-of, statements, Row, Has, Small}
 use Rattle.forms.specs.Forms.{At, Live, LiveFrom, row-pauses, pauses-in, among}
-use Rattle.block.proofs.Rows.{row, statements-pos}
-use Rattle.forms.proofs.FormLaws.{in-table, Second, behind, Kid, Kids, kids, Flags}
+use Rattle.block.proofs.Rows.{has-row, some-statement}
+use Rattle.forms.proofs.FormLaws.{in-table, Second, second-at, Kid, Kids, kids, Flags}
 
 -- Active pauses, part by part.
 any-append : (A : Numbers) (xs ys : List ℕ) → any A (xs ++ ys) ≡ (any A xs || any A ys)
@@ -49,12 +49,12 @@ active-flag k z i n a lp lq = cond (eqb k 17) a (sized-flag z i n lp lq)
 
 module _ {tab : Table} {A : Numbers} {i n : ℕ} {lp lq : Bool} (s : Second tab i n) (f : Flags tab A i n lp lq) where
   with-one : (p : Stmt) → Kid tab i (i + 1) p → sized-flag (1 + statements p) i n lp lq ≡ active A p
-  with-one p k = one-flag i n (statements p) lp lq (statements-pos p) (behind i s p (k .there)) ∙ f .on-first p (k .there)
+  with-one p k = one-flag i n (statements p) lp lq (some-statement p) (second-at i s p (k .there)) ∙ f .on-first p (k .there)
 
   with-two : (p q : Stmt) → Kid tab i (i + 1) p → Kid tab i n q → sized-flag (1 + statements p + statements q) i n lp lq ≡ any A (pauses p ++ pauses q)
   unfolding active
   with-two p q k l =
-      two-flag i n (statements p) (statements q) lp lq (statements-pos p) (statements-pos q) (behind i s p (k .there))
+      two-flag i n (statements p) (statements q) lp lq (some-statement p) (some-statement q) (second-at i s p (k .there))
       ∙ ap₂ (λ (x y : Bool). x || y) (f .on-first p (k .there)) (f .on-next q (l .after) (l .there)) ∙ sym (any-append A (pauses p) (pauses q))
 
   flag-is : (t : Stmt) → Kids tab i n t → active-flag (kind-of t) (statements t) i n (ltb (operand-of t) 128 && A (operand-of t)) lp lq ≡ active A t
@@ -90,7 +90,7 @@ module _ {tab : Table} {A : Numbers} {live : List Bool} {i : ℕ} (l : LiveFrom 
   flagged {n} {lp} {lq} s g h = rw (r .its-kind, r .its-operand, r .its-size) (flag-is s flags t (kids s t a))
     where
       r : Row tab i t
-      r = row t (a .has)
+      r = has-row t (a .has)
 
       flags : Flags tab A i n lp lq
       flags = record {
@@ -258,7 +258,7 @@ rows-more tab i n A = among-more A (pauses-in tab i n) (row-pauses tab (i + n)) 
 
 pub rows-all : (tab : Table) (i n : ℕ) (A : Numbers) (t : Stmt) → At tab i t → n ≡ getD (tab .sizes) i 0 → among A (pauses-in tab i n) ≡ held A t
 rows-all tab i n A t a e =
-    ap (λ (x : ℕ). among A (pauses-in tab i x)) (e ∙ row t (a .has) .its-size) ∙ ap (among A) (pauses-found tab i t (a .has)) ∙ among-held A t (a .small)
+    ap (λ (x : ℕ). among A (pauses-in tab i x)) (e ∙ has-row t (a .has) .its-size) ∙ ap (among A) (pauses-found tab i t (a .has)) ∙ among-held A t (a .small)
 
 -- One turn of the pass: the row before i.
 pub live-step : {tab : Table} {A : Numbers} (live : List Bool) (i : ℕ) (b : Bool) → 0 < i → i ≤ 512 → length live ≡ 512 → LiveFrom tab A live i

@@ -10,7 +10,7 @@ use Rattle.sets.specs.Numbers.{Numbers}
 use Rattle.rules.specs.Statements.{depth, Stmt, nothing, pause, emit, present?_then_else_, suspend_on_, _⨾_, loop, _parallel_, trap, exit, local}
 use Rattle.rules.specs.Instant.{done, stay, chain, active, held, started, resumed}
 use Rattle.block.specs.Table.{Table, kind-of, operand-of, statements, Has, Small}
-use Rattle.block.proofs.Rows.{row, statements-pos}
+use Rattle.block.proofs.Rows.{has-row, some-statement}
 use Rattle.forms.specs.declared.form.Going.{Going}
 use Rattle.forms.specs.declared.form.Going.the-variants.{Started, Resumed, Held, Idle}
 use Rattle.forms.specs.declared.form.Task.{Task}
@@ -35,7 +35,7 @@ some-kind (exit d) f0 f1 f2 f3 f4 f5 f6 f7 f8 f9 f10 = f9 refl
 some-kind (local s p) f0 f1 f2 f3 f4 f5 f6 f7 f8 f9 f10 = f10 refl
 
 pub in-table : {tab : Table} {i : ℕ} → Placed tab i → i < 512
-in-table {i = i} h = omega (arith, h .there .room, statements-pos (h .tree))
+in-table {i = i} h = omega (arith, h .there .room, some-statement (h .tree))
 
 -- A child: it stands at j and is smaller than the statement at i.
 pub record Kid (tab : Table) (i j : ℕ) (t : Stmt) : Type 0 where
@@ -53,28 +53,28 @@ kid-does A {t = t} g k = record { tree = t; there = k .there; its-step = refl }
 abbrev pub Second : Table → ℕ → ℕ → Type 0
 Second tab i n = i + 1 < 512 → n ≡ i + 1 + getD (tab .sizes) (i + 1) 0
 
-pub behind : {tab : Table} (i : ℕ) {n : ℕ} → Second tab i n → (p : Stmt) → At tab (i + 1) p → n ≡ i + 1 + statements p
-behind i f p a = f (in-table (record { tree = p; there = a })) ∙ ap (λ (x : ℕ). i + 1 + x) (row p (a .has) .its-size)
+pub second-at : {tab : Table} (i : ℕ) {n : ℕ} → Second tab i n → (p : Stmt) → At tab (i + 1) p → n ≡ i + 1 + statements p
+second-at i f p a = f (in-table (record { tree = p; there = a })) ∙ ap (λ (x : ℕ). i + 1 + x) (has-row p (a .has) .its-size)
 
 first-kid : {tab : Table} {i : ℕ} (m : ℕ) (p : Stmt) → getD (tab .sizes) i 0 ≡ m → statements p < m → i + m ≤ 512 → Has tab (i + 1) p → Small p → Kid tab i (i + 1) p
 first-kid {tab} {i} m p e l h k s = record {
   there = record { has = k; small = s; room = omega arith };
-  smaller = omega (arith, row p k .its-size);
+  smaller = omega (arith, has-row p k .its-size);
   after = omega arith;
 }
 
--- The second child's number: all of the first is passed over.
-second-at : (tab : Table) (i : ℕ) {n : ℕ} (p q : Stmt) → Second tab i n → i + (1 + statements p + statements q) ≤ 512 → Has tab (i + 1) p → n ≡ i + 1 + statements p
-second-at tab i p q f l k = f (omega (arith, statements-pos p)) ∙ ap (λ (x : ℕ). i + 1 + x) (row p k .its-size)
-
-second-kid : {tab : Table} {i n : ℕ} (m : ℕ) (p q : Stmt) → Second tab i n → getD (tab .sizes) i 0 ≡ m → m ≡ 1 + statements p + statements q → i + m ≤ 512
-    → Has tab (i + 1) p → Has tab (i + 1 + statements p) q → Small q → Kid tab i n q
-second-kid {tab} {i} {n} m p q f e l h k g s =
-    subst (λ (j : ℕ). Kid tab i j q) (sym (second-at tab i p q f (omega arith) k)) (record {
-      there = record { has = g; small = s; room = omega arith };
-      smaller = omega (arith, row q g .its-size);
-      after = omega arith;
-    })
+-- Both children: all of the first is passed over for the second.
+two-kids : {tab : Table} {i n : ℕ} (p q : Stmt) → Second tab i n → getD (tab .sizes) i 0 ≡ 1 + statements p + statements q → i + (1 + statements p + statements q) ≤ 512
+    → Has tab (i + 1) p → Has tab (i + 1 + statements p) q → Small p → Small q → Kid tab i (i + 1) p × Kid tab i n q
+two-kids {tab} {i} {n} p q f e h k g s r =
+    let first = first-kid (1 + statements p + statements q) p e (omega (arith, some-statement q)) h k s in (
+      first,
+      subst (λ (j : ℕ). Kid tab i j q) (sym (second-at i f p (first .there))) (record {
+        there = record { has = g; small = r; room = omega arith };
+        smaller = omega (arith, has-row q g .its-size);
+        after = omega arith;
+      }),
+    )
 
 -- What is known of a statement's numbers and children.
 unfoldable pub Kids : Table → ℕ → ℕ → Stmt → Type 0
@@ -95,21 +95,11 @@ unfolding Kids Has Small statements
 kids f nothing h = tt
 kids f (pause m) h = h .small
 kids f (emit s) h = h .small
-kids f (present? s then p else q) h = (
-  h .small .0,
-  first-kid (1 + statements p + statements q) p (h .has .0 .its-size) (omega (arith, statements-pos q)) (h .room) (h .has .1) (h .small .1),
-  second-kid (1 + statements p + statements q) p q f (h .has .0 .its-size) refl (h .room) (h .has .1) (h .has .2) (h .small .2),
-)
+kids f (present? s then p else q) h = let k = two-kids p q f (h .has .0 .its-size) (h .room) (h .has .1) (h .has .2) (h .small .1) (h .small .2) in (h .small .0, k .0, k .1)
 kids f (suspend p on s) h = (h .small .0, first-kid (1 + statements p) p (h .has .0 .its-size) (omega arith) (h .room) (h .has .1) (h .small .1))
-kids f (p ⨾ q) h = (
-  first-kid (1 + statements p + statements q) p (h .has .0 .its-size) (omega (arith, statements-pos q)) (h .room) (h .has .1) (h .small .0),
-  second-kid (1 + statements p + statements q) p q f (h .has .0 .its-size) refl (h .room) (h .has .1) (h .has .2) (h .small .1),
-)
+kids f (p ⨾ q) h = two-kids p q f (h .has .0 .its-size) (h .room) (h .has .1) (h .has .2) (h .small .0) (h .small .1)
 kids f (loop p) h = first-kid (1 + statements p) p (h .has .0 .its-size) (omega arith) (h .room) (h .has .1) (h .small)
-kids f (p parallel q) h = (
-  first-kid (1 + statements p + statements q) p (h .has .0 .its-size) (omega (arith, statements-pos q)) (h .room) (h .has .1) (h .small .0),
-  second-kid (1 + statements p + statements q) p q f (h .has .0 .its-size) refl (h .room) (h .has .1) (h .has .2) (h .small .1),
-)
+kids f (p parallel q) h = two-kids p q f (h .has .0 .its-size) (h .room) (h .has .1) (h .has .2) (h .small .0) (h .small .1)
 kids f (trap p) h = first-kid (1 + statements p) p (h .has .0 .its-size) (omega arith) (h .room) (h .has .1) (h .small)
 kids f (exit (depth d)) h = h .small
 kids f (local s p) h = (h .small .0, first-kid (1 + statements p) p (h .has .0 .its-size) (omega arith) (h .room) (h .has .1) (h .small .1))
@@ -155,19 +145,19 @@ module _ (tab : Table) (i n : ℕ) where
   started-under (exit (depth d)) k = tt
   started-under (local s p) k = kid-under Started (k .1)
 
-  started-is : Second tab i n → (t : Stmt) → At tab i t → started-form (kind-of t) (operand-of t) (task (i + 1) Started) (task n Started) ≡ started-as i t
-  unfolding started-as Has statements kind-of operand-of
-  started-is f nothing h = refl
-  started-is f (pause m) h = refl
-  started-is f (emit s) h = refl
-  started-is f (present? s then p else q) h = ap (λ (j : ℕ). Test s (task (i + 1) Started) (task j Started)) (second-at tab i p q f (h .room) (h .has .1))
-  started-is f (suspend p on s) h = refl
-  started-is f (p ⨾ q) h = ap (λ (j : ℕ). Chain (task (i + 1) Started) (task j Started)) (second-at tab i p q f (h .room) (h .has .1))
-  started-is f (loop p) h = refl
-  started-is f (p parallel q) h = ap (λ (j : ℕ). Beside (task (i + 1) Started) (task j Started)) (second-at tab i p q f (h .room) (h .has .1))
-  started-is f (trap p) h = refl
-  started-is f (exit (depth d)) h = refl
-  started-is f (local s p) h = refl
+  started-is : Second tab i n → (t : Stmt) → Kids tab i n t → started-form (kind-of t) (operand-of t) (task (i + 1) Started) (task n Started) ≡ started-as i t
+  unfolding started-as Kids kind-of operand-of
+  started-is f nothing k = refl
+  started-is f (pause m) k = refl
+  started-is f (emit s) k = refl
+  started-is f (present? s then p else q) k = ap (λ (j : ℕ). Test s (task (i + 1) Started) (task j Started)) (second-at i f p (k .1 .there))
+  started-is f (suspend p on s) k = refl
+  started-is f (p ⨾ q) k = ap (λ (j : ℕ). Chain (task (i + 1) Started) (task j Started)) (second-at i f p (k .0 .there))
+  started-is f (loop p) k = refl
+  started-is f (p parallel q) k = ap (λ (j : ℕ). Beside (task (i + 1) Started) (task j Started)) (second-at i f p (k .0 .there))
+  started-is f (trap p) k = refl
+  started-is f (exit (depth d)) k = refl
+  started-is f (local s p) k = refl
 
 -- The code's arm for the kind k.
 pub started-formed : {tab : Table} {i n : ℕ} → Placed tab i → Second tab i n → (k : ℕ) → getD (tab .kinds) i 0 ≡ k → (live : List Bool)
@@ -175,16 +165,16 @@ pub started-formed : {tab : Table} {i n : ℕ} → Placed tab i → Second tab i
 unfolding step-of form-for
 started-formed {tab} {i} {n} pl f k e live = record {
   tasks-under = subst₂ (λ (x y : ℕ). TasksUnder tab i (started-form x y (task (i + 1) Started) (task n Started)))
-      (sym (row (pl .tree) (pl .there .has) .its-kind) ∙ e) (sym (row (pl .tree) (pl .there .has) .its-operand))
+      (sym (has-row (pl .tree) (pl .there .has) .its-kind) ∙ e) (sym (has-row (pl .tree) (pl .there .has) .its-operand))
       (started-under tab i n (pl .tree) (kids f (pl .tree) (pl .there)));
   shows = λ A l p d.
       subst (Shows tab A (started-form k (getD (tab .operands) i 0) (task (i + 1) Started) (task n Started))) (sym (d .its-step))
       (subst₂ (λ (x y : ℕ). Shows tab A (started-form x y (task (i + 1) Started) (task n Started)) (started (d .tree)))
-      (sym (row (d .tree) (d .there .has) .its-kind) ∙ e) (sym (row (d .tree) (d .there .has) .its-operand))
+      (sym (has-row (d .tree) (d .there .has) .its-kind) ∙ e) (sym (has-row (d .tree) (d .there .has) .its-operand))
       (started-shows tab i n A (d .tree) (kids f (d .tree) (d .there))));
   is-it = λ A l t h.
       subst₂ (λ (x y : ℕ). started-form x y (task (i + 1) Started) (task n Started) ≡ started-as i t)
-      (sym (row t (h .has) .its-kind) ∙ e) (sym (row t (h .has) .its-operand)) (started-is tab i n f t h);
+      (sym (has-row t (h .has) .its-kind) ∙ e) (sym (has-row t (h .has) .its-operand)) (started-is tab i n f t (kids f t h));
 }
 
 -- Resumed.
@@ -273,24 +263,24 @@ module _ (tab : Table) (i n : ℕ) where
   resumed-under lp lq (exit (depth d)) k = tt
   resumed-under lp lq (local s p) k = kid-under Resumed (k .1)
 
-  resumed-is : (A : Numbers) (lp lq : Bool) → Flags tab A i n lp lq → Second tab i n → (t : Stmt) → At tab i t → Kids tab i n t
+  resumed-is : (A : Numbers) (lp lq : Bool) → Flags tab A i n lp lq → Second tab i n → (t : Stmt) → Kids tab i n t
       → resumed-form (kind-of t) (operand-of t) i n lp lq ≡ resumed-as A i t
-  unfolding resumed-as Has Kids statements kind-of operand-of
-  resumed-is A lp lq f g nothing h k = refl
-  resumed-is A lp lq f g (pause m) h k = refl
-  resumed-is A lp lq f g (emit s) h k = refl
-  resumed-is A lp lq f g (present? s then p else q) h k =
-      ap₂ (λ (b : Bool) (j : ℕ). Same (cond b (task (i + 1) Resumed) (task j Resumed))) (f .on-first p (k .1 .there)) (second-at tab i p q g (h .room) (h .has .1))
-  resumed-is A lp lq f g (suspend p on s) h k = refl
-  resumed-is A lp lq f g (p ⨾ q) h k =
-      ap₂ (λ (b : Bool) (j : ℕ). cond b (Chain (task (i + 1) Resumed) (task j Started)) (Same (task j Resumed))) (f .on-first p (k .0 .there)) (second-at tab i p q g (h .room) (h .has .1))
-  resumed-is A lp lq f g (loop p) h k = refl
-  resumed-is A lp lq f g (p parallel q) h k =
+  unfolding resumed-as Kids kind-of operand-of
+  resumed-is A lp lq f g nothing k = refl
+  resumed-is A lp lq f g (pause m) k = refl
+  resumed-is A lp lq f g (emit s) k = refl
+  resumed-is A lp lq f g (present? s then p else q) k =
+      ap₂ (λ (b : Bool) (j : ℕ). Same (cond b (task (i + 1) Resumed) (task j Resumed))) (f .on-first p (k .1 .there)) (second-at i g p (k .1 .there))
+  resumed-is A lp lq f g (suspend p on s) k = refl
+  resumed-is A lp lq f g (p ⨾ q) k =
+      ap₂ (λ (b : Bool) (j : ℕ). cond b (Chain (task (i + 1) Resumed) (task j Started)) (Same (task j Resumed))) (f .on-first p (k .0 .there)) (second-at i g p (k .0 .there))
+  resumed-is A lp lq f g (loop p) k = refl
+  resumed-is A lp lq f g (p parallel q) k =
       ap₂ (λ (b c : Bool). Beside (arm-task b (i + 1)) (arm-task c n)) (f .on-first p (k .0 .there)) (f .on-next q (k .1 .after) (k .1 .there))
-      ∙ ap (λ (j : ℕ). Beside (arm-task (active A p) (i + 1)) (arm-task (active A q) j)) (second-at tab i p q g (h .room) (h .has .1))
-  resumed-is A lp lq f g (trap p) h k = refl
-  resumed-is A lp lq f g (exit (depth d)) h k = refl
-  resumed-is A lp lq f g (local s p) h k = refl
+      ∙ ap (λ (j : ℕ). Beside (arm-task (active A p) (i + 1)) (arm-task (active A q) j)) (second-at i g p (k .0 .there))
+  resumed-is A lp lq f g (trap p) k = refl
+  resumed-is A lp lq f g (exit (depth d)) k = refl
+  resumed-is A lp lq f g (local s p) k = refl
 
 pub resumed-formed : {tab : Table} {i n : ℕ} → Placed tab i → Second tab i n → {live : List Bool} {lp lq : Bool}
     → (i + 1 < 512 → lp ≡ getD live (i + 1) false) → (n < 512 → lq ≡ getD live n false) → (k : ℕ) → getD (tab .kinds) i 0 ≡ k
@@ -298,16 +288,16 @@ pub resumed-formed : {tab : Table} {i n : ℕ} → Placed tab i → Second tab i
 unfolding step-of form-for
 resumed-formed {tab} {i} {n} pl f {live} {lp} {lq} g h k e = record {
   tasks-under = subst₂ (λ (x y : ℕ). TasksUnder tab i (resumed-form x y i n lp lq))
-      (sym (row (pl .tree) (pl .there .has) .its-kind) ∙ e) (sym (row (pl .tree) (pl .there .has) .its-operand))
+      (sym (has-row (pl .tree) (pl .there .has) .its-kind) ∙ e) (sym (has-row (pl .tree) (pl .there .has) .its-operand))
       (resumed-under tab i n lp lq (pl .tree) (kids f (pl .tree) (pl .there)));
   shows = λ A l p d.
       subst (Shows tab A (resumed-form k (getD (tab .operands) i 0) i n lp lq)) (sym (d .its-step))
       (subst₂ (λ (x y : ℕ). Shows tab A (resumed-form x y i n lp lq) (resumed A (d .tree)))
-      (sym (row (d .tree) (d .there .has) .its-kind) ∙ e) (sym (row (d .tree) (d .there .has) .its-operand))
+      (sym (has-row (d .tree) (d .there .has) .its-kind) ∙ e) (sym (has-row (d .tree) (d .there .has) .its-operand))
       (resumed-shows tab i n A lp lq (flags A l) (d .tree) (kids f (d .tree) (d .there))));
   is-it = λ A l t b.
       subst₂ (λ (x y : ℕ). resumed-form x y i n lp lq ≡ resumed-as A i t)
-      (sym (row t (b .has) .its-kind) ∙ e) (sym (row t (b .has) .its-operand)) (resumed-is tab i n A lp lq (flags A l) f t b (kids f t b));
+      (sym (has-row t (b .has) .its-kind) ∙ e) (sym (has-row t (b .has) .its-operand)) (resumed-is tab i n A lp lq (flags A l) f t (kids f t b));
 }
   where
     flags : (A : Numbers) → Live tab A live → Flags tab A i n lp lq

@@ -17,7 +17,8 @@ use Rattle.block.specs.Table.{Table, kind-of, statements}
 use Rattle.sets.specs.Numbers.{listed}
 use Rattle.block.specs.Format.{short, long, of-shape}
 use Rattle.records.specs.Clashing.{before, two-parts, Place, Goes}
-use Rattle.records.proofs.Walk.{row, statements-pos, One, Two, Shape, leaf, one, two, shape, before-step, before-part, before-next, numbered-one}
+use Rattle.block.proofs.Rows.{has-row, some-statement}
+use Rattle.records.proofs.Walk.{One, Two, Shape, leaf, one, two, shape, before-step, before-part, before-next, numbered-one}
 use Rattle.records.proofs.Walk.{numbered-first, numbered-second, holds, holds-not-first, holds-not-second}
 
 -- Two Booleans at once.
@@ -29,10 +30,10 @@ module _ (kinds sizes firsts : List ℕ) (m n i : ℕ) (p : Stmt) (P : Place kin
   tab = record { kinds = kinds; operands = P .operands; sizes = sizes }
 
   pub here : i < 512
-  here = omega (arith, P .ends, P .few, statements-pos p)
+  here = omega (arith, P .ends, P .few, some-statement p)
 
   kind-here : getD kinds i 0 ≡ kind-of p
-  kind-here = row tab i p (P .has) .its-kind
+  kind-here = has-row p (P .has) .its-kind
 
   two-of : two-parts (getD kinds i 0) ≡ true → (q : Stmt) × (r : Stmt) × Two tab i p q r
   two-of t = go (shape tab i p (P .has))
@@ -82,7 +83,7 @@ module _ (kinds sizes firsts : List ℕ) (m n i : ℕ) (p : Stmt) (P : Place kin
     next-kind = before-next tab i p (P .has) (o .no-pause)
 
     first-size : getD sizes (i + 1) 0 ≡ statements q
-    first-size = row tab (i + 1) q (o .first) .its-size
+    first-size = has-row q (o .first) .its-size
 
     split-at : before kinds (i + 1 + statements q) ≡ before kinds i + length (pauses q)
     split-at = before-part tab (i + 1) q (o .first) ∙ ap (λ (k : ℕ). k + length (pauses q)) next-kind
@@ -151,10 +152,10 @@ module _ (kinds sizes firsts : List ℕ) (m n i : ℕ) (p : Stmt) (P : Place kin
     second-at = first-size (two-of t .0) (two-of t .1) (two-of t .2)
 
     pub next-in : i + 1 < 512
-    next-in = omega (arith, P .ends, P .few, two-of t .2 .its-size, statements-pos (two-of t .0), statements-pos (two-of t .1))
+    next-in = omega (arith, P .ends, P .few, two-of t .2 .its-size, some-statement (two-of t .0), some-statement (two-of t .1))
 
     second-in : i + 1 + getD sizes (i + 1) 0 < P .count
-    second-in = omega (arith, P .ends, two-of t .2 .its-size, statements-pos (two-of t .1), second-at)
+    second-in = omega (arith, P .ends, two-of t .2 .its-size, some-statement (two-of t .1), second-at)
 
     pub second-below : i + 1 + getD sizes (i + 1) 0 < 512
     second-below = omega (arith, second-in, P .few)

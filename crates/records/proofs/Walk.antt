@@ -16,38 +16,11 @@ use Rattle.sets.specs.Numbers.{listed}
 use Rattle.sets.proofs.Members.{is-true, is-false, of-true, or-left, or-right, or-out, and-in, and-left, and-right}
 use Rattle.rules.specs.Statements.{Stmt, nothing, pause, emit, present?_then_else_, suspend_on_, _⨾_, loop, _parallel_, trap, exit, local, pauses, from, Numbered}
 use Rattle.rules.specs.States.{holds-both, lowest-above, is-parallel, compatible}
-use Rattle.block.specs.Table.{Table, kind-of, statements, Row, Has}
+use Rattle.block.specs.Table.{Table, kind-of, statements, Has}
+use Rattle.block.proofs.Rows.{has-row, some-statement}
 use Rattle.records.specs.Clashing.{before, two-parts}
 
--- What is at a place of the table: its row, and what there is below it.
-pub row : (tab : Table) (i : ℕ) (p : Stmt) → Has tab i p → Row tab i p
-unfolding Has
-row tab i nothing h = h
-row tab i (pause n) h = h
-row tab i (emit s) h = h
-row tab i (present? s then p else q) h = h .0
-row tab i (suspend p on s) h = h .0
-row tab i (p ⨾ q) h = h .0
-row tab i (loop p) h = h .0
-row tab i (p parallel q) h = h .0
-row tab i (trap p) h = h .0
-row tab i (exit d) h = h
-row tab i (local s p) h = h .0
-
-pub statements-pos : (p : Stmt) → 1 ≤ statements p
-unfolding statements
-statements-pos nothing = omega arith
-statements-pos (pause n) = omega arith
-statements-pos (emit s) = omega arith
-statements-pos (present? s then p else q) = omega arith
-statements-pos (suspend p on s) = omega arith
-statements-pos (p ⨾ q) = omega arith
-statements-pos (loop p) = omega arith
-statements-pos (p parallel q) = omega arith
-statements-pos (trap p) = omega arith
-statements-pos (exit d) = omega arith
-statements-pos (local s p) = omega arith
-
+-- What there is below a statement, by how many parts it has.
 pub record One (tab : Table) (i : ℕ) (p q : Stmt) : Type 0 where
   pub its-pauses : pauses p ≡ pauses q
   pub its-size : statements p ≡ 1 + statements q
@@ -102,13 +75,13 @@ Before tab i p = before (tab .kinds) (i + statements p) ≡ before (tab .kinds) 
 -- From a place to the next, past a statement that is no pause.
 pub before-next : (tab : Table) (i : ℕ) (p : Stmt) → Has tab i p → eqb (kind-of p) 17 ≡ false → before (tab .kinds) (i + 1) ≡ before (tab .kinds) i
 before-next tab i p h e =
-    before-step (tab .kinds) i (row tab i p h .its-kind)
+    before-step (tab .kinds) i (has-row p h .its-kind)
     ∙ ap (λ (b : Bool). cond b 1 0 + before (tab .kinds) i) e ∙ omega arith
 
 before-by : (tab : Table) (i : ℕ) (p : Stmt) → Has tab i p → Shape tab i p
     → ((j : ℕ) (q : Stmt) → statements q < statements p → Has tab j q → Before tab j q) → Before tab i p
 before-by tab i p h (leaf l s k) f =
-    let a : before (tab .kinds) (i + 1) ≡ cond (eqb (kind-of p) 17) 1 0 + before (tab .kinds) i = before-step (tab .kinds) i (row tab i p h .its-kind) in
+    let a : before (tab .kinds) (i + 1) ≡ cond (eqb (kind-of p) 17) 1 0 + before (tab .kinds) i = before-step (tab .kinds) i (has-row p h .its-kind) in
     ap (λ (n : ℕ). before (tab .kinds) (i + n)) s ∙ omega arith
 before-by tab i p h (one q o) f =
     let a : before (tab .kinds) (i + 1) ≡ before (tab .kinds) i = before-next tab i p h (o .no-pause) in
@@ -126,7 +99,7 @@ before-by tab i p h (two q r o) f =
     ap (before (tab .kinds)) d ∙ omega arith
 
 before-fuel : (tab : Table) (fuel i : ℕ) (p : Stmt) → statements p ≤ fuel → Has tab i p → Before tab i p
-before-fuel tab zero i p l h = absurd (omega (arith, statements-pos p))
+before-fuel tab zero i p l h = absurd (omega (arith, some-statement p))
 before-fuel tab (suc f) i p l h = before-by tab i p h (shape tab i p h) (λ j q s g. before-fuel tab f j q (omega arith) g)
 
 pub before-part : (tab : Table) (i : ℕ) (p : Stmt) → Has tab i p → Before tab i p

@@ -95,7 +95,8 @@ fn clashing(
     n: u16,
 ) -> bool
     requires { ⌜ Pairable (now kinds) (now sizes) (now firsts) active m n ⌝ }
-    ensures { λ r. ⌜ ((count : ℕ) (t : Stmt) → Searchable (now (kinds .entry)) (now (sizes .entry)) count active t → Filled (now (kinds .entry)) count (now (firsts .entry)) → r ≡ clashes t (set-of active) m n) ⌝ }
+    ensures { λ r. ⌜ ((count : ℕ) (t : Stmt) → Searchable (now (kinds .entry)) (now (sizes .entry)) count active t
+        → Filled (now (kinds .entry)) count (now (firsts .entry)) → r ≡ clashes t (set-of active) m n) ⌝ }
 {
     if has(active, n) {
         !in_parallel(kinds, sizes, firsts, m, n)

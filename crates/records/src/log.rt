@@ -31,7 +31,8 @@ pub(crate) fn write_record(
     rounds: u16,
 )
     requires { ⌜ log-size ≤ length (now part) ⌝ }
-    ensures { λ _. ⌜ now (part .exit) ≡ log-record (record { inputs-present = present; inputs-absent = absent; outputs-present = outputs; code = code .0; rounds = rounds }) ++ drop log-size (now (part .entry)) ⌝ }
+    ensures { λ _. ⌜ now (part .exit) ≡ log-record (record { inputs-present = present; inputs-absent = absent; outputs-present = outputs; code = code .0; rounds = rounds })
+        ++ drop log-size (now (part .entry)) ⌝ }
 {
     let number = code.0 as u64;
     let values = [
@@ -57,7 +58,8 @@ pub fn write_at_end(
     rounds: u16,
 ) -> usize
     requires { ⌜ end + log-size ≤ length (now log) ⌝ }
-    ensures { λ r. ⌜ (r ≡ end + log-size) × (now (log .exit) ≡ logged-at (now (log .entry)) end (record { inputs-present = present; inputs-absent = absent; outputs-present = outputs; code = code .0; rounds = rounds })) ⌝ }
+    ensures { λ r. ⌜ (r ≡ end + log-size)
+        × (now (log .exit) ≡ logged-at (now (log .entry)) end (record { inputs-present = present; inputs-absent = absent; outputs-present = outputs; code = code .0; rounds = rounds })) ⌝ }
 {
     write_record(&mut log[end..], present, absent, outputs, code, rounds);
     end + SIZE

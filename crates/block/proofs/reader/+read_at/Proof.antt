@@ -7,14 +7,14 @@ use native.Mathlib.Nat.{pos-of-ne-zero}
 use mathlib.Core.Path.{_≡_, refl, sym, _∙_}
 use lib.ListN.{length}
 use denote.Ref.{now}
-use Rattle.block.specs.Format.{kind-at, operand-at, past}
+use Rattle.block.specs.Format.{kind-at, operand-at, children-of, past, statement-fault}
 use Rattle.block.specs.declared.Cursor.{Cursor}
 use Rattle.block.specs.Told.{header-of, sofar-of, around-of}
 use Rattle.block.proofs.Shapes.{Shaped, shaped, not-known}
 use Rattle.block.proofs.Views.{known-length}
 use Rattle.block.proofs.Passes.{Passes}
 use Rattle.block.proofs.Ways.{passes-at, Hand, end-fault, end-leaf, end-first, end-above, end-second, end-joined, ready-first, ready-second, begun-full, first-got, size₁, few₁, size₂, few₂}
-use Prim.Native.Nat.{ℕ, _<_}
+use Prim.Native.Nat.{ℕ, _≤_, _<_}
 use borrow.Fn.Kinds.{In}
 use borrow.Fn.PlainCycle.{Measures, is, falls, and}
 use Rattle.block.proofs.reader.read_at.Reads as read-at
@@ -57,12 +57,17 @@ read-at-claims t = (
 )
 
 -- What the tests showed of the record, by the block's own kind and operand, and by the code's.
+no-fault : (t : ℕ) (c : read-at-lts.Else1 (read-at-claims t) (read-at-at t) read-at.Post)
+    → let s = c .before .before .before in
+    statement-fault (s .args .c .room) (now (s .args .b)) (header-of (s .args .d)) (around-of (s .args .c)) (sofar-of (s .args .r)) ≡ 0
+no-fault t c = sym (c .before .statement-fault .ensures) ∙ c .if1 .left
+
 passed-test : (t : ℕ) (c : read-at-lts.Else1 (read-at-claims t) (read-at-at t) read-at.Post)
     → Passes (c .before .before .before .args .c .room) (length (now (c .before .before .before .args .b))) (header-of (c .before .before .before .args .d))
     (around-of (c .before .before .before .args .c)) (sofar-of (c .before .before .before .args .r))
     (kind-at (now (c .before .before .before .args .b)) (c .before .before .before .args .r .at))
     (operand-at (now (c .before .before .before .args .b)) (c .before .before .before .args .r .at))
-passed-test t c = passes-at _ _ _ _ _ _ refl refl (sym (c .before .statement-fault .ensures) ∙ c .if1 .left)
+passed-test t c = passes-at _ _ _ _ _ _ refl refl (no-fault t c)
 
 by-its-own : (t : ℕ) (c : read-at-lts.After-shape-of (read-at-claims t) (read-at-at t) read-at.Post)
     → let s = c .before .before .before .before .before .before in
@@ -71,10 +76,7 @@ by-its-own : (t : ℕ) (c : read-at-lts.After-shape-of (read-at-claims t) (read-
 by-its-own t c =
     let at-two-bytes2 = c .before in
     let at-two-bytes = at-two-bytes2 .before in
-    let at-if1 = at-two-bytes .before in
-    let at-statement-fault = at-if1 .before in
-    passes-at _ _ _ _ _ _ (at-two-bytes .two-bytes .ensures) (at-two-bytes2 .two-bytes2 .ensures)
-    (sym (at-statement-fault .statement-fault .ensures) ∙ at-if1 .if1 .left)
+    passes-at _ _ _ _ _ _ (at-two-bytes .two-bytes .ensures) (at-two-bytes2 .two-bytes2 .ensures) (no-fault t (at-two-bytes .before))
 
 its-shape : (t : ℕ) (c : read-at-lts.After-shape (read-at-claims t) (read-at-at t) read-at.Post)
     → Shaped (c .before .before .before .before .two-bytes .result) (c .shape .given .0 .0)
@@ -93,13 +95,54 @@ hand t c e =
     let s = k .before .before .before .before in
     record {
       ready = s .pre .1 .0;
-      good = sym (k .before .before .statement-fault .ensures) ∙ k .before .if1 .left;
+      good = no-fault t (k .before);
       k-is = k .two-bytes .ensures;
       x-is = at-two-bytes2 .two-bytes2 .ensures;
       around = c .inner .ensures .0;
       room = c .inner .ensures .1;
       next = e;
     }
+
+-- Where the record was read from where its first child was got, and that from where its second was; where the function began.
+abbrev at-record : (t : ℕ) → read-at-lts.After-first2 (read-at-claims t) (read-at-at t) read-at.Post → read-at-lts.After-inner (read-at-claims t) (read-at-at t) read-at.Post
+at-record t c = c .before .before .before .before .before .before .before .before
+
+abbrev at-first : (t : ℕ) → read-at-lts.After-second2 (read-at-claims t) (read-at-at t) read-at.Post → read-at-lts.After-first2 (read-at-claims t) (read-at-at t) read-at.Post
+at-first t c = c .before .before .before .before .before .before .before .before
+
+abbrev start-of : (t : ℕ) → read-at-lts.After-inner (read-at-claims t) (read-at-at t) read-at.Post → read-at-lts.Start (read-at-claims t) (read-at-at t) read-at.Post
+start-of t c = c .before .before .before .before .before .before .before .before .before .before .before
+
+-- What was read up to a child's end is no less than what had been read before the record, and few.
+first-sized : (t : ℕ) (c : read-at-lts.After-first2 (read-at-claims t) (read-at-at t) read-at.Post)
+    → let r = c .first2 .given .0 .0 in (start-of t (at-record t c) .args .r .statements ≤ r .statements) × (r .statements ≤ 512)
+first-sized t c =
+    let at-read = c .before .before in
+    let at-next = at-read .before .before .before .before in
+    let p = at-record t c in
+    let w = hand t p (at-next .passed2 .ensures) in
+    let full = start-of t p .pre .1 .1 in
+    let kept = p .before .kept .ensures in
+    (omega (arith, size₁ w full kept (at-read .read-at .ensures) (c .first2 .given .1)), few₁ w full kept (at-read .read-at .ensures) (c .first2 .given .1))
+
+second-sized : (t : ℕ) (c : read-at-lts.After-second2 (read-at-claims t) (read-at-at t) read-at.Post)
+    → let r = c .second2 .given .0 .0 in (start-of t (at-record t (at-first t c)) .args .r .statements ≤ r .statements) × (r .statements ≤ 512)
+second-sized t c =
+    let at-second = c .before .before in
+    let not-one = at-second .before .before .before .before in
+    let one = not-one .before .before in
+    let at-read = one .before .before in
+    let at-next = at-read .before .before .before .before in
+    let p = at-record t one in
+    let w = hand t p (at-next .passed2 .ensures) in
+    let full = start-of t p .pre .1 .1 in
+    let kept = p .before .kept .ensures in
+    let children = its-shape t (p .before .before .before) .its-children in
+    let no₀ : (children-of (p .before .before .before .before .before .before .before .two-bytes .result) ≡ 0 → ⊥) = λ e. at-next .before .if2 .left (children ∙ e) in
+    let no₁ : (children-of (p .before .before .before .before .before .before .before .two-bytes .result) ≡ 1 → ⊥) = λ e. not-one .if3 .left (children ∙ e) in (
+      omega (arith, size₂ w full kept (at-read .read-at .ensures) (one .first2 .given .1) no₀ no₁ (at-second .read-at2 .ensures) (c .second2 .given .1)),
+      few₂ w full kept (at-read .read-at .ensures) (one .first2 .given .1) no₀ no₁ (at-second .read-at2 .ensures) (c .second2 .given .1),
+    )
 
 read-at-statement-fault-requires : (t : ℕ) → read-at-lts.Need-statement-fault-requires (read-at-claims t) (read-at-at t) read-at.Post
 read-at-statement-fault-requires t c κs = (c .before .pre .1 .0 .fits, c .before .pre .1 .0 .signals)
@@ -131,15 +174,6 @@ read-at-two-bytes-requires-2 t c κs =
     let at-place = c .before in
     let at-start = at-place .before .before .before in
     omega (arith, passed-test t (at-place) .ends, at-start .pre .1 .0 .fits)
-
-read-at-shape-of-requires : (t : ℕ) → read-at-lts.Need-shape-of-requires (read-at-claims t) (read-at-at t) read-at.Post
-read-at-shape-of-requires t c κs = tt
-
-read-at-enum-known-shape : (t : ℕ) → read-at-lts.Need-enum-known-shape (read-at-claims t) (read-at-at t) read-at.Post
-read-at-enum-known-shape t c = search needs
-
-read-at-enum-told : (t : ℕ) → read-at-lts.Need-enum-told (read-at-claims t) (read-at-at t) read-at.Post
-read-at-enum-told t c = search needs
 
 read-at-returns-2 : (t : ℕ) → read-at-lts.Need-returns-2 (read-at-claims t) (read-at-at t) read-at.Post
 read-at-returns-2 t c =
@@ -235,33 +269,11 @@ read-at-read-at-requires t c κs =
       (ready-first (hand t (p2) (p1 .passed2 .ensures)), begun-full (hand t (p2) (p1 .passed2 .ensures)) (p4 .pre .1 .1) (p3 .kept .ensures)),
     )
 
-read-at-enum-known-first : (t : ℕ) → read-at-lts.Need-enum-known-first (read-at-claims t) (read-at-at t) read-at.Post
-read-at-enum-known-first t c = search needs
-
-read-at-enum-known-first-2 : (t : ℕ) → read-at-lts.Need-enum-known-first-2 (read-at-claims t) (read-at-at t) read-at.Post
-read-at-enum-known-first-2 t c = search needs
-
 read-at-sub-sizes : (t : ℕ) → read-at-lts.Need-sub-sizes (read-at-claims t) (read-at-at t) read-at.Post
-read-at-sub-sizes t c =
-    let at-place = c .before .before .before in
-    let p1 = at-place in
-    let p2 = p1 .before .before in
-    let p3 = p2 .before .before .before .before in
-    let p4 = p3 .before .before in
-    let p5 = p4 .before in
-    let p6 = p5 .before .before .before .before .before .before .before .before .before .before in
-    omega (arith, size₁ (hand t (p4) (p3 .passed2 .ensures)) (p6 .pre .1 .1) (p5 .kept .ensures) (p2 .read-at .ensures) (p1 .first2 .given .1))
+read-at-sub-sizes t c = first-sized t (c .before .before .before) .0
 
 read-at-cast-sizes : (t : ℕ) → read-at-lts.Need-cast-sizes (read-at-claims t) (read-at-at t) read-at.Post
-read-at-cast-sizes t c =
-    let at-place = c .before .before .before in
-    let p1 = at-place in
-    let p2 = p1 .before .before in
-    let p3 = p2 .before .before .before .before in
-    let p4 = p3 .before .before in
-    let p5 = p4 .before in
-    let p6 = p5 .before .before .before .before .before .before .before .before .before .before in
-    omega (arith, few₁ (hand t (p4) (p3 .passed2 .ensures)) (p6 .pre .1 .1) (p5 .kept .ensures) (p2 .read-at .ensures) (p1 .first2 .given .1))
+read-at-cast-sizes t c = let few = first-sized t (c .before .before .before) .1 in omega arith
 
 read-at-mul-sizes-2 : (t : ℕ) → read-at-lts.Need-mul-sizes-2 (read-at-claims t) (read-at-at t) read-at.Post
 read-at-mul-sizes-2 t c =
@@ -304,49 +316,11 @@ read-at-read-at-requires-2 t c κs =
       ),
     )
 
-read-at-enum-known-second : (t : ℕ) → read-at-lts.Need-enum-known-second (read-at-claims t) (read-at-at t) read-at.Post
-read-at-enum-known-second t c = search needs
-
-read-at-enum-known-second-2 : (t : ℕ) → read-at-lts.Need-enum-known-second-2 (read-at-claims t) (read-at-at t) read-at.Post
-read-at-enum-known-second-2 t c = search needs
-
 read-at-sub-sizes-2 : (t : ℕ) → read-at-lts.Need-sub-sizes-2 (read-at-claims t) (read-at-at t) read-at.Post
-read-at-sub-sizes-2 t c =
-    let p1 = c .before .before in
-    let p2 = p1 .before .before in
-    let p3 = p2 .before .before .before .before in
-    let p4 = p3 .before .before in
-    let p5 = p4 .before .before in
-    let p6 = p5 .before .before .before .before in
-    let p7 = p6 .before in
-    let p8 = p7 .before in
-    let p9 = p8 .before in
-    let p10 = p9 .before .before in
-    let p11 = p10 .before .before .before .before .before .before .before .before in
-    omega (
-      arith,
-      size₂ (hand t (p8) (p6 .passed2 .ensures)) (p11 .pre .1 .1) (p9 .kept .ensures) (p5 .read-at .ensures) (p4 .first2 .given .1)
-          (λ e. p7 .if2 .left (its-shape t (p10) .its-children ∙ e)) (λ e. p3 .if3 .left (its-shape t (p10) .its-children ∙ e)) (p2 .read-at2 .ensures) (p1 .second2 .given .1),
-    )
+read-at-sub-sizes-2 t c = second-sized t (c .before .before) .0
 
 read-at-cast-sizes-2 : (t : ℕ) → read-at-lts.Need-cast-sizes-2 (read-at-claims t) (read-at-at t) read-at.Post
-read-at-cast-sizes-2 t c =
-    let p1 = c .before .before in
-    let p2 = p1 .before .before in
-    let p3 = p2 .before .before .before .before in
-    let p4 = p3 .before .before in
-    let p5 = p4 .before .before in
-    let p6 = p5 .before .before .before .before in
-    let p7 = p6 .before in
-    let p8 = p7 .before in
-    let p9 = p8 .before in
-    let p10 = p9 .before .before in
-    let p11 = p10 .before .before .before .before .before .before .before .before in
-    omega (
-      arith,
-      few₂ (hand t (p8) (p6 .passed2 .ensures)) (p11 .pre .1 .1) (p9 .kept .ensures) (p5 .read-at .ensures) (p4 .first2 .given .1)
-          (λ e. p7 .if2 .left (its-shape t (p10) .its-children ∙ e)) (λ e. p3 .if3 .left (its-shape t (p10) .its-children ∙ e)) (p2 .read-at2 .ensures) (p1 .second2 .given .1),
-    )
+read-at-cast-sizes-2 t c = let few = second-sized t (c .before .before) .1 in omega arith
 
 read-at-mul-sizes-3 : (t : ℕ) → read-at-lts.Need-mul-sizes-3 (read-at-claims t) (read-at-at t) read-at.Post
 read-at-mul-sizes-3 t c =
@@ -422,9 +396,9 @@ pub +read-at-spec : {M : Type 1} → statement M
     (read-at-two-bytes-requires t)
     (read-at-add-two-bytes-2 t)
     (read-at-two-bytes-requires-2 t)
-    (read-at-shape-of-requires t)
-    (read-at-enum-known-shape t)
-    (read-at-enum-told t)
+    (λ c κs. tt)
+    (λ c. search needs)
+    (λ c. search needs)
     (read-at-returns-2 t)
     (read-at-mul-kinds t)
     (read-at-element-write-kinds t)
@@ -438,16 +412,16 @@ pub +read-at-spec : {M : Type 1} → statement M
     (read-at-returns-3 t)
     (read-at-passed-requires-2 t)
     (read-at-read-at-requires t)
-    (read-at-enum-known-first t)
-    (read-at-enum-known-first-2 t)
+    (λ c. search needs)
+    (λ c. search needs)
     (read-at-sub-sizes t)
     (read-at-cast-sizes t)
     (read-at-mul-sizes-2 t)
     (read-at-element-write-sizes-2 t)
     (read-at-returns-4 t)
     (read-at-read-at-requires-2 t)
-    (read-at-enum-known-second t)
-    (read-at-enum-known-second-2 t)
+    (λ c. search needs)
+    (λ c. search needs)
     (read-at-sub-sizes-2 t)
     (read-at-cast-sizes-2 t)
     (read-at-mul-sizes-3 t)

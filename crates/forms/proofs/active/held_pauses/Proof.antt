@@ -1,6 +1,6 @@
 -- `forms::active::held_pauses` meets its contract: the rows passed have given their active pauses.
 -- Assumes nothing.
-use Rattle.block.proofs.Rows.{row}
+use Rattle.block.proofs.Rows.{has-row}
 use Rattle.forms.proofs.FormLaws.{in-table}
 use Prim.Native.Nat.{_-_, _≤_}
 use mathlib.Core.Path.{_≡_, ap₂, _∙_}
@@ -30,14 +30,14 @@ add-held-row c =
     let at-place = c .before .before .before in
     let p1 = at-place in
     let p2 = p1 .before .before in
-    omega (arith, c .loop-test .taken, row (p2 .pre .tree) (p2 .pre .there .has) .its-size, p2 .pre .there .room, p1 .wide .ensures .0)
+    omega (arith, c .loop-test .taken, has-row (p2 .pre .tree) (p2 .pre .there .has) .its-size, p2 .pre .there .room, p1 .wide .ensures .0)
 
 held-row-requires : tie.Need-held-row-requires Inv-loop μ-loop
 held-row-requires c κs =
     let at-place = c .before .before .before in
     let p1 = at-place in
     let p2 = p1 .before .before in
-    omega (arith, c .loop-test .taken, row (p2 .pre .tree) (p2 .pre .there .has) .its-size, p2 .pre .there .room, p1 .wide .ensures .0)
+    omega (arith, c .loop-test .taken, has-row (p2 .pre .tree) (p2 .pre .there .has) .its-size, p2 .pre .there .room, p1 .wide .ensures .0)
 
 add-n : tie.Need-add-n Inv-loop μ-loop
 add-n c =

@@ -1,7 +1,7 @@
 -- `forms::form::resumed_form` meets its contract: each arm is the form of its kind; the kinds that are left are done.
 -- Assumes nothing.
 use mathlib.Core.Path.{sym, ap, ap₂, _∙_}
-use Rattle.block.proofs.Rows.{row}
+use Rattle.block.proofs.Rows.{has-row}
 use Rattle.forms.specs.declared.form.Form.the-variants.{Beside, Same}
 use Rattle.forms.specs.Forms.{step-of, form-for}
 use Rattle.forms.proofs.FormLaws.{in-table, formed, resumed-formed, resumed-done, done-formed}
@@ -44,7 +44,7 @@ returns-rest : tie.Need-returns-9
 unfolding step-of form-for
 returns-rest c = done-formed (λ A t h.
     let m = c .match .rest in
-    let k = row t (h .has) .its-kind in
+    let k = has-row t (h .has) .its-kind in
     resumed-done A _ t (λ e. m .0 .0 .0 .0 .0 .0 .1 (k ∙ e)) (λ e. m .0 .0 .0 .0 .0 .1 (k ∙ e)) (λ e. m .0 .0 .0 .0 .1 (k ∙ e)) (λ e. m .0 .0 .0 .1 (k ∙ e))
     (λ e. m .0 .0 .1 (k ∙ e)) (λ e. m .0 .1 (k ∙ e)) (λ e. m .1 (k ∙ e)))
 

@@ -1,7 +1,7 @@
 -- `forms::form::started_form` meets its contract: each arm is the form of its kind, and every statement has one of the eleven kinds.
 -- Assumes nothing.
 use mathlib.Core.Path.{_∙_}
-use Rattle.block.proofs.Rows.{row}
+use Rattle.block.proofs.Rows.{has-row}
 use Rattle.forms.specs.Forms.{step-of}
 use Rattle.forms.proofs.FormLaws.{some-kind, in-table, started-formed, done-formed}
 use borrow.Author.Needs.{needs}
@@ -18,7 +18,7 @@ returns-rest : tie.Need-returns-12
 unfolding step-of
 returns-rest c = λ live. done-formed (λ A t h.
     let m = c .match .rest in
-    let k = row t (h .has) .its-kind in
+    let k = has-row t (h .has) .its-kind in
     absurd (some-kind t (λ e. m .0 .0 .0 .0 .0 .0 .0 .0 .0 .0 .1 (k ∙ e)) (λ e. m .0 .0 .0 .0 .0 .0 .0 .0 .0 .1 (k ∙ e)) (λ e. m .0 .0 .0 .0 .0 .0 .0 .0 .1 (k ∙ e))
     (λ e. m .0 .0 .0 .0 .0 .0 .0 .1 (k ∙ e))
     (λ e. m .0 .0 .0 .0 .0 .0 .1 (k ∙ e)) (λ e. m .0 .0 .0 .0 .0 .1 (k ∙ e)) (λ e. m .0 .0 .0 .0 .1 (k ∙ e)) (λ e. m .0 .0 .0 .1 (k ∙ e))

@@ -8,27 +8,12 @@ use Rattle.records.proofs.TwoWords.{beyond-low, beyond-high, beyond-sec
 use Rattle.records.proofs.bits.bit_beyond.Statement.{statement}
 use Rattle.records.proofs.bits.bit_beyond.Tie as tie
 
-array-read-bit-from : tie.Need-array-read-bit-from
-array-read-bit-from c = search needs
-
-bit-from-requires : tie.Need-bit-from-requires
-bit-from-requires c κs = search needs
-
 returns : tie.Need-returns
 returns c =
     let at-bit-from = c .before in
     let args = at-bit-from .before .before .args in
     let ws = args .t2 in let low : Fits w64 (getD ws 0 0) = search needs in let high : Fits w64 (getD ws 1 0) = search needs in
     sym (beyond-low (getD ws 0 0) (getD ws 1 0) (low .fits) (high .fits) (args .pauses) (shift-set (getD ws 0 0) (args .pauses) (at-bit-from .bit-from .ensures) (c .if2 .taken)))
-
-array-read-result : tie.Need-array-read-result
-array-read-result c = search needs
-
-array-read-bit-from-2 : tie.Need-array-read-bit-from-2
-array-read-bit-from-2 c = search needs
-
-bit-from-requires-2 : tie.Need-bit-from-requires-2
-bit-from-requires-2 c κs = search needs
 
 returns-2 : tie.Need-returns-2
 returns-2 c =
@@ -47,11 +32,11 @@ pub bit-beyond-spec : {M : Type 1} → statement M
 bit-beyond-spec =
     tie.close
     (tie.spec
-    array-read-bit-from
-    bit-from-requires
+    (λ c. search needs)
+    (λ c κs. search needs)
     returns
-    array-read-result
-    array-read-bit-from-2
-    bit-from-requires-2
+    (λ c. search needs)
+    (λ c. search needs)
+    (λ c κs. search needs)
     returns-2
     returns-3)

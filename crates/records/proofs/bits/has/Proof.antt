@@ -7,21 +7,6 @@ use Rattle.records.proofs.TwoWords.{in-low, in-high}
 use Rattle.records.proofs.bits.has.Statement.{statement}
 use Rattle.records.proofs.bits.has.Tie as tie
 
-array-read-result : tie.Need-array-read-result
-array-read-result c = search needs
-
-shr-result : tie.Need-shr-result
-shr-result c = search needs
-
-array-read-result-2 : tie.Need-array-read-result-2
-array-read-result-2 c = search needs
-
-cast-result : tie.Need-cast-result
-cast-result c = search needs
-
-shr-result-2 : tie.Need-shr-result-2
-shr-result-2 c = search needs
-
 returns : tie.Need-returns
 unfolding bits
 returns c = let a = c .before .args in sym (in-low (getD (a .t1) 0 0) (getD (a .t1) 1 0) (c .if1 .taken))
@@ -34,10 +19,10 @@ pub has-spec : {M : Type 1} → statement M
 has-spec =
     tie.close
     (tie.spec
-    array-read-result
-    shr-result
-    array-read-result-2
-    cast-result
-    shr-result-2
+    (λ c. search needs)
+    (λ c. search needs)
+    (λ c. search needs)
+    (λ c. search needs)
+    (λ c. search needs)
     returns
     returns-2)

@@ -4,12 +4,9 @@ use Rattle.records.specs.StateRecord.{undeclared-input}
 use Rattle.records.proofs.bits.input_over.Statement.{statement}
 use Rattle.records.proofs.bits.input_over.Tie as tie
 
-bit-from-requires : tie.Need-bit-from-requires
-bit-from-requires c κs = search needs
-
 returns : tie.Need-returns
 unfolding undeclared-input
 returns c = c .bit-from .ensures
 
 pub input-over-spec : {M : Type 1} → statement M
-input-over-spec = tie.close (tie.spec bit-from-requires returns)
+input-over-spec = tie.close (tie.spec (λ c κs. search needs) returns)

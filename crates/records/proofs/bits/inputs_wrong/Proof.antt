@@ -4,14 +4,8 @@ use Rattle.records.proofs.Inputs.{wrong-present, wrong-absent, wrong-bo
 use Rattle.records.proofs.bits.inputs_wrong.Statement.{statement}
 use Rattle.records.proofs.bits.inputs_wrong.Tie as tie
 
-input-over-requires : tie.Need-input-over-requires
-input-over-requires c κs = search needs
-
 returns : tie.Need-returns
 returns c = let a = c .before .before .args in wrong-present (a .inputs) (a .present) (a .absent) (c .before .input-over .ensures) (c .if1 .taken)
-
-input-over-requires-2 : tie.Need-input-over-requires-2
-input-over-requires-2 c κs = search needs
 
 returns-2 : tie.Need-returns-2
 returns-2 c =
@@ -34,4 +28,4 @@ returns-3 c =
 
 pub inputs-wrong-spec : {M : Type 1} → statement M
 inputs-wrong-spec =
-    tie.close (tie.spec input-over-requires returns input-over-requires-2 returns-2 returns-3)
+    tie.close (tie.spec (λ c κs. search needs) returns (λ c κs. search needs) returns-2 returns-3)

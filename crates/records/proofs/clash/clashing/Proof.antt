@@ -8,9 +8,6 @@ use Rattle.records.proofs.Pairs.{root-place, clash-tested, clash-inacti
 use Rattle.records.proofs.clash.clashing.Statement.{statement}
 use Rattle.records.proofs.clash.clashing.Tie as tie
 
-has-requires : tie.Need-has-requires
-has-requires c κs = search needs
-
 in-parallel-requires : tie.Need-in-parallel-requires
 in-parallel-requires c κs =
     let at-has = c .before in
@@ -35,4 +32,4 @@ returns-2 : tie.Need-returns-2
 returns-2 c = let a = c .before .before .args in λ count t S f. clash-inactive t (set-of (a .active)) (a .m) (a .n) (sym (c .before .has .ensures) ∙ c .if1 .left)
 
 pub clashing-spec : {M : Type 1} → statement M
-clashing-spec = tie.close (tie.spec has-requires in-parallel-requires returns returns-2)
+clashing-spec = tie.close (tie.spec (λ c κs. search needs) in-parallel-requires returns returns-2)

@@ -33,12 +33,6 @@ pauses-before-requires c κs = c .pre .0 .1 .few
 pairs-holds : tie.Need-pairs-holds Inv-loop μ-loop Inv-pairs μ-pairs
 pairs-holds c = (refl, λ t S. first-begin t (set-of (c .before .args .active)))
 
-has-requires : tie.Need-has-requires Inv-loop μ-loop Inv-pairs μ-pairs
-has-requires c κs = search needs
-
-add-n : tie.Need-add-n Inv-loop μ-loop Inv-pairs μ-pairs
-add-n c = search needs
-
 loop-holds : tie.Need-loop-holds Inv-loop μ-loop Inv-pairs μ-pairs
 loop-holds c =
     let at-place = c .before .before .before in
@@ -58,12 +52,6 @@ clashing-requires c κs =
       in-width = let t = c .before .loop-test .taken in let w = s .pre .1 .width in omega arith;
     }
 
-add-n-2 : tie.Need-add-n-2 Inv-loop μ-loop Inv-pairs μ-pairs
-add-n-2 c = search needs
-
-loop-less : tie.Need-loop-less Inv-loop μ-loop Inv-pairs μ-pairs
-loop-less c = search needs
-
 loop-again : tie.Need-loop-again Inv-loop μ-loop Inv-pairs μ-pairs
 loop-again c =
     let at-clashing = c .before in
@@ -74,12 +62,6 @@ loop-again c =
       λ t S. second-more t (set-of (s .args .active)) (o .pairs .m) (l .loop .n) (l .loop .inv .2 t S)
           (at-clashing .clashing .ensures (s .args .count) t S (o .before .pauses-before .ensures)) (c .if2 .left),
     )
-
-add-m : tie.Need-add-m Inv-loop μ-loop Inv-pairs μ-pairs
-add-m c = search needs
-
-pairs-less : tie.Need-pairs-less Inv-loop μ-loop Inv-pairs μ-pairs
-pairs-less c = search needs
 
 pairs-again : tie.Need-pairs-again Inv-loop μ-loop Inv-pairs μ-pairs
 pairs-again c =
@@ -121,15 +103,15 @@ first-clash-spec =
     μ-pairs
     pauses-before-requires
     pairs-holds
-    has-requires
-    add-n
+    (λ c κs. search needs)
+    (λ c. search needs)
     loop-holds
     clashing-requires
-    add-n-2
-    loop-less
+    (λ c. search needs)
+    (λ c. search needs)
     loop-again
-    add-m
-    pairs-less
+    (λ c. search needs)
+    (λ c. search needs)
     pairs-again
     returns
     returns-2)

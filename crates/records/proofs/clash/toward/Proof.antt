@@ -7,23 +7,8 @@ use Rattle.records.proofs.Steps.{here, next-in, second-below, goes-firs
 use Rattle.records.proofs.clash.toward.Statement.{statement}
 use Rattle.records.proofs.clash.toward.Tie as tie
 
-mul-has-two-parts : tie.Need-mul-has-two-parts
-mul-has-two-parts c = search needs
-
 element-copy-out-has-two-parts : tie.Need-element-copy-out-has-two-parts
 element-copy-out-has-two-parts c = let a = c .args in here (now (a .kinds)) (now (a .sizes)) (now (a .firsts)) (a .m) (a .n) (a .i) (c .pre .0) (c .pre .1)
-
-has-two-parts-requires : tie.Need-has-two-parts-requires
-has-two-parts-requires c κs = search needs
-
-add-second : tie.Need-add-second
-add-second c = search needs
-
-add-second-2 : tie.Need-add-second-2
-add-second-2 c = search needs
-
-mul-second : tie.Need-mul-second
-mul-second c = search needs
 
 element-copy-out-second : tie.Need-element-copy-out-second
 element-copy-out-second c =
@@ -64,9 +49,6 @@ element-copy-out-split c =
     let a = at-start .args in second-below (now (a .kinds)) (now (a .sizes)) (now (a .firsts)) (a .m) (a .n) (a .i) (at-start .pre .0) (at-start .pre .1)
     (sym (at-has-two-parts .has-two-parts .ensures) ∙ at-if1 .if1 .taken)
 
-add-result : tie.Need-add-result
-add-result c = search needs
-
 returns : tie.Need-returns
 returns c =
     let at-if1 = c .before .before .before in
@@ -92,9 +74,6 @@ returns-3 c =
     let a = args in λ p P. goes-second (now (a .kinds)) (now (a .sizes)) (now (a .firsts)) (a .m) (a .n) (a .i) p P
     (sym (at-has-two-parts .has-two-parts .ensures) ∙ at-if1 .if1 .taken) (c .if3 .left)
 
-add-result-2 : tie.Need-add-result-2
-add-result-2 c = search needs
-
 returns-4 : tie.Need-returns-4
 returns-4 c =
     let at-has-two-parts = c .before in
@@ -106,20 +85,20 @@ pub toward-spec : {M : Type 1} → statement M
 toward-spec =
     tie.close
     (tie.spec
-    mul-has-two-parts
+    (λ c. search needs)
     element-copy-out-has-two-parts
-    has-two-parts-requires
-    add-second
-    add-second-2
-    mul-second
+    (λ c κs. search needs)
+    (λ c. search needs)
+    (λ c. search needs)
+    (λ c. search needs)
     element-copy-out-second
     cast-second
     add-second-3
     mul-split
     element-copy-out-split
-    add-result
+    (λ c. search needs)
     returns
     returns-2
     returns-3
-    add-result-2
+    (λ c. search needs)
     returns-4)

@@ -20,12 +20,6 @@ abbrev μ-loop : tie.MeasureT-loop
 loop-holds : tie.Need-loop-holds Inv-loop μ-loop
 loop-holds c = (search needs, refl)
 
-mul-at : tie.Need-mul-at Inv-loop μ-loop
-mul-at c = search needs
-
-shared-slice-read-at : tie.Need-shared-slice-read-at Inv-loop μ-loop
-shared-slice-read-at c = search needs
-
 add-at : tie.Need-add-at Inv-loop μ-loop
 add-at c =
     let at-loop-test = c .before in
@@ -37,12 +31,6 @@ add-at c =
     let h : l .at + getD (now (a .widths)) (l .k) 0 ≤ length (now (a .s)) = omega (arith, n, w, l .inv .1, at-start .pre .0) in
     search needs
 
-add-k : tie.Need-add-k Inv-loop μ-loop
-add-k c = search needs
-
-loop-less : tie.Need-loop-less Inv-loop μ-loop
-loop-less c = search needs
-
 loop-again : tie.Need-loop-again Inv-loop μ-loop
 loop-again c =
     let at-loop-test = c .before in
@@ -53,12 +41,6 @@ loop-again c =
       ap (λ (n : ℕ). n + getD (now (a .widths)) (l .k) 0) (l .inv .1) ∙ place-next (now (a .widths)) (l .k) (omega (arith, at-loop-test .loop-test .taken, at-start .pre .1))
           ∙ ap (place (now (a .widths))) q,
     )
-
-mul-number-at : tie.Need-mul-number-at Inv-loop μ-loop
-mul-number-at c = search needs
-
-shared-slice-read-number-at : tie.Need-shared-slice-read-number-at Inv-loop μ-loop
-shared-slice-read-number-at c = search needs
 
 number-at-requires : tie.Need-number-at-requires Inv-loop μ-loop
 number-at-requires c κs =
@@ -88,13 +70,13 @@ field-at-spec =
     Inv-loop
     μ-loop
     loop-holds
-    mul-at
-    shared-slice-read-at
+    (λ c. search needs)
+    (λ c. search needs)
     add-at
-    add-k
-    loop-less
+    (λ c. search needs)
+    (λ c. search needs)
     loop-again
-    mul-number-at
-    shared-slice-read-number-at
+    (λ c. search needs)
+    (λ c. search needs)
     number-at-requires
     returns)

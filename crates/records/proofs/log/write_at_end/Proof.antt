@@ -6,24 +6,6 @@ use Rattle.records.proofs.Writing.{lent-on}
 use Rattle.records.proofs.log.write_at_end.Statement.{statement}
 use Rattle.records.proofs.log.write_at_end.Tie as tie
 
-sub-write-record : tie.Need-sub-write-record
-sub-write-record c = search needs
-
-part-write-record-start : tie.Need-part-write-record-start
-part-write-record-start c = search needs
-
-part-write-record-end : tie.Need-part-write-record-end
-part-write-record-end c = search needs
-
-write-record-requires : tie.Need-write-record-requires
-write-record-requires c κs = search needs
-
-add-result : tie.Need-add-result
-add-result c = search needs
-
-same-length : tie.Need-same-length
-same-length c = search needs
-
 returns : tie.Need-returns
 returns c =
     let at-write-record = c .before .before in
@@ -39,10 +21,10 @@ pub write-at-end-spec : {M : Type 1} → statement M
 write-at-end-spec =
     tie.close
     (tie.spec
-    sub-write-record
-    part-write-record-start
-    part-write-record-end
-    write-record-requires
-    add-result
-    same-length
+    (λ c. search needs)
+    (λ c. search needs)
+    (λ c. search needs)
+    (λ c κs. search needs)
+    (λ c. search needs)
+    (λ c. search needs)
     returns)

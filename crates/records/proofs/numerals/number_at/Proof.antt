@@ -18,19 +18,10 @@ abbrev μ-loop : tie.MeasureT-loop
 loop-holds : tie.Need-loop-holds Inv-loop μ-loop
 loop-holds c = let a = c .args in (search needs, field-begin (now (a .s)) (a .at) (a .n), small-begin (a .n))
 
-sub-k : tie.Need-sub-k Inv-loop μ-loop
-sub-k c = search needs
-
 mul-x : tie.Need-mul-x Inv-loop μ-loop
 mul-x c = let a = c .before .before .args in let l = c .before .loop in
     let w : l .x * 256 + 0 < 2 ^ 64 = to-eight {i = a .n - (l .k - 1)} (omega arith) (more-fits (a .n - l .k) (omega arith) (l .inv .2) (omega arith)) in
     omega arith
-
-add-x : tie.Need-add-x Inv-loop μ-loop
-add-x c = search needs
-
-shared-slice-read-x : tie.Need-shared-slice-read-x Inv-loop μ-loop
-shared-slice-read-x c = search needs
 
 cast-x : tie.Need-cast-x Inv-loop μ-loop
 cast-x c =
@@ -44,9 +35,6 @@ add-x-2 c =
     let args = at-loop .before .args in
     let a = args in let l = at-loop .loop in
     record { fits = to-eight (omega arith) (more-fits (a .n - l .k) {i = a .n - (l .k - 1)} (omega arith) (l .inv .2) (omega (arith, c .shared-slice-known .given (a .at + (l .k - 1))))) }
-
-loop-less : tie.Need-loop-less Inv-loop μ-loop
-loop-less c = search needs
 
 loop-again : tie.Need-loop-again Inv-loop μ-loop
 loop-again c =
@@ -68,12 +56,12 @@ number-at-spec =
     Inv-loop
     μ-loop
     loop-holds
-    sub-k
+    (λ c. search needs)
     mul-x
-    add-x
-    shared-slice-read-x
+    (λ c. search needs)
+    (λ c. search needs)
     cast-x
     add-x-2
-    loop-less
+    (λ c. search needs)
     loop-again
     returns)

@@ -19,27 +19,9 @@ abbrev μ-loop : tie.MeasureT-loop
 loop-holds : tie.Need-loop-holds Inv-loop μ-loop
 loop-holds c = (search needs, refl, stores-begin _ _ _ _)
 
-cast-s : tie.Need-cast-s Inv-loop μ-loop
-cast-s c = search needs
-
-add-s : tie.Need-add-s Inv-loop μ-loop
-add-s c = search needs
-
-slice-write-s : tie.Need-slice-write-s Inv-loop μ-loop
-slice-write-s c = search needs
-
-add-i : tie.Need-add-i Inv-loop μ-loop
-add-i c = search needs
-
-loop-less : tie.Need-loop-less Inv-loop μ-loop
-loop-less c = search needs
-
 loop-again : tie.Need-loop-again Inv-loop μ-loop
 loop-again c = let a = c .before .before .args in let l = c .before .loop in
     (search needs, search needs, stores-more (l .s) (a .at) (a .n) (l .i) (l .rest) (c .loop-test .taken) ∙ l .inv .2)
-
-same-length : tie.Need-same-length Inv-loop μ-loop
-same-length c = search needs
 
 returns : tie.Need-returns Inv-loop μ-loop
 returns c = let a = c .before .before .args in let l = c .before .loop in
@@ -52,11 +34,11 @@ put-number-spec =
     Inv-loop
     μ-loop
     loop-holds
-    cast-s
-    add-s
-    slice-write-s
-    add-i
-    loop-less
+    (λ c. search needs)
+    (λ c. search needs)
+    (λ c. search needs)
+    (λ c. search needs)
+    (λ c. search needs)
     loop-again
-    same-length
+    (λ c. search needs)
     returns)

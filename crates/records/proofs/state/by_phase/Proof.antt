@@ -9,9 +9,6 @@ use Rattle.records.proofs.Reading.{by-fresh, by-finished, by-neither, b
 use Rattle.records.proofs.state.by_phase.Statement.{statement}
 use Rattle.records.proofs.state.by_phase.Tie as tie
 
-no-bit-requires : tie.Need-no-bit-requires
-no-bit-requires c κs = search needs
-
 returns : tie.Need-returns
 returns c =
     let at-if1 = c .before in
@@ -26,9 +23,6 @@ returns-2 c =
     let args = at-no-bit .before .args in
     let a = args in λ bs q. by-finished (a .phase) (a .pauses) (a .active) bs q (at-no-bit .no-bit .ensures) (at-if1 .if1 .taken) (c .if3 .taken)
 
-no-state-requires : tie.Need-no-state-requires
-no-state-requires c κs = search needs
-
 returns-3 : tie.Need-returns-3
 returns-3 c =
     let at-if3 = c .before in
@@ -38,12 +32,6 @@ returns-3 c =
     let args = at-no-bit .before .args in
     let a = args in λ bs q. c .no-state .ensures ∙ ap held-of
     (by-neither (a .phase) (a .pauses) (a .active) bs q (at-no-bit .no-bit .ensures) (at-if1 .if1 .taken) (at-if2 .if2 .left) (at-if3 .if3 .left))
-
-bit-beyond-requires : tie.Need-bit-beyond-requires
-bit-beyond-requires c κs = search needs
-
-no-state-requires-2 : tie.Need-no-state-requires-2
-no-state-requires-2 c κs = search needs
 
 returns-4 : tie.Need-returns-4
 returns-4 c =
@@ -66,9 +54,6 @@ returns-5 c =
     (let w : Fits w64 (getD (a .active) 0 0) = search needs in w .fits) (let w : Fits w64 (getD (a .active) 1 0) = search needs in w .fits) (at-if1 .if1 .left)
     (at-if4 .if4 .left) (c .if5 .taken)
 
-no-state-requires-3 : tie.Need-no-state-requires-3
-no-state-requires-3 c κs = search needs
-
 returns-6 : tie.Need-returns-6
 returns-6 c =
     let at-if5 = c .before in
@@ -83,14 +68,14 @@ pub by-phase-spec : {M : Type 1} → statement M
 by-phase-spec =
     tie.close
     (tie.spec
-    no-bit-requires
+    (λ c κs. search needs)
     returns
     returns-2
-    no-state-requires
+    (λ c κs. search needs)
     returns-3
-    bit-beyond-requires
-    no-state-requires-2
+    (λ c κs. search needs)
+    (λ c κs. search needs)
     returns-4
     returns-5
-    no-state-requires-3
+    (λ c κs. search needs)
     returns-6)

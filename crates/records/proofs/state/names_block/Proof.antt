@@ -8,24 +8,12 @@ use Rattle.records.proofs.state.names_block.Tie as tie
 returns : tie.Need-returns
 returns c = let a = c .before .before .args in named-unsized (a .version) (a .statements) (now (a .state)) (c .if1 .taken)
 
-slice-aggregate-field-at : tie.Need-slice-aggregate-field-at
-slice-aggregate-field-at c = search needs
-
-field-at-requires : tie.Need-field-at-requires
-field-at-requires c κs = search needs
-
 returns-2 : tie.Need-returns-2
 returns-2 c =
     let at-field-at = c .before in
     let at-if1 = at-field-at .before .before in
     let args = at-if1 .before .before .args in
     let a = args in named-other (a .version) (a .statements) (now (a .state)) (at-field-at .field-at .ensures) (at-if1 .if1 .left) (c .if2 .taken)
-
-slice-aggregate-field-at-2 : tie.Need-slice-aggregate-field-at-2
-slice-aggregate-field-at-2 c = search needs
-
-field-at-requires-2 : tie.Need-field-at-requires-2
-field-at-requires-2 c κs = search needs
 
 returns-3 : tie.Need-returns-3
 returns-3 c =
@@ -41,9 +29,9 @@ names-block-spec =
     tie.close
     (tie.spec
     returns
-    slice-aggregate-field-at
-    field-at-requires
+    (λ c. search needs)
+    (λ c κs. search needs)
     returns-2
-    slice-aggregate-field-at-2
-    field-at-requires-2
+    (λ c. search needs)
+    (λ c κs. search needs)
     returns-3)

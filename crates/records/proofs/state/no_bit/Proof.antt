@@ -9,12 +9,6 @@ use borrow.Author.Tests.{ne-eqb}
 use Rattle.records.proofs.state.no_bit.Statement.{statement}
 use Rattle.records.proofs.state.no_bit.Tie as tie
 
-array-read-if1 : tie.Need-array-read-if1
-array-read-if1 c = search needs
-
-array-read-result : tie.Need-array-read-result
-array-read-result c = search needs
-
 returns : tie.Need-returns
 returns c = sym (ap (λ (x : ℕ). eqb x 0 && eqb (getD (c .before .args .t1) 1 0) 0) (c .if1 .taken))
 
@@ -22,4 +16,4 @@ returns-2 : tie.Need-returns-2
 returns-2 c = sym (ap (λ (b : Bool). b && eqb (getD (c .before .args .t1) 1 0) 0) (ne-eqb (getD (c .before .args .t1) 0 0) 0 (c .if1 .left)))
 
 pub no-bit-spec : {M : Type 1} → statement M
-no-bit-spec = tie.close (tie.spec array-read-if1 array-read-result returns returns-2)
+no-bit-spec = tie.close (tie.spec (λ c. search needs) (λ c. search needs) returns returns-2)

@@ -10,23 +10,11 @@ use Rattle.records.proofs.Reading.{read-sized, read-headed, read-kind, 
 use Rattle.records.proofs.state.read_state.Statement.{statement}
 use Rattle.records.proofs.state.read_state.Tie as tie
 
-no-state-requires : tie.Need-no-state-requires
-no-state-requires c κs = search needs
-
 returns : tie.Need-returns
 returns c =
     let at-if1 = c .before in
     let args = at-if1 .before .before .args in
     let a = args in c .no-state .ensures ∙ ap held-of (read-sized (a .pauses) (now (a .state)) (at-if1 .if1 .taken))
-
-slice-aggregate-field-at : tie.Need-slice-aggregate-field-at
-slice-aggregate-field-at c = search needs
-
-field-at-requires : tie.Need-field-at-requires
-field-at-requires c κs = search needs
-
-no-state-requires-2 : tie.Need-no-state-requires-2
-no-state-requires-2 c κs = search needs
 
 returns-2 : tie.Need-returns-2
 returns-2 c =
@@ -35,42 +23,12 @@ returns-2 c =
     let args = at-field-at .before .before .before .before .args in
     let a = args in c .no-state2 .ensures ∙ ap held-of (read-headed (a .pauses) (now (a .state)) (at-field-at .field-at .ensures) (at-if2 .if2 .taken))
 
-slice-aggregate-field-at-2 : tie.Need-slice-aggregate-field-at-2
-slice-aggregate-field-at-2 c = search needs
-
-field-at-requires-2 : tie.Need-field-at-requires-2
-field-at-requires-2 c κs = search needs
-
-no-state-requires-3 : tie.Need-no-state-requires-3
-no-state-requires-3 c κs = search needs
-
 returns-3 : tie.Need-returns-3
 returns-3 c =
     let at-if3 = c .before in
     let at-field-at2 = at-if3 .before in
     let args = at-field-at2 .before .before .before .before .before .before .before .args in
     let a = args in c .no-state3 .ensures ∙ ap held-of (read-kind (a .pauses) (now (a .state)) (at-field-at2 .field-at2 .ensures) (at-if3 .if3 .taken))
-
-slice-aggregate-field-at-3 : tie.Need-slice-aggregate-field-at-3
-slice-aggregate-field-at-3 c = search needs
-
-field-at-requires-3 : tie.Need-field-at-requires-3
-field-at-requires-3 c κs = search needs
-
-slice-aggregate-field-at-4 : tie.Need-slice-aggregate-field-at-4
-slice-aggregate-field-at-4 c = search needs
-
-field-at-requires-4 : tie.Need-field-at-requires-4
-field-at-requires-4 c κs = search needs
-
-slice-aggregate-field-at-5 : tie.Need-slice-aggregate-field-at-5
-slice-aggregate-field-at-5 c = search needs
-
-field-at-requires-5 : tie.Need-field-at-requires-5
-field-at-requires-5 c κs = search needs
-
-by-phase-requires : tie.Need-by-phase-requires
-by-phase-requires c κs = search needs
 
 returns-4 : tie.Need-returns-4
 returns-4 c =
@@ -93,21 +51,21 @@ pub read-state-spec : {M : Type 1} → statement M
 read-state-spec =
     tie.close
     (tie.spec
-    no-state-requires
+    (λ c κs. search needs)
     returns
-    slice-aggregate-field-at
-    field-at-requires
-    no-state-requires-2
+    (λ c. search needs)
+    (λ c κs. search needs)
+    (λ c κs. search needs)
     returns-2
-    slice-aggregate-field-at-2
-    field-at-requires-2
-    no-state-requires-3
+    (λ c. search needs)
+    (λ c κs. search needs)
+    (λ c κs. search needs)
     returns-3
-    slice-aggregate-field-at-3
-    field-at-requires-3
-    slice-aggregate-field-at-4
-    field-at-requires-4
-    slice-aggregate-field-at-5
-    field-at-requires-5
-    by-phase-requires
+    (λ c. search needs)
+    (λ c κs. search needs)
+    (λ c. search needs)
+    (λ c κs. search needs)
+    (λ c. search needs)
+    (λ c κs. search needs)
+    (λ c κs. search needs)
     returns-4)

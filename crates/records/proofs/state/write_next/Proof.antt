@@ -6,24 +6,6 @@ use Rattle.records.specs.Held.{state-bytes}
 use Rattle.records.proofs.state.write_next.Statement.{statement}
 use Rattle.records.proofs.state.write_next.Tie as tie
 
-slice-aggregate-field-at : tie.Need-slice-aggregate-field-at
-slice-aggregate-field-at c = search needs
-
-field-at-requires : tie.Need-field-at-requires
-field-at-requires c κs = search needs
-
-slice-aggregate-field-at-2 : tie.Need-slice-aggregate-field-at-2
-slice-aggregate-field-at-2 c = search needs
-
-field-at-requires-2 : tie.Need-field-at-requires-2
-field-at-requires-2 c κs = search needs
-
-put-state-requires : tie.Need-put-state-requires
-put-state-requires c κs = search needs
-
-same-length : tie.Need-same-length
-same-length c = search needs
-
 returns : tie.Need-returns
 returns c =
     let at-put-state = c .before .before in
@@ -37,10 +19,10 @@ pub write-next-spec : {M : Type 1} → statement M
 write-next-spec =
     tie.close
     (tie.spec
-    slice-aggregate-field-at
-    field-at-requires
-    slice-aggregate-field-at-2
-    field-at-requires-2
-    put-state-requires
-    same-length
+    (λ c. search needs)
+    (λ c κs. search needs)
+    (λ c. search needs)
+    (λ c κs. search needs)
+    (λ c κs. search needs)
+    (λ c. search needs)
     returns)
