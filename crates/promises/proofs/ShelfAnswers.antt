@@ -18,7 +18,7 @@ use Rattle.block.specs.Format.{Reading, good, turned-down, reading}
 use Rattle.block.proofs.GoodReadings.{numbers}
 use Rattle.records.specs.Numerals.{Bytes}
 use Rattle.shelf.specs.Entries.{QUOTA-SIZE, Entry, size, in-use, own, taken, find, entries}
-use Rattle.shelf.specs.Calls.{PARTY, SHELF, TAKEN, QUOTA, ABSENT, Call, install, fetch, withdraw, party-of, name-of, Answer, refused, done, entry, installed}
+use Rattle.shelf.specs.Calls.{PARTY, SHELF, TAKEN, QUOTA, ABSENT, Call, install, fetch, withdraw, party-of, name-of, ShelfAnswer, refused, done, entry, installed}
 use Rattle.shelf.specs.Calls.{fetched, withdrawn, told-by, told-on, told, left}
 use Rattle.shelf.specs.Histories.{is-of, shelf-after, told-to, Named, Said, said}
 use Rattle.shelf.specs.Answered.{shelved-values, shelved-owed}
@@ -94,7 +94,7 @@ module _ (s : List ℕ) (p n : ℕ) (es : List Entry) (q : entries s ≡ some es
   gone-first (some x) e = inr (there-is (find-taken n (own p es) ∙ ap is-some e), refl)
 
 -- 18 and 19.
-party-first : (p : ℕ) (ts : List Test) (a : Answer) → First ts (a .number) → First (party-test p ∷ ts) (cond (ltb 1 p) (refused PARTY 0) a .number)
+party-first : (p : ℕ) (ts : List Test) (a : ShelfAnswer) → First ts (a .number) → First (party-test p ∷ ts) (cond (ltb 1 p) (refused PARTY 0) a .number)
 party-first p ts a f = go (ltb 1 p) refl
   where
     go : (z : Bool) → ltb 1 p ≡ z → First (party-test p ∷ ts) (cond z (refused PARTY 0) a .number)
@@ -168,12 +168,12 @@ a-withdrawal s p n =
     withdraw-answers (λ a. (r : Shelved) × (shelved-values r ≡ shelved-owed a)) s (TurnedDown Why.Party 0, refl) (TurnedDown Why.Shelf 0, refl) p n (TurnedDown Why.Absent 0, refl) (Done, refl)
 
 -- A call by its contract is told and leaves what the definitions say, and so is a history.
-pub record CallIs (s : List ℕ) (c : Call) (a : Answer) (s′ : List ℕ) : Type 0 where
+pub record CallIs (s : List ℕ) (c : Call) (a : ShelfAnswer) (s′ : List ℕ) : Type 0 where
   pub its-answer : a ≡ told s c
   pub its-shelf : s′ ≡ left s c
   pub its-name : name-of c < 65536
 
-call-is : (s : List ℕ) {c : Call} {a : Answer} {s′ : List ℕ} → ShelfCalled s c a s′ → CallIs s c a s′
+call-is : (s : List ℕ) {c : Call} {a : ShelfAnswer} {s′ : List ℕ} → ShelfCalled s c a s′ → CallIs s c a s′
 unfolding answer-of shelved-owed nth
 call-is s (installs {party = p} {name = n} {b = b} {r = r} l k) = record {
   its-answer = λ i. record { number = ap (nth 0) (install-says k .0) i; place = ap (nth 1) (install-says k .0) i; part = sym (install-empty s p n b) i };
@@ -191,13 +191,13 @@ call-is s (withdraws {party = p} {name = n} {r = r} l k) = record {
   its-name = l;
 }
 
-pub record CallsAre (p : ℕ) (s : List ℕ) (h : List Call) (rs : List Answer) (s′ : List ℕ) : Type 0 where
+pub record CallsAre (p : ℕ) (s : List ℕ) (h : List Call) (rs : List ShelfAnswer) (s′ : List ℕ) : Type 0 where
   pub their-answers : told-party p h rs ≡ told-to p s h
   pub all-heard : heard h rs ≡ said s h
   pub their-shelf : s′ ≡ shelf-after s h
   pub their-names : Named h
 
-pub calls-are : (p : ℕ) {s s′ : List ℕ} {h : List Call} {rs : List Answer} → ShelfCalls s h rs s′ → CallsAre p s h rs s′
+pub calls-are : (p : ℕ) {s s′ : List ℕ} {h : List Call} {rs : List ShelfAnswer} → ShelfCalls s h rs s′ → CallsAre p s h rs s′
 unfolding told-party told-to heard said shelf-after Named
 calls-are p no-call = record { their-answers = refl; all-heard = refl; their-shelf = refl; their-names = tt }
 calls-are p (one-more {s = s} {c = c} {h = h} {a = a} {rs = rs} k t) =
@@ -213,5 +213,5 @@ calls-are p (one-more {s = s} {c = c} {h = h} {a = a} {rs = rs} k t) =
     }
 
 -- The last call of a history.
-pub last-is : {s s′ : List ℕ} {c : Call} {a : Answer} → ShelfCalled s c a s′ → a ≡ told s c
+pub last-is : {s s′ : List ℕ} {c : Call} {a : ShelfAnswer} → ShelfCalled s c a s′ → a ≡ told s c
 last-is {s} k = call-is s k .its-answer

@@ -6,7 +6,7 @@ use mathlib.Core.List.{List, [], _∷_}
 use Prim.Native.Nat.{ℕ, zero, suc, _+_, _<_}
 use Rattle.records.specs.Numerals.{Bytes}
 use Rattle.shelf.specs.Entries.{size, in-use, shelf-of, own, entries}
-use Rattle.shelf.specs.Calls.{SHELF, QUOTA, Call, install, fetch, withdraw, Answer, done, entry, told, left}
+use Rattle.shelf.specs.Calls.{SHELF, QUOTA, Call, install, fetch, withdraw, ShelfAnswer, done, entry, told, left}
 use Rattle.shelf.specs.Histories.{empty-shelf, own-calls, Said, kept, used}
 use Rattle.shelf.specs.Answered.{shelved-values, shelved-owed, lies-from}
 use Rattle.shelf.specs.declared.Shelved.{Shelved}
@@ -140,7 +140,7 @@ module _ {s : List ℕ} {party name : ℕ} where
 
 -- "What one party is told, in answers and refusals, depends only on its own installs and fetches" (and withdrawals). "That rule speaks of a shelf begun empty and changed
 -- only by these calls." In two histories with the same calls of one party, whatever the other's are, it is told the same.
-pub what-a-party-is-told-depends-on-its-own-calls : (p : ℕ) {h h′ : List Call} {rs rs′ : List Answer} {s s′ : List ℕ} → ShelfCalls empty-shelf h rs s
+pub what-a-party-is-told-depends-on-its-own-calls : (p : ℕ) {h h′ : List Call} {rs rs′ : List ShelfAnswer} {s s′ : List ℕ} → ShelfCalls empty-shelf h rs s
     → ShelfCalls empty-shelf h′ rs′ s′ → own-calls p h ≡ own-calls p h′ → told-party p h rs ≡ told-party p h′ rs′
 what-a-party-is-told-depends-on-its-own-calls p {h} {h′} c c′ e =
     let w = calls-are p c in
@@ -149,7 +149,7 @@ what-a-party-is-told-depends-on-its-own-calls p {h} {h′} c c′ e =
 
 -- "The bytes in use always equal the sum, over the history, of entries installed and not withdrawn. Entries of both parties keep their content and
 -- order": after every history the shelf is that of the entries installed and not withdrawn, in the order of their installs.
-module _ {h : List Call} {rs : List Answer} {s : List ℕ} (c : ShelfCalls empty-shelf h rs s) where
+module _ {h : List Call} {rs : List ShelfAnswer} {s : List ℕ} (c : ShelfCalls empty-shelf h rs s) where
   pub the-shelf-holds-what-was-installed-and-not-withdrawn : ShelfOf s (kept (heard h rs))
   the-shelf-holds-what-was-installed-and-not-withdrawn =
       let w = calls-are 0 c in
@@ -162,10 +162,10 @@ module _ {h : List Call} {rs : List Answer} {s : List ℕ} (c : ShelfCalls empty
       ap (λ (x : List ℕ). used (entries x)) (w .their-shelf) ∙ bytes-in-use h (w .their-names) ∙ ap (λ (xs : List Said). in-use (kept xs)) (sym (w .all-heard))
 
   -- No further call is told 19.
-  pub shelf-is-never-told : {d : Call} {a : Answer} {s′ : List ℕ} → ShelfCalled s d a s′ → a .number ≢ SHELF
+  pub shelf-is-never-told : {d : Call} {a : ShelfAnswer} {s′ : List ℕ} → ShelfCalled s d a s′ → a .number ≢ SHELF
   shelf-is-never-told {d} k e =
       let w = calls-are 0 c in
-      never-shelf h d (w .their-names) (ap (λ (x : List ℕ). told x d .number) (sym (w .their-shelf)) ∙ sym (ap (λ (x : Answer). x .number) (last-is k)) ∙ e)
+      never-shelf h d (w .their-names) (ap (λ (x : List ℕ). told x d .number) (sym (w .their-shelf)) ∙ sym (ap (λ (x : ShelfAnswer). x .number) (last-is k)) ∙ e)
 
   -- "An install is refused for 21 and for no other lack of room": a good block under a free name goes in wherever the party's own quota is kept, and
   -- 21 is told only where it is not.
@@ -180,4 +180,4 @@ module _ {h : List Call} {rs : List Answer} {s : List ℕ} (c : ShelfCalls empty
     quota-is-told-for-its-quota-alone e =
         let there = kept (heard h rs) in
         quota-told (own party there) party name b
-        (sym (ap (λ (x : Answer). x .number) (told-there ∙ told-shelf there (the-shelf-holds-what-was-installed-and-not-withdrawn .legal) (install party name b))) ∙ e)
+        (sym (ap (λ (x : ShelfAnswer). x .number) (told-there ∙ told-shelf there (the-shelf-holds-what-was-installed-and-not-withdrawn .legal) (install party name b))) ∙ e)

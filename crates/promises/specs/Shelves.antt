@@ -7,7 +7,7 @@ use Prim.Native.Nat.{ℕ, _+_, _≤_, _<_}
 use lib.Dec.{T}
 use lib.ListN.{length}
 use Rattle.shelf.specs.Entries.{QUOTA-SIZE, Entry, in-use, shelf-of, own, taken, Legal}
-use Rattle.shelf.specs.Calls.{PARTY, SHELF, TAKEN, QUOTA, ABSENT, Call, install, fetch, withdraw, Answer}
+use Rattle.shelf.specs.Calls.{PARTY, SHELF, TAKEN, QUOTA, ABSENT, Call, install, fetch, withdraw, ShelfAnswer}
 use Rattle.shelf.specs.Histories.{is-of, Said}
 use Rattle.shelf.specs.Answered.{shelved-values}
 use Rattle.shelf.specs.declared.Shelved.{Shelved}
@@ -74,11 +74,11 @@ pub record PlacedInBlock (b : List ℕ) (k p : ℕ) : Type 0 where
   pub else-0 : (1 ≤ k → k ≤ 8 → ⊥) → p ≡ 0
 
 -- What an install or a withdrawal tells: it hands nothing back.
-unfoldable pub answer-of : Shelved → Answer
+unfoldable pub answer-of : Shelved → ShelfAnswer
 answer-of r = record { number = number-in (shelved-values r); place = place-in (shelved-values r); part = [] }
 
 -- A call on the shelf s was made with its arguments, told an answer and left a shelf. A name is a number of two bytes, as its parameter is.
-pub data ShelfCalled (s : List ℕ) : Call → Answer → List ℕ → Type 0 where
+pub data ShelfCalled (s : List ℕ) : Call → ShelfAnswer → List ℕ → Type 0 where
   installs : {party name : ℕ} {b : List ℕ} {r : Shelved} {s′ : List ℕ} → name < 65536 → InstallCalled s party name b r s′
       → ShelfCalled s (install party name b) (answer-of r) s′
   fetches : {party name k p : ℕ} {part : List ℕ} → name < 65536 → FetchCalled s party name part k p
@@ -87,18 +87,18 @@ pub data ShelfCalled (s : List ℕ) : Call → Answer → List ℕ → Type 0 wh
       → ShelfCalled s (withdraw party name) (answer-of r) s′
 
 -- Calls one after the other, each on the shelf that the call before left: from s, with their answers, to s′.
-pub data ShelfCalls : List ℕ → List Call → List Answer → List ℕ → Type 0 where
+pub data ShelfCalls : List ℕ → List Call → List ShelfAnswer → List ℕ → Type 0 where
   no-call : {s : List ℕ} → ShelfCalls s [] [] s
-  one-more : {s s₁ s′ : List ℕ} {c : Call} {h : List Call} {a : Answer} {rs : List Answer} → ShelfCalled s c a s₁ → ShelfCalls s₁ h rs s′ → ShelfCalls s (c ∷ h) (a ∷ rs) s′
+  one-more : {s s₁ s′ : List ℕ} {c : Call} {h : List Call} {a : ShelfAnswer} {rs : List ShelfAnswer} → ShelfCalled s c a s₁ → ShelfCalls s₁ h rs s′ → ShelfCalls s (c ∷ h) (a ∷ rs) s′
 
 -- What one party is told in a history: the answers to its own calls, in their order.
-unfoldable pub told-party : ℕ → List Call → List Answer → List Answer
+unfoldable pub told-party : ℕ → List Call → List ShelfAnswer → List ShelfAnswer
 told-party p [] rs = []
 told-party p (c ∷ h) [] = []
 told-party p (c ∷ h) (a ∷ rs) = cond (is-of p c) (a ∷ told-party p h rs) (told-party p h rs)
 
 -- What both parties together have heard: each call, with the number that it was told.
-unfoldable pub heard : List Call → List Answer → List Said
+unfoldable pub heard : List Call → List ShelfAnswer → List Said
 heard [] rs = []
 heard (c ∷ h) [] = []
 heard (c ∷ h) (a ∷ rs) = record { call = c; number = a .number } ∷ heard h rs

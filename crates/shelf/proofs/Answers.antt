@@ -12,14 +12,14 @@ use Rattle.block.specs.Format.{Reading, good, turned-down, reading}
 use Rattle.block.proofs.GoodReadings.{numbers}
 use Rattle.records.specs.Numerals.{Bytes}
 use Rattle.shelf.specs.Entries.{QUOTA-SIZE, Entry, size, in-use, shelf-of, own, is-named, taken, find, is-good, Legal, entries}
-use Rattle.shelf.specs.Calls.{PARTY, SHELF, QUOTA, Call, install, fetch, withdraw, party-of, name-of, Answer, refused}
+use Rattle.shelf.specs.Calls.{PARTY, SHELF, QUOTA, Call, install, fetch, withdraw, party-of, name-of, ShelfAnswer, refused}
 use Rattle.shelf.specs.Calls.{done, entry, installed, fetched, withdrawn, told-by, told-on, told, taken-out, after, put, left}
 use Rattle.shelf.proofs.Legality.{Fitting, was-good, has-room, legal-more, legal-those}
 use Rattle.shelf.proofs.ReadBack.{read-back}
 use Rattle.shelf.proofs.OnlyShelf.{some-shelf}
 
 -- PARTY, and then what one's own entries tell.
-unfoldable pub told-alone : List Entry → Call → Answer
+unfoldable pub told-alone : List Entry → Call → ShelfAnswer
 told-alone mine c = cond (ltb 1 (party-of c)) (refused PARTY 0) (told-by mine c)
 
 unfoldable pub next : List Entry → List Entry → Call → List Entry
@@ -42,7 +42,7 @@ put-shelf es (withdraw p n) = refl
 pub left-shelf : (es : List Entry) → Legal es → (c : Call) → left (shelf-of es) c ≡ shelf-of (next-on es c)
 unfolding left next
 left-shelf es l c =
-    ap (λ (a : Answer). cond (eqb (a .number) 0) (put (entries (shelf-of es)) (shelf-of es) c) (shelf-of es)) (told-shelf es l c)
+    ap (λ (a : ShelfAnswer). cond (eqb (a .number) 0) (put (entries (shelf-of es)) (shelf-of es) c) (shelf-of es)) (told-shelf es l c)
     ∙ ap (λ (s : List ℕ). cond (eqb (told-alone (own (party-of c) es) c .number) 0) s (shelf-of es)) (ap (λ (o : Option (List Entry)). put o (shelf-of es) c) (read-back es l) ∙ put-shelf es c)
     ∙ go (eqb (told-alone (own (party-of c) es) c .number) 0)
   where
@@ -175,4 +175,4 @@ module _ (s : List ℕ) (bytes : Bytes s) (c : Call) (party : party-of c ≤ 1) 
   shelf-refused f = told-is ∙ ap (λ (o : Option (List Entry)). told-on o c) (some-shelf s bytes f)
 
   pub refused-shelf : told s c .number ≡ SHELF → (es : List Entry) → Legal es → s ≡ shelf-of es → ⊥
-  refused-shelf e es l q = alone-not-shelf (own (party-of c) es) c (sym (ap (λ (a : Answer). a .number) (ap (λ (x : List ℕ). told x c) q ∙ told-shelf es l c)) ∙ e)
+  refused-shelf e es l q = alone-not-shelf (own (party-of c) es) c (sym (ap (λ (a : ShelfAnswer). a .number) (ap (λ (x : List ℕ). told x c) q ∙ told-shelf es l c)) ∙ e)

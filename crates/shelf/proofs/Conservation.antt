@@ -7,7 +7,7 @@ use mathlib.Core.Option.{some}
 use Prim.Native.Nat.{ℕ}
 use lib.Dec.{eqb}
 use Rattle.shelf.specs.Entries.{Entry, in-use, shelf-of, those, is-named, Legal, entries}
-use Rattle.shelf.specs.Calls.{Call, install, fetch, withdraw, Answer, entry, told, after, left}
+use Rattle.shelf.specs.Calls.{Call, install, fetch, withdraw, ShelfAnswer, entry, told, after, left}
 use Rattle.shelf.specs.Histories.{empty-shelf, shelf-after, Named, Said, said, takes-out, is-withdrawn, installed-entry, kept, used}
 use Rattle.shelf.proofs.Lists.{those-append, those-both, those-same}
 use Rattle.shelf.proofs.Legality.{none-legal}
@@ -75,7 +75,7 @@ are-kept es (c ∷ h) l n =
     ∙ append-assoc (remaining (record { call = c; number = k } ∷ xs) es) (remaining xs (cond (eqb k 0) (installed-entry c) [])) (kept xs)
   where
     told-next : next-on es c ≡ cond (eqb (told (shelf-of es) c .number) 0) (after es c) es
-    told-next = ap (λ (a : Answer). cond (eqb (a .number) 0) (after es c) es) (sym (told-shelf es l c))
+    told-next = ap (λ (a : ShelfAnswer). cond (eqb (a .number) 0) (after es c) es) (sym (told-shelf es l c))
 
 -- From the empty shelf.
 pub record Conserved (h : List Call) : Type 0 where

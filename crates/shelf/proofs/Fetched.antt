@@ -13,7 +13,7 @@ use denote.Ref.{RefT}
 use borrow.Author.Tests.{eqb-true, ne-eqb}
 use Rattle.records.specs.Numerals.{field}
 use Rattle.shelf.specs.Entries.{Entry, size, laid-out, in-use, those, own, find, entries}
-use Rattle.shelf.specs.Calls.{fetch, Answer, refused, fetched, told-by, told}
+use Rattle.shelf.specs.Calls.{fetch, ShelfAnswer, refused, fetched, told-by, told}
 use Rattle.shelf.specs.Places.{offset, OnShelf, LaidOut}
 use Rattle.records.specs.Parts.{LiesAt}
 use Rattle.shelf.specs.Answered.{begins, lies-from, FoundAt}
@@ -50,12 +50,12 @@ standing p n (e ∷ es) = go (eqb (e .party) p) (eqb (e .name) n) refl refl (sta
 pub nothing-found : (s : List ℕ) (p n k : ℕ) {r : Found} → told s (fetch p n) ≡ refused k 0 → (k ≡ 0 → ⊥) → r ≡ record { number = k; offset = 0; size = 0 } → FoundAt s p n r
 unfolding lies-from
 nothing-found s p n k {r} t f e = subst (FoundAt s p n) (sym e) (record {
-  its-number = sym (ap (λ (a : Answer). a .number) t);
-  its-place = sym (ap (λ (a : Answer). a .place) t);
-  its-offset = sym (ap (λ (a : Answer). cond (eqb (a .number) 0) (begins (entries s) p n + 8) 0) t ∙ simp (ne-eqb k 0 f));
-  its-size = sym (ap (λ (a : Answer). length (a .part)) t);
+  its-number = sym (ap (λ (a : ShelfAnswer). a .number) t);
+  its-place = sym (ap (λ (a : ShelfAnswer). a .place) t);
+  its-offset = sym (ap (λ (a : ShelfAnswer). cond (eqb (a .number) 0) (begins (entries s) p n + 8) 0) t ∙ simp (ne-eqb k 0 f));
+  its-size = sym (ap (λ (a : ShelfAnswer). length (a .part)) t);
   within = omega arith;
-  its-block = sym (ap (λ (a : Answer). a .part) t);
+  its-block = sym (ap (λ (a : ShelfAnswer). a .part) t);
 })
 
 module _ {s : List ℕ} {end : ℕ} {es : List Entry} (o : OnShelf s end es) (p n : ℕ) (h : p ≤ 1) where
@@ -108,14 +108,14 @@ module _ {s : List ℕ} {end : ℕ} {es : List Entry} (o : OnShelf s end es) (p 
         let y : x - 8 ≡ size e - 8 = ap (λ (m : ℕ). m - 8) (k ∙ w .its-length) in
         let z : x - 8 ≡ length (e .block) = omega (arith, y) in
         record {
-          its-number = sym (ap (λ (a : Answer). a .number) (w .is-found));
-          its-place = sym (ap (λ (a : Answer). a .place) (w .is-found));
+          its-number = sym (ap (λ (a : ShelfAnswer). a .number) (w .is-found));
+          its-place = sym (ap (λ (a : ShelfAnswer). a .place) (w .is-found));
           its-offset =
               ap (λ (m : ℕ). m + 8) q
-              ∙ sym (ap (λ (a : Answer). cond (eqb (a .number) 0) (begins (entries s) p n + 8) 0) (w .is-found) ∙ ap (λ (t : Option (List Entry)). begins t p n + 8) (o .read));
-          its-size = z ∙ sym (ap (λ (a : Answer). length (a .part)) (w .is-found));
+              ∙ sym (ap (λ (a : ShelfAnswer). cond (eqb (a .number) 0) (begins (entries s) p n + 8) 0) (w .is-found) ∙ ap (λ (t : Option (List Entry)). begins t p n + 8) (o .read));
+          its-size = z ∙ sym (ap (λ (a : ShelfAnswer). length (a .part)) (w .is-found));
           within = omega (arith, w .ends, k, w .its-length);
-          its-block = ap (λ (m : ℕ). take m (drop (at + 8) s)) y ∙ w .block-there ∙ sym (ap (λ (a : Answer). a .part) (w .is-found));
+          its-block = ap (λ (m : ℕ). take m (drop (at + 8) s)) y ∙ w .block-there ∙ sym (ap (λ (a : ShelfAnswer). a .part) (w .is-found));
         }
 
     -- What the code reads there.

@@ -11,7 +11,7 @@ use lib.ListN.{length, getD, take, drop, set, replicate, length-drop, length-rep
 use lib.Seq.{sets, sets-eq, paste, length-paste, drop-paste, take-paste, getD-drop, drop-drop, take-at, drop-at, take-take}
 use borrow.Author.Tests.{eq-eqb, eqb-true}
 use Rattle.shelf.specs.Entries.{SHELF-SIZE, Entry, size, entry-bytes, laid-out, in-use, shelf-of, those, own, is-named, taken, find, all-fit, entries}
-use Rattle.shelf.specs.Calls.{Call, withdraw, Answer, refused, done, withdrawn, told-by, told, taken-out, after, put, left}
+use Rattle.shelf.specs.Calls.{Call, withdraw, ShelfAnswer, refused, done, withdrawn, told-by, told, taken-out, after, put, left}
 use Rattle.shelf.specs.Places.{offset, OnShelf, closed}
 use Rattle.shelf.specs.Answered.{shelved-values, shelved-owed}
 use Rattle.shelf.specs.declared.Shelved.the-variants.{Done}
@@ -217,7 +217,7 @@ module _ {s : List ℕ} {end : ℕ} {es : List Entry} (o : OnShelf s end es) (p 
           let w = going l .1 in (
             sym (ap shelved-owed (w .is-done)),
             e ∙ ap (λ (m : ℕ). closed s at m end) (k ∙ w .its-length) ∙ w .others
-                ∙ sym (ap (λ (a : Answer). cond (eqb (a .number) 0) (put (entries s) s c) s) (w .is-done) ∙ ap (λ (y : Option (List Entry)). put y s c) (o .read)),
+                ∙ sym (ap (λ (a : ShelfAnswer). cond (eqb (a .number) 0) (put (entries s) s c) s) (w .is-done) ∙ ap (λ (y : Option (List Entry)). put y s c) (o .read)),
           )
 
     pub eight-there : at < end → at + 8 ≤ length s

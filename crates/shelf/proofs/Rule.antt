@@ -7,7 +7,7 @@ use Prim.Native.Nat.{ℕ}
 use lib.Dec.{eqb}
 use borrow.Author.Tests.{eqb-true, eqb-false}
 use Rattle.shelf.specs.Entries.{Entry, shelf-of, those, own, is-named, Legal}
-use Rattle.shelf.specs.Calls.{SHELF, Call, install, fetch, withdraw, party-of, Answer, entry, told, after, left}
+use Rattle.shelf.specs.Calls.{SHELF, Call, install, fetch, withdraw, party-of, ShelfAnswer, entry, told, after, left}
 use Rattle.shelf.specs.Histories.{empty-shelf, shelf-after, is-of, own-calls, told-to, Named}
 use Rattle.shelf.proofs.Lists.{those-append, those-both, those-same, those-turn}
 use Rattle.shelf.proofs.Legality.{none-legal, own-mine, own-other}
@@ -55,7 +55,7 @@ other-next p es c f = go (eqb (told-alone (own (party-of c) es) c .number) 0)
     go false = refl
 
 -- What a party is told that is alone with its own entries.
-unfoldable alone : List Entry → List Call → List Answer
+unfoldable alone : List Entry → List Call → List ShelfAnswer
 alone mine [] = []
 alone mine (c ∷ h) = told-alone mine c ∷ alone (next mine mine c) h
 
@@ -69,7 +69,7 @@ told-to-alone p es (c ∷ h) l n =
         → cond z (told (shelf-of es) c ∷ told-to p (left (shelf-of es) c) h) (told-to p (left (shelf-of es) c) h) ≡ alone (own p es) (cond z (c ∷ own-calls p h) (own-calls p h))
     go true q ih =
         let e : party-of c ≡ p = eqb-true (party-of c) p q in
-        ap₂ (λ (a : Answer) (r : List Answer). a ∷ r) (told-shelf es l c ∙ ap (λ (q : ℕ). told-alone (own q es) c) e)
+        ap₂ (λ (a : ShelfAnswer) (r : List ShelfAnswer). a ∷ r) (told-shelf es l c ∙ ap (λ (q : ℕ). told-alone (own q es) c) e)
         (ih ∙ ap (λ (m : List Entry). alone m (own-calls p h)) (own-next p es c e))
     go false q ih = ih ∙ ap (λ (m : List Entry). alone m (own-calls p h)) (other-next p es c (eqb-false (party-of c) p q))
 
@@ -96,4 +96,4 @@ pub never-shelf : (h : List Call) (c : Call) → Named h → told (shelf-after e
 never-shelf h c n e =
     let k = always-kept h n in
     alone-not-shelf (own (party-of c) (k .its-entries)) c
-    (sym (ap (λ (a : Answer). a .number) (ap (λ (s : List ℕ). told s c) (k .bytes) ∙ told-shelf (k .its-entries) (k .legal) c)) ∙ e)
+    (sym (ap (λ (a : ShelfAnswer). a .number) (ap (λ (s : List ℕ). told s c) (k .bytes) ∙ told-shelf (k .its-entries) (k .legal) c)) ∙ e)

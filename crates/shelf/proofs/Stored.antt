@@ -24,7 +24,7 @@ use Rattle.block.proofs.Answered.{was-good, was-turned-down}
 use Rattle.records.specs.Numerals.{in-bytes}
 use Rattle.records.proofs.Bytes.{sets-front}
 use Rattle.shelf.specs.Entries.{SHELF-SIZE, QUOTA-SIZE, Entry, size, entry-bytes, laid-out, in-use, shelf-of, own, taken, is-good, entries}
-use Rattle.shelf.specs.Calls.{PARTY, SHELF, Call, install, party-of, Answer, refused, done, entry, installed, told-by, told-on, told, after, put, left}
+use Rattle.shelf.specs.Calls.{PARTY, SHELF, Call, install, party-of, ShelfAnswer, refused, done, entry, installed, told-by, told-on, told, after, put, left}
 use Rattle.shelf.specs.Places.{offset, OnShelf, Walks}
 use Rattle.shelf.specs.Answered.{shelved-values, shelved-owed}
 use Rattle.shelf.specs.declared.Shelved.the-variants.{Done, TurnedDown}
@@ -81,7 +81,7 @@ module _ {s : List ℕ} {end : ℕ} {es : List Entry} (o : OnShelf s end es) whe
 -- A refusal leaves every byte.
 pub left-refused : (s : List ℕ) (c : Call) {k at : ℕ} → told s c ≡ refused k at → (k ≡ 0 → ⊥) → s ≡ left s c
 unfolding left
-left-refused s c {k} {at} t f = sym (ap (λ (a : Answer). cond (eqb (a .number) 0) (put (entries s) s c) s) t ∙ simp (ne-eqb k 0 f))
+left-refused s c {k} {at} t f = sym (ap (λ (a : ShelfAnswer). cond (eqb (a .number) 0) (put (entries s) s c) s) t ∙ simp (ne-eqb k 0 f))
 
 pub turned-down-so : (s : List ℕ) (c : Call) (why : Why) {at : ℕ} → told s c ≡ refused (number why) at → (shelved-values (TurnedDown why at) ≡ shelved-owed (told s c)) × (s ≡ left s c)
 unfolding shelved-values shelved-owed
@@ -152,7 +152,7 @@ module _ {s : List ℕ} {end : ℕ} {es : List Entry} (o : OnShelf s end es) (p 
         unfolding shelved-values shelved-owed left put after
         now-on = (
           sym (ap shelved-owed is-done),
-          sym (ap (λ (a : Answer). cond (eqb (a .number) 0) (put (entries s) s c) s) is-done ∙ ap (λ (x : Option (List Entry)). put x s c) (o .read)),
+          sym (ap (λ (a : ShelfAnswer). cond (eqb (a .number) 0) (put (entries s) s c) s) is-done ∙ ap (λ (x : Option (List Entry)). put x s c) (o .read)),
         )
 
         pub entry-on : {part : List ℕ} → part ≡ sets (take (length s - end) (drop end s)) 0 (entry-bytes (entry p n b))

@@ -15,7 +15,7 @@ use Rattle.block.specs.Format.{Reading, good, turned-down, reading}
 use Rattle.block.proofs.GoodReadings.{numbers}
 use Rattle.records.specs.Numerals.{Bytes, field}
 use Rattle.shelf.specs.Entries.{SHELF-SIZE, QUOTA-SIZE, Entry, size, laid-out, in-use, shelf-of, own, taken, find, all-fit, Legal, zeros, entries}
-use Rattle.shelf.specs.Calls.{PARTY, SHELF, TAKEN, QUOTA, ABSENT, Call, install, fetch, withdraw, party-of, Answer, refused, done, entry, installed}
+use Rattle.shelf.specs.Calls.{PARTY, SHELF, TAKEN, QUOTA, ABSENT, Call, install, fetch, withdraw, party-of, ShelfAnswer, refused, done, entry, installed}
 use Rattle.shelf.specs.Calls.{fetched, withdrawn, told-by, told-on, told, put, left}
 use Rattle.shelf.specs.Places.{offset, OnShelf}
 use Rattle.shelf.specs.Answered.{lies-from, FoundAt}
@@ -27,10 +27,10 @@ use Rattle.shelf.proofs.OnlyShelf.{only-shelf}
 use Rattle.shelf.proofs.Stored.{third-party}
 use Rattle.shelf.proofs.Fetched.{Standing, nowhere, behind, standing, nothing-found, not-there, found-there}
 
-abbrev found : Entry → Answer
+abbrev found : Entry → ShelfAnswer
 found e = record { number = 0; place = 0; part = e .block }
 
-module _ (P : Answer → Type 0) (s : List ℕ) (party : P (refused PARTY 0)) (no-shelf : P (refused SHELF 0)) where
+module _ (P : ShelfAnswer → Type 0) (s : List ℕ) (party : P (refused PARTY 0)) (no-shelf : P (refused SHELF 0)) where
   by-tests : (c : Call) → ((es : List Entry) → entries s ≡ some es → P (told-by (own (party-of c) es) c)) → P (told s c)
   unfolding told told-on
   by-tests c f = go (ltb 1 (party-of c)) (entries s) refl

@@ -8,7 +8,7 @@ use lib.Dec.{eqb}
 use lib.ListN.{length, take, drop}
 use Rattle.refusals.specs.Refusals.{number}
 use Rattle.shelf.specs.Entries.{Entry, entries}
-use Rattle.shelf.specs.Calls.{Answer, fetch, told}
+use Rattle.shelf.specs.Calls.{ShelfAnswer, fetch, told}
 use Rattle.shelf.specs.Places.{offset}
 use Rattle.shelf.specs.declared.Shelved.{Shelved}
 use Rattle.shelf.specs.declared.Shelved.the-variants.{Done, TurnedDown}
@@ -19,7 +19,7 @@ unfoldable pub shelved-values : Shelved → List ℕ
 shelved-values Done = 0 ∷ 0 ∷ []
 shelved-values (TurnedDown why at) = number why ∷ at ∷ []
 
-unfoldable pub shelved-owed : Answer → List ℕ
+unfoldable pub shelved-owed : ShelfAnswer → List ℕ
 shelved-owed a = a .number ∷ a .place ∷ []
 
 -- Where the party's entry of that name begins, on a shelf.

@@ -41,16 +41,16 @@ name-of (withdraw p n) = n
 
 -- What a call is told: the number and the place of a refusal, or 0 and 0; and the block that is handed back. Where in the shelf it
 -- lies is not told.
-pub record Answer : Type 0 where
+pub record ShelfAnswer : Type 0 where
   pub number : ℕ
   pub place : ℕ
   pub part : List ℕ
 
 -- A refused part is empty.
-abbrev pub refused : ℕ → ℕ → Answer
+abbrev pub refused : ℕ → ℕ → ShelfAnswer
 refused n at = record { number = n; place = at; part = [] }
 
-abbrev pub done : Answer
+abbrev pub done : ShelfAnswer
 done = refused 0 0
 
 -- The entry that an install puts on the shelf.
@@ -58,34 +58,34 @@ abbrev pub entry : ℕ → ℕ → List ℕ → Entry
 entry p n b = record { party = p; name = n; block = b }
 
 -- An install gets 1 to 8, then TAKEN for one's own name, then QUOTA.
-unfoldable pub installed : Reading → List Entry → ℕ → ℕ → Answer
+unfoldable pub installed : Reading → List Entry → ℕ → ℕ → ShelfAnswer
 installed (turned-down k at) mine n more = refused k at
 installed (good g) mine n more = cond (taken n mine) (refused TAKEN 0) (cond (ltb QUOTA-SIZE (in-use mine + more)) (refused QUOTA 0) done)
 
 -- A fetch gets ABSENT, or the block of one's own entry of that name.
-unfoldable pub fetched : Option Entry → Answer
+unfoldable pub fetched : Option Entry → ShelfAnswer
 fetched none = refused ABSENT 0
 fetched (some e) = record { number = 0; place = 0; part = e .block }
 
 -- A withdrawal gets ABSENT. How much was freed is not told.
-unfoldable pub withdrawn : Option Entry → Answer
+unfoldable pub withdrawn : Option Entry → ShelfAnswer
 withdrawn none = refused ABSENT 0
 withdrawn (some e) = done
 
 -- What a call is told by one's own entries alone: all that is tested after PARTY and SHELF.
-unfoldable pub told-by : List Entry → Call → Answer
+unfoldable pub told-by : List Entry → Call → ShelfAnswer
 unfolding installed fetched withdrawn
 told-by mine (install p n b) = installed (reading b) mine n (size (entry p n b))
 told-by mine (fetch p n) = fetched (find n mine)
 told-by mine (withdraw p n) = withdrawn (find n mine)
 
-unfoldable pub told-on : Option (List Entry) → Call → Answer
+unfoldable pub told-on : Option (List Entry) → Call → ShelfAnswer
 unfolding told-by
 told-on none c = refused SHELF 0
 told-on (some es) c = told-by (own (party-of c) es) c
 
 -- PARTY above 1, then SHELF, then the tests of the call.
-unfoldable pub told : List ℕ → Call → Answer
+unfoldable pub told : List ℕ → Call → ShelfAnswer
 unfolding told-on
 told s c = cond (ltb 1 (party-of c)) (refused PARTY 0) (told-on (entries s) c)
 

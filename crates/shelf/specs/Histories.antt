@@ -5,7 +5,7 @@ use mathlib.Core.Option.{Option, none, some}
 use Prim.Native.Nat.{ℕ, _<_}
 use lib.Dec.{eqb}
 use Rattle.shelf.specs.Entries.{Entry, in-use, shelf-of, those, is-named}
-use Rattle.shelf.specs.Calls.{Call, install, fetch, withdraw, party-of, name-of, Answer, entry, told, left}
+use Rattle.shelf.specs.Calls.{Call, install, fetch, withdraw, party-of, name-of, ShelfAnswer, entry, told, left}
 
 -- A shelf begun empty.
 abbrev pub empty-shelf : List ℕ
@@ -24,7 +24,7 @@ abbrev pub own-calls : ℕ → List Call → List Call
 own-calls p h = those (is-of p) h
 
 -- What a party is told in a history that begins at a shelf: the answers to its calls, in their order.
-unfoldable pub told-to : ℕ → List ℕ → List Call → List Answer
+unfoldable pub told-to : ℕ → List ℕ → List Call → List ShelfAnswer
 unfolding is-of
 told-to p s [] = []
 told-to p s (c ∷ h) = cond (is-of p c) (told s c ∷ told-to p (left s c) h) (told-to p (left s c) h)
