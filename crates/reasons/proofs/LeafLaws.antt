@@ -19,12 +19,12 @@ use Rattle.sets.proofs.Words.{bits-and, bits-or}
 use Rattle.rules.specs.Statements.{Block}
 use Rattle.rules.specs.Events.{Status, present, absent, unknown, Event, status-of, input-status, event}
 use Rattle.rules.specs.Rounds.{same, outputs-with}
-use Rattle.rules.specs.Taken.{Wanted, wants-test, itself-if}
+use Rattle.rules.specs.Taken.{Wanted, wants, wants-test, itself-if}
 use Rattle.words.specs.declared.events.Heard.{Heard}
 use Rattle.words.specs.Words.{event-of, hearing-of}
 use Rattle.forms.specs.declared.form.Task.{Task}
 use Rattle.forms.specs.declared.form.Form.{Form}
-use Rattle.forms.specs.declared.form.Form.the-variants.{Test}
+use Rattle.forms.specs.declared.form.Form.the-variants.{Done, Stay, Keep, Say, Leave, Test, Catch, Scope, Chain, Beside, Same}
 use Rattle.reasons.specs.Taking.{hit, Narrow, Marked}
 
 -- A form's own mark, by the variant that the form is.
@@ -34,6 +34,37 @@ by-form w E e q = q ∙ ap (λ (f : Form). hit w f E) (sym e)
 pub by-test : (w : Wanted) (E : Event) {f : Form} {z : Bool} {s : ℕ} {p q : Task} {v : Status} → f ≡ Test s p q → z ≡ wants-test w v → (s < 64 → v ≡ E s) → Narrow f → z ≡ hit w f E
 unfolding hit Narrow
 by-test w E e a b n = by-form w E e (a ∙ ap (wants-test w) (b (subst Narrow e n)))
+
+-- All but an emit and a test are asked for alike.
+abbrev pub plain : Form → Bool
+plain Done = true
+plain (Stay n) = true
+plain (Keep i) = true
+plain (Say s) = false
+plain (Leave d) = true
+plain (Test s c d) = false
+plain (Catch c) = true
+plain (Scope s c) = true
+plain (Chain c d) = true
+plain (Beside c d) = true
+plain (Same c) = true
+
+plain-hit : (w : Wanted) (E : Event) (g : Form) → plain g ≡ true → wants w ≡ hit w g E
+unfolding hit
+plain-hit w E Done p = refl
+plain-hit w E (Stay n) p = refl
+plain-hit w E (Keep i) p = refl
+plain-hit w E (Say s) p = absurd (of-true p)
+plain-hit w E (Leave d) p = refl
+plain-hit w E (Test s c d) p = absurd (of-true p)
+plain-hit w E (Catch c) p = refl
+plain-hit w E (Scope s c) p = refl
+plain-hit w E (Chain c d) p = refl
+plain-hit w E (Beside c d) p = refl
+plain-hit w E (Same c) p = refl
+
+pub by-plain : (w : Wanted) (E : Event) {f g : Form} {z : Bool} → f ≡ g → plain g ≡ true → z ≡ wants w → z ≡ hit w f E
+by-plain w E {g = g} e p q = by-form w E e (q ∙ plain-hit w E g p)
 
 pub when-so : {b x z : Bool} → b ≡ true → z ≡ x → z ≡ (b && x)
 when-so {x = x} e q = q ∙ ap (λ (y : Bool). y && x) (sym e)

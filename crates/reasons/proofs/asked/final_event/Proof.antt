@@ -10,9 +10,6 @@ use Rattle.reasons.proofs.asked.final_event.Reads as reads
 use Rattle.reasons.proofs.asked.final_event.Lts as lts
 use Rattle.evaluate.proofs.rounds.below.Reads as below-reads
 
-below-requires : tie.Need-below-requires
-below-requires c κs = search needs
-
 returns : tie.Need-returns
 returns c =
     let at-below = c .before .before in
@@ -21,4 +18,4 @@ returns c =
     q
 
 pub final-event-spec : {M : Type 1} → statement M
-final-event-spec = tie.close (tie.spec below-requires returns)
+final-event-spec = tie.close (tie.spec (λ c κs. search needs) returns)

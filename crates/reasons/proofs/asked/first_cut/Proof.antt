@@ -7,23 +7,11 @@ use borrow.Author.Needs.{needs}
 use Rattle.reasons.proofs.asked.first_cut.Statement.{statement}
 use Rattle.reasons.proofs.asked.first_cut.Tie as tie
 
-actives-requires : tie.Need-actives-requires
-actives-requires c κs = search needs
-
-root-requires : tie.Need-root-requires
-root-requires c κs = search needs
-
 taken-requires : tie.Need-taken-requires
 taken-requires c κs =
     let at-root = c .before .before in
     let at-start = at-root .before .before in
     root-placed (at-root .root .ensures) (at-start .pre)
-
-element-copy-out-wide : tie.Need-element-copy-out-wide
-element-copy-out-wide c = search needs
-
-wide-requires : tie.Need-wide-requires
-wide-requires c κs = search needs
 
 is-open-emit-requires : tie.Need-is-open-emit-requires
 is-open-emit-requires c κs =
@@ -66,11 +54,11 @@ pub first-cut-spec : {M : Type 1} → statement M
 first-cut-spec =
     tie.close
     (tie.spec
-    actives-requires
-    root-requires
+    (λ c κs. search needs)
+    (λ c κs. search needs)
     taken-requires
-    element-copy-out-wide
-    wide-requires
+    (λ c. search needs)
+    (λ c κs. search needs)
     is-open-emit-requires
     lowest-cut-requires
     returns

@@ -9,15 +9,6 @@ use Rattle.reasons.proofs.asked.is_open_emit.Tie as tie
 use Rattle.reasons.proofs.asked.is_open_emit.Reads as reads
 use Rattle.reasons.proofs.asked.is_open_emit.Lts as lts
 
-mul-if2 : tie.Need-mul-if2
-mul-if2 c = search needs
-
-element-copy-out-if2 : tie.Need-element-copy-out-if2
-element-copy-out-if2 c = search needs
-
-element-copy-out-result : tie.Need-element-copy-out-result
-element-copy-out-result c = search needs
-
 returns : tie.Need-returns
 unfolding open-emit
 returns c =
@@ -36,4 +27,4 @@ returns-3 c = sym (simp (le-ltb _ _ (c .if1 .left)))
 pub is-open-emit-spec : {M : Type 1} → statement M
 is-open-emit-spec =
     tie.close
-    (tie.spec mul-if2 element-copy-out-if2 element-copy-out-result returns returns-2 returns-3)
+    (tie.spec (λ c. search needs) (λ c. search needs) (λ c. search needs) returns returns-2 returns-3)

@@ -11,9 +11,6 @@ use Rattle.reasons.proofs.asked.is_present.Tie as tie
 use Rattle.reasons.proofs.asked.is_present.Reads as reads
 use Rattle.reasons.proofs.asked.is_present.Lts as lts
 
-shr-result : tie.Need-shr-result
-shr-result c = search needs
-
 returns : tie.Need-returns
 unfolding bits
 returns c = (when-so (c .before .if1 .taken) refl, λ e. c .if2 .taken)
@@ -25,4 +22,4 @@ returns-3 : tie.Need-returns-3
 returns-3 c = (when-not (bits (c .before .args .outputs) (c .before .args .s)) (c .if1 .left), λ e. absurd (true≢false (sym e)))
 
 pub is-present-spec : {M : Type 1} → statement M
-is-present-spec = tie.close (tie.spec shr-result returns returns-2 returns-3)
+is-present-spec = tie.close (tie.spec (λ c. search needs) returns returns-2 returns-3)

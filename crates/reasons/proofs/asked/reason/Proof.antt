@@ -12,12 +12,6 @@ use borrow.Author.Needs.{needs}
 use Rattle.reasons.proofs.asked.reason.Statement.{statement}
 use Rattle.reasons.proofs.asked.reason.Tie as tie
 
-react-requires : tie.Need-react-requires
-react-requires c κs = search needs
-
-final-event-requires : tie.Need-final-event-requires
-final-event-requires c κs = search needs
-
 enum-told : tie.Need-enum-told
 enum-told c = search needs
 
@@ -34,20 +28,8 @@ returns c =
     (react (record { inputs = args .inputs; outputs = args .outputs; body = body }) (state-of (args .phase) (set-of (args .set))) (hearing-of (args .given)))
     (at-react .react .ensures body a) (c .if1 .taken))
 
-first-reached-requires : tie.Need-first-reached-requires
-first-reached-requires c κs = search needs
-
-enum-known-asked : tie.Need-enum-known-asked
-enum-known-asked c = search needs
-
-is-present-requires : tie.Need-is-present-requires
-is-present-requires c κs = search needs
-
 cast-t18 : tie.Need-cast-t18
 cast-t18 c = omega (arith, c .before .is-present .ensures .1 (c .if2 .taken))
-
-first-reached-requires-2 : tie.Need-first-reached-requires-2
-first-reached-requires-2 c κs = search needs
 
 returns-2 : tie.Need-returns-2
 unfolding Reacts
@@ -66,12 +48,6 @@ returns-2 c =
     (at-react .react .ensures body a) (sym (at-is-present .is-present .ensures .0) ∙ at-if2 .if2 .taken) (at-final-event .final-event .result)
     (λ outs p q. at-final-event .final-event .ensures (record { inputs = args .inputs; outputs = args .outputs; body = body }) outs refl p q)
     (c .first-reached2 .ensures body a))
-
-enum-known-asked-2 : tie.Need-enum-known-asked-2
-enum-known-asked-2 c = search needs
-
-first-cut-requires : tie.Need-first-cut-requires
-first-cut-requires c κs = search needs
 
 returns-3 : tie.Need-returns-3
 unfolding Reacts
@@ -138,18 +114,18 @@ pub reason-spec : {M : Type 1} → statement M
 reason-spec =
     tie.close
     (tie.spec
-    react-requires
-    final-event-requires
+    (λ c κs. search needs)
+    (λ c κs. search needs)
     enum-told
     returns
-    first-reached-requires
-    enum-known-asked
-    is-present-requires
+    (λ c κs. search needs)
+    (λ c. search needs)
+    (λ c κs. search needs)
     cast-t18
-    first-reached-requires-2
+    (λ c κs. search needs)
     returns-2
-    enum-known-asked-2
-    first-cut-requires
+    (λ c. search needs)
+    (λ c κs. search needs)
     returns-3
     returns-4
     returns-5

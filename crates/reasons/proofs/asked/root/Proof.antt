@@ -12,12 +12,6 @@ use Rattle.reasons.proofs.asked.root.Lts as lts
 enum-told : tie.Need-enum-told
 enum-told c = search needs
 
-enum-told-2 : tie.Need-enum-told-2
-enum-told-2 c = search needs
-
-enum-told-3 : tie.Need-enum-told-3
-enum-told-3 c = search needs
-
 returns : tie.Need-returns
 returns c = ap (λ p. task 0 (going-by p)) (sym (c .enum-told .given .1))
 
@@ -28,4 +22,4 @@ returns-3 : tie.Need-returns-3
 returns-3 c = ap (λ p. task 0 (going-by p)) (sym (c .enum-told3 .given .1))
 
 pub root-spec : {M : Type 1} → statement M
-root-spec = tie.close (tie.spec enum-told enum-told-2 enum-told-3 returns returns-2 returns-3)
+root-spec = tie.close (tie.spec enum-told (λ c. search needs) (λ c. search needs) returns returns-2 returns-3)

@@ -24,18 +24,6 @@ abbrev μ-loop : tie.MeasureT-loop
 loop-holds : tie.Need-loop-holds Inv-loop μ-loop
 loop-holds c = (omega arith, λ j h t. absurd (omega arith))
 
-mul-passed-by : tie.Need-mul-passed-by Inv-loop μ-loop
-mul-passed-by c = search needs
-
-element-copy-out-passed-by : tie.Need-element-copy-out-passed-by Inv-loop μ-loop
-element-copy-out-passed-by c = search needs
-
-passed-by-requires : tie.Need-passed-by-requires Inv-loop μ-loop
-passed-by-requires c κs = search needs
-
-element-copy-out-cut-here : tie.Need-element-copy-out-cut-here Inv-loop μ-loop
-element-copy-out-cut-here c = search needs
-
 cut-here-requires : tie.Need-cut-here-requires Inv-loop μ-loop
 cut-here-requires c κs = tt
 
@@ -50,12 +38,6 @@ returns c =
     found-here (args .count) (cut-rows (args .sizes .now) (args .n) (marked-in (args .executed .now))) (at-loop .loop .i) (at-loop .loop .inv .1)
     (at-loop-test .loop-test .taken) (cut-is (getD (args .executed .now) (at-loop .loop .i) false) (at-passed-by .passed-by .ensures)
     (at-cut-here .cut-here .ensures) (c .if1 .taken))
-
-add-i : tie.Need-add-i Inv-loop μ-loop
-add-i c = search needs
-
-loop-less : tie.Need-loop-less Inv-loop μ-loop
-loop-less c = search needs
 
 loop-again : tie.Need-loop-again Inv-loop μ-loop
 unfolding cut-rows
@@ -85,13 +67,13 @@ lowest-cut-spec =
     Inv-loop
     μ-loop
     loop-holds
-    mul-passed-by
-    element-copy-out-passed-by
-    passed-by-requires
-    element-copy-out-cut-here
+    (λ c. search needs)
+    (λ c. search needs)
+    (λ c κs. search needs)
+    (λ c. search needs)
     cut-here-requires
     returns
-    add-i
-    loop-less
+    (λ c. search needs)
+    (λ c. search needs)
     loop-again
     returns-2)

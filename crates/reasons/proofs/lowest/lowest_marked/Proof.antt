@@ -30,12 +30,6 @@ returns c =
     let args = at-loop .before .args in
     found-here (args .count) (marked-in (args .marks .now)) (at-loop .loop .i) (at-loop .loop .inv .1) (at-loop-test .loop-test .taken) (c .if1 .taken)
 
-add-i : tie.Need-add-i Inv-loop μ-loop
-add-i c = search needs
-
-loop-less : tie.Need-loop-less Inv-loop μ-loop
-loop-less c = search needs
-
 loop-again : tie.Need-loop-again Inv-loop μ-loop
 loop-again c =
     let at-loop-test = c .before .before in
@@ -58,7 +52,7 @@ lowest-marked-spec =
     loop-holds
     element-copy-out-if1
     returns
-    add-i
-    loop-less
+    (λ c. search needs)
+    (λ c. search needs)
     loop-again
     returns-2)

@@ -8,9 +8,6 @@ use Rattle.reasons.proofs.lowest.passed_by.Tie as tie
 use Rattle.reasons.proofs.lowest.passed_by.Reads as reads
 use Rattle.reasons.proofs.lowest.passed_by.Lts as lts
 
-add-result : tie.Need-add-result
-add-result c = search needs
-
 returns : tie.Need-returns
 returns c = sym (simp (le-leb _ _ (c .if1 .taken)))
 
@@ -18,4 +15,4 @@ returns-2 : tie.Need-returns-2
 returns-2 c = sym (simp (lt-leb _ _ (c .if1 .left)))
 
 pub passed-by-spec : {M : Type 1} → statement M
-passed-by-spec = tie.close (tie.spec add-result returns returns-2)
+passed-by-spec = tie.close (tie.spec (λ c. search needs) returns returns-2)

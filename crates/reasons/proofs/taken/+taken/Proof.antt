@@ -3,9 +3,8 @@
 use mathlib.Core.Path.{sym, _∙_}
 use lib.ListN.{getD}
 use Rattle.words.specs.Words.{seen-as}
-use Rattle.forms.specs.Forms.{TasksUnder}
 use Rattle.words.proofs.WordLaws.{bits-none, told-as}
-use Rattle.forms.proofs.FormLaws.{in-table, formed, call-task}
+use Rattle.forms.proofs.FormLaws.{in-table, under-test, under-catch, under-scope, under-chain, under-beside, under-same, call-task}
 use Rattle.reasons.proofs.TakenSteps.{word-of-0, word-of-1, take-form, take-done, take-stay, take-keep, take-say, take-leave, take-present, take-absent}
 use Rattle.reasons.proofs.TakenSteps.{take-unknown, take-same, take-catch, take-chain, take-skip, take-beside, take-scope}
 use Prim.Native.Nat.{ℕ, _<_}
@@ -71,134 +70,52 @@ taken-claims t = (
   larger-reads.Learnt,
 )
 
-taken-form-of-requires : (t : ℕ) → taken-lts.Need-form-of-requires (taken-claims t) (taken-at t) taken.Post
-taken-form-of-requires t c κs = c .pre .1
-
-taken-wanted-here-requires : (t : ℕ) → taken-lts.Need-wanted-here-requires (taken-claims t) (taken-at t) taken.Post
-taken-wanted-here-requires t c κs = tt
-
 taken-mark-requires : (t : ℕ) → taken-lts.Need-mark-requires (taken-claims t) (taken-at t) taken.Post
 taken-mark-requires t c κs =
     let at-start = c .before .before .before in
     in-table (at-start .pre .1)
 
-taken-enum-told : (t : ℕ) → taken-lts.Need-enum-told (taken-claims t) (taken-at t) taken.Post
-taken-enum-told t c = c .match .keys1
-
-taken-enum-told-2 : (t : ℕ) → taken-lts.Need-enum-told-2 (taken-claims t) (taken-at t) taken.Post
-taken-enum-told-2 t c = c .match .keys2
-
-taken-enum-told-3 : (t : ℕ) → taken-lts.Need-enum-told-3 (taken-claims t) (taken-at t) taken.Post
-taken-enum-told-3 t c = c .match .keys3
-
-taken-enum-told-4 : (t : ℕ) → taken-lts.Need-enum-told-4 (taken-claims t) (taken-at t) taken.Post
-taken-enum-told-4 t c = c .match .keys4
-
-taken-enum-known-form : (t : ℕ) → taken-lts.Need-enum-known-form (taken-claims t) (taken-at t) taken.Post
-taken-enum-known-form t c = c .match .keys5
-
-taken-code-of-requires : (t : ℕ) → taken-lts.Need-code-of-requires (taken-claims t) (taken-at t) taken.Post
-taken-code-of-requires t c κs = tt
-
-taken-code-bit-requires : (t : ℕ) → taken-lts.Need-code-bit-requires (taken-claims t) (taken-at t) taken.Post
-taken-code-bit-requires t c κs = tt
-
-taken-enum-known-form-2 : (t : ℕ) → taken-lts.Need-enum-known-form-2 (taken-claims t) (taken-at t) taken.Post
-taken-enum-known-form-2 t c = c .match .keys6
-
-taken-status-at-requires : (t : ℕ) → taken-lts.Need-status-at-requires (taken-claims t) (taken-at t) taken.Post
-taken-status-at-requires t c κs = tt
-
-taken-enum-told-5 : (t : ℕ) → taken-lts.Need-enum-told-5 (taken-claims t) (taken-at t) taken.Post
-taken-enum-told-5 t c = c .match2 .keys1
-
 taken-taken-requires : (t : ℕ) → taken-lts.Need-taken-requires (taken-claims t) (taken-at t) taken.Post
-unfolding TasksUnder
 taken-taken-requires t c κs =
     let at-form2 = c .before .before .before .before .before in
     let at-form-of = at-form2 .before .before .before .before .before in
-    let at-start = at-form-of .before in
-    call-task (formed (at-form-of .form-of .ensures) (at-form2 .form2 .given .1) .tasks-under .0) (at-start .pre .0)
-
-taken-enum-told-6 : (t : ℕ) → taken-lts.Need-enum-told-6 (taken-claims t) (taken-at t) taken.Post
-taken-enum-told-6 t c = c .match2 .keys2
+    call-task (under-test (at-form-of .form-of .ensures) (at-form2 .form2 .given .1) .0) (at-form-of .before .pre .0)
 
 taken-taken-requires-2 : (t : ℕ) → taken-lts.Need-taken-requires-2 (taken-claims t) (taken-at t) taken.Post
-unfolding TasksUnder
 taken-taken-requires-2 t c κs =
     let at-form2 = c .before .before .before .before .before in
     let at-form-of = at-form2 .before .before .before .before .before in
-    let at-start = at-form-of .before in
-    call-task (formed (at-form-of .form-of .ensures) (at-form2 .form2 .given .1) .tasks-under .1) (at-start .pre .0)
-
-taken-enum-told-7 : (t : ℕ) → taken-lts.Need-enum-told-7 (taken-claims t) (taken-at t) taken.Post
-taken-enum-told-7 t c = c .match2 .keys3
-
-taken-enum-known-form-3 : (t : ℕ) → taken-lts.Need-enum-known-form-3 (taken-claims t) (taken-at t) taken.Post
-taken-enum-known-form-3 t c = c .match .keys7
+    call-task (under-test (at-form-of .form-of .ensures) (at-form2 .form2 .given .1) .1) (at-form-of .before .pre .0)
 
 taken-taken-requires-3 : (t : ℕ) → taken-lts.Need-taken-requires-3 (taken-claims t) (taken-at t) taken.Post
-unfolding TasksUnder
 taken-taken-requires-3 t c κs =
     let at-form3 = c .before .before in
     let at-form-of = at-form3 .before .before .before .before .before in
-    let at-start = at-form-of .before in
-    call-task (formed (at-form-of .form-of .ensures) (at-form3 .form3 .given .1) .tasks-under) (at-start .pre .0)
-
-taken-lowered-requires : (t : ℕ) → taken-lts.Need-lowered-requires (taken-claims t) (taken-at t) taken.Post
-taken-lowered-requires t c κs = tt
-
-taken-enum-known-form-4 : (t : ℕ) → taken-lts.Need-enum-known-form-4 (taken-claims t) (taken-at t) taken.Post
-taken-enum-known-form-4 t c = c .match .keys8
-
-taken-heard-with-requires : (t : ℕ) → taken-lts.Need-heard-with-requires (taken-claims t) (taken-at t) taken.Post
-taken-heard-with-requires t c κs = tt
+    call-task (under-catch (at-form-of .form-of .ensures) (at-form3 .form3 .given .1)) (at-form-of .before .pre .0)
 
 taken-must-can-requires : (t : ℕ) → taken-lts.Need-must-can-requires (taken-claims t) (taken-at t) taken.Post
-unfolding TasksUnder
 taken-must-can-requires t c κs =
     let at-form4 = c .before .before in
     let at-form-of = at-form4 .before .before .before .before .before in
-    formed (at-form-of .form-of .ensures) (at-form4 .form4 .given .1) .tasks-under .placed
-
-taken-settled-for-requires : (t : ℕ) → taken-lts.Need-settled-for-requires (taken-claims t) (taken-at t) taken.Post
-taken-settled-for-requires t c κs = tt
-
-taken-heard-with-requires-2 : (t : ℕ) → taken-lts.Need-heard-with-requires-2 (taken-claims t) (taken-at t) taken.Post
-taken-heard-with-requires-2 t c κs = tt
+    under-scope (at-form-of .form-of .ensures) (at-form4 .form4 .given .1) .placed
 
 taken-taken-requires-4 : (t : ℕ) → taken-lts.Need-taken-requires-4 (taken-claims t) (taken-at t) taken.Post
-unfolding TasksUnder
 taken-taken-requires-4 t c κs =
     let at-form4 = c .before .before .before .before .before .before in
     let at-form-of = at-form4 .before .before .before .before .before in
-    let at-start = at-form-of .before in
-    call-task (formed (at-form-of .form-of .ensures) (at-form4 .form4 .given .1) .tasks-under) (at-start .pre .0)
-
-taken-enum-known-form-5 : (t : ℕ) → taken-lts.Need-enum-known-form-5 (taken-claims t) (taken-at t) taken.Post
-taken-enum-known-form-5 t c = c .match .keys9
+    call-task (under-scope (at-form-of .form-of .ensures) (at-form4 .form4 .given .1)) (at-form-of .before .pre .0)
 
 taken-taken-requires-5 : (t : ℕ) → taken-lts.Need-taken-requires-5 (taken-claims t) (taken-at t) taken.Post
-unfolding TasksUnder
 taken-taken-requires-5 t c κs =
     let at-form5 = c .before .before in
     let at-form-of = at-form5 .before .before .before .before .before in
-    let at-start = at-form-of .before in
-    call-task (formed (at-form-of .form-of .ensures) (at-form5 .form5 .given .1) .tasks-under .0) (at-start .pre .0)
-
-taken-gives-zero-requires : (t : ℕ) → taken-lts.Need-gives-zero-requires (taken-claims t) (taken-at t) taken.Post
-taken-gives-zero-requires t c κs = tt
+    call-task (under-chain (at-form-of .form-of .ensures) (at-form5 .form5 .given .1) .0) (at-form-of .before .pre .0)
 
 taken-taken-requires-6 : (t : ℕ) → taken-lts.Need-taken-requires-6 (taken-claims t) (taken-at t) taken.Post
-unfolding TasksUnder
 taken-taken-requires-6 t c κs =
     let at-form5 = c .before .before .before .before .before .before in
     let at-form-of = at-form5 .before .before .before .before .before in
-    let at-start = at-form-of .before in
-    call-task (formed (at-form-of .form-of .ensures) (at-form5 .form5 .given .1) .tasks-under .1) (at-start .pre .0)
-
-taken-followed-codes-requires : (t : ℕ) → taken-lts.Need-followed-codes-requires (taken-claims t) (taken-at t) taken.Post
-taken-followed-codes-requires t c κs = tt
+    call-task (under-chain (at-form-of .form-of .ensures) (at-form5 .form5 .given .1) .1) (at-form-of .before .pre .0)
 
 taken-returns : (t : ℕ) → taken-lts.Need-returns (taken-claims t) (taken-at t) taken.Post
 taken-returns t c =
@@ -208,84 +125,54 @@ taken-returns t c =
     let at-taken5 = at-gives-zero .before in
     let at-form5 = at-taken5 .before .before .before in
     let at-mark = at-form5 .before .before in
-    let at-wanted-here = at-mark .before .before in
-    let at-form-of = at-wanted-here .before in
-    take-form (at-form-of .form-of .ensures) (at-wanted-here .wanted-here .ensures) (at-mark .mark .ensures) (at-form5 .form5 .given .1)
+    take-form (at-mark .before .before .before .form-of .ensures) (at-mark .before .before .wanted-here .ensures) (at-mark .mark .ensures) (at-form5 .form5 .given .1)
     (take-chain (c .followed-codes .ensures) (sym (at-gives-zero .gives-zero .ensures) ∙ at-if1 .if1 .taken) (at-taken5 .taken5 .ensures)
     (at-taken6 .taken6 .ensures))
 
-taken-followed-codes-requires-2 : (t : ℕ) → taken-lts.Need-followed-codes-requires-2 (taken-claims t) (taken-at t) taken.Post
-taken-followed-codes-requires-2 t c κs = tt
-
-taken-enum-known-form-6 : (t : ℕ) → taken-lts.Need-enum-known-form-6 (taken-claims t) (taken-at t) taken.Post
-taken-enum-known-form-6 t c = c .match .keys10
-
 taken-taken-requires-7 : (t : ℕ) → taken-lts.Need-taken-requires-7 (taken-claims t) (taken-at t) taken.Post
-unfolding TasksUnder
 taken-taken-requires-7 t c κs =
     let at-form6 = c .before .before in
     let at-form-of = at-form6 .before .before .before .before .before in
-    let at-start = at-form-of .before in
-    call-task (formed (at-form-of .form-of .ensures) (at-form6 .form6 .given .1) .tasks-under .0) (at-start .pre .0)
+    call-task (under-beside (at-form-of .form-of .ensures) (at-form6 .form6 .given .1) .0) (at-form-of .before .pre .0)
 
 taken-taken-requires-8 : (t : ℕ) → taken-lts.Need-taken-requires-8 (taken-claims t) (taken-at t) taken.Post
-unfolding TasksUnder
 taken-taken-requires-8 t c κs =
     let at-form6 = c .before .before .before .before in
     let at-form-of = at-form6 .before .before .before .before .before in
-    let at-start = at-form-of .before in
-    call-task (formed (at-form-of .form-of .ensures) (at-form6 .form6 .given .1) .tasks-under .1) (at-start .pre .0)
-
-taken-larger-requires : (t : ℕ) → taken-lts.Need-larger-requires (taken-claims t) (taken-at t) taken.Post
-taken-larger-requires t c κs = tt
-
-taken-enum-known-form-7 : (t : ℕ) → taken-lts.Need-enum-known-form-7 (taken-claims t) (taken-at t) taken.Post
-taken-enum-known-form-7 t c = c .match .keys11
+    call-task (under-beside (at-form-of .form-of .ensures) (at-form6 .form6 .given .1) .1) (at-form-of .before .pre .0)
 
 taken-taken-requires-9 : (t : ℕ) → taken-lts.Need-taken-requires-9 (taken-claims t) (taken-at t) taken.Post
-unfolding TasksUnder
 taken-taken-requires-9 t c κs =
     let at-form7 = c .before .before in
     let at-form-of = at-form7 .before .before .before .before .before in
-    let at-start = at-form-of .before in
-    call-task (formed (at-form-of .form-of .ensures) (at-form7 .form7 .given .1) .tasks-under) (at-start .pre .0)
+    call-task (under-same (at-form-of .form-of .ensures) (at-form7 .form7 .given .1)) (at-form-of .before .pre .0)
 
 taken-returns-2 : (t : ℕ) → taken-lts.Need-returns-2 (taken-claims t) (taken-at t) taken.Post
 taken-returns-2 t c =
     let at-mark = c .before .before in
-    let at-wanted-here = at-mark .before .before in
-    let at-form-of = at-wanted-here .before in
-    take-form (at-form-of .form-of .ensures) (at-wanted-here .wanted-here .ensures) (at-mark .mark .ensures) (c .enum-told .given .1) (take-done word-of-0)
+    take-form (at-mark .before .before .before .form-of .ensures) (at-mark .before .before .wanted-here .ensures) (at-mark .mark .ensures) (c .enum-told .given .1) (take-done word-of-0)
 
 taken-returns-3 : (t : ℕ) → taken-lts.Need-returns-3 (taken-claims t) (taken-at t) taken.Post
 taken-returns-3 t c =
     let at-mark = c .before .before in
-    let at-wanted-here = at-mark .before .before in
-    let at-form-of = at-wanted-here .before in
-    take-form (at-form-of .form-of .ensures) (at-wanted-here .wanted-here .ensures) (at-mark .mark .ensures) (c .enum-told2 .given .1) (take-stay word-of-1)
+    take-form (at-mark .before .before .before .form-of .ensures) (at-mark .before .before .wanted-here .ensures) (at-mark .mark .ensures) (c .enum-told2 .given .1) (take-stay word-of-1)
 
 taken-returns-4 : (t : ℕ) → taken-lts.Need-returns-4 (taken-claims t) (taken-at t) taken.Post
 taken-returns-4 t c =
     let at-mark = c .before .before in
-    let at-wanted-here = at-mark .before .before in
-    let at-form-of = at-wanted-here .before in
-    take-form (at-form-of .form-of .ensures) (at-wanted-here .wanted-here .ensures) (at-mark .mark .ensures) (c .enum-told3 .given .1) (take-keep word-of-1)
+    take-form (at-mark .before .before .before .form-of .ensures) (at-mark .before .before .wanted-here .ensures) (at-mark .mark .ensures) (c .enum-told3 .given .1) (take-keep word-of-1)
 
 taken-returns-5 : (t : ℕ) → taken-lts.Need-returns-5 (taken-claims t) (taken-at t) taken.Post
 taken-returns-5 t c =
     let at-mark = c .before .before in
-    let at-wanted-here = at-mark .before .before in
-    let at-form-of = at-wanted-here .before in
-    take-form (at-form-of .form-of .ensures) (at-wanted-here .wanted-here .ensures) (at-mark .mark .ensures) (c .enum-told4 .given .1) (take-say word-of-0)
+    take-form (at-mark .before .before .before .form-of .ensures) (at-mark .before .before .wanted-here .ensures) (at-mark .mark .ensures) (c .enum-told4 .given .1) (take-say word-of-0)
 
 taken-returns-6 : (t : ℕ) → taken-lts.Need-returns-6 (taken-claims t) (taken-at t) taken.Post
 taken-returns-6 t c =
     let at-code-of = c .before in
     let at-form = at-code-of .before .before in
     let at-mark = at-form .before .before in
-    let at-wanted-here = at-mark .before .before in
-    let at-form-of = at-wanted-here .before in
-    take-form (at-form-of .form-of .ensures) (at-wanted-here .wanted-here .ensures) (at-mark .mark .ensures) (at-form .form .given .1)
+    take-form (at-mark .before .before .before .form-of .ensures) (at-mark .before .before .wanted-here .ensures) (at-mark .mark .ensures) (at-form .form .given .1)
     (take-leave (at-code-of .code-of .result .0) (at-code-of .code-of .ensures) (c .code-bit .ensures))
 
 taken-returns-7 : (t : ℕ) → taken-lts.Need-returns-7 (taken-claims t) (taken-at t) taken.Post
@@ -294,9 +181,7 @@ taken-returns-7 t c =
     let at-status-at = at-enum-told5 .before .before in
     let at-form2 = at-status-at .before .before in
     let at-mark = at-form2 .before .before in
-    let at-wanted-here = at-mark .before .before in
-    let at-form-of = at-wanted-here .before in
-    take-form (at-form-of .form-of .ensures) (at-wanted-here .wanted-here .ensures) (at-mark .mark .ensures) (at-form2 .form2 .given .1)
+    take-form (at-mark .before .before .before .form-of .ensures) (at-mark .before .before .wanted-here .ensures) (at-mark .mark .ensures) (at-form2 .form2 .given .1)
     (take-present (told-as (at-enum-told5 .enum-told5 .given .1) (at-status-at .status-at .ensures)) (c .taken .ensures))
 
 taken-returns-8 : (t : ℕ) → taken-lts.Need-returns-8 (taken-claims t) (taken-at t) taken.Post
@@ -305,9 +190,7 @@ taken-returns-8 t c =
     let at-status-at = at-enum-told6 .before .before in
     let at-form2 = at-status-at .before .before in
     let at-mark = at-form2 .before .before in
-    let at-wanted-here = at-mark .before .before in
-    let at-form-of = at-wanted-here .before in
-    take-form (at-form-of .form-of .ensures) (at-wanted-here .wanted-here .ensures) (at-mark .mark .ensures) (at-form2 .form2 .given .1)
+    take-form (at-mark .before .before .before .form-of .ensures) (at-mark .before .before .wanted-here .ensures) (at-mark .mark .ensures) (at-form2 .form2 .given .1)
     (take-absent (told-as (at-enum-told6 .enum-told6 .given .1) (at-status-at .status-at .ensures)) (c .taken2 .ensures))
 
 taken-returns-9 : (t : ℕ) → taken-lts.Need-returns-9 (taken-claims t) (taken-at t) taken.Post
@@ -315,9 +198,7 @@ taken-returns-9 t c =
     let at-status-at = c .before .before in
     let at-form2 = at-status-at .before .before in
     let at-mark = at-form2 .before .before in
-    let at-wanted-here = at-mark .before .before in
-    let at-form-of = at-wanted-here .before in
-    take-form (at-form-of .form-of .ensures) (at-wanted-here .wanted-here .ensures) (at-mark .mark .ensures) (at-form2 .form2 .given .1)
+    take-form (at-mark .before .before .before .form-of .ensures) (at-mark .before .before .wanted-here .ensures) (at-mark .mark .ensures) (at-form2 .form2 .given .1)
     (take-unknown (told-as (c .enum-told7 .given .1) (at-status-at .status-at .ensures)) bits-none)
 
 taken-returns-10 : (t : ℕ) → taken-lts.Need-returns-10 (taken-claims t) (taken-at t) taken.Post
@@ -325,9 +206,7 @@ taken-returns-10 t c =
     let at-taken3 = c .before in
     let at-form3 = at-taken3 .before .before .before in
     let at-mark = at-form3 .before .before in
-    let at-wanted-here = at-mark .before .before in
-    let at-form-of = at-wanted-here .before in
-    take-form (at-form-of .form-of .ensures) (at-wanted-here .wanted-here .ensures) (at-mark .mark .ensures) (at-form3 .form3 .given .1)
+    take-form (at-mark .before .before .before .form-of .ensures) (at-mark .before .before .wanted-here .ensures) (at-mark .mark .ensures) (at-form3 .form3 .given .1)
     (take-catch (c .lowered .ensures) (at-taken3 .taken3 .ensures))
 
 taken-returns-11 : (t : ℕ) → taken-lts.Need-returns-11 (taken-claims t) (taken-at t) taken.Post
@@ -338,9 +217,7 @@ taken-returns-11 t c =
     let at-heard-with = at-must-can .before in
     let at-form4 = at-heard-with .before .before in
     let at-mark = at-form4 .before .before in
-    let at-wanted-here = at-mark .before .before in
-    let at-form-of = at-wanted-here .before in
-    take-form (at-form-of .form-of .ensures) (at-wanted-here .wanted-here .ensures) (at-mark .mark .ensures) (at-form4 .form4 .given .1)
+    take-form (at-mark .before .before .before .form-of .ensures) (at-mark .before .before .wanted-here .ensures) (at-mark .mark .ensures) (at-form4 .form4 .given .1)
     (take-scope (seen-as (at-settled-for .settled-for .result)) (at-heard-with .heard-with .ensures) (at-must-can .must-can .ensures)
     (at-settled-for .settled-for .ensures) (at-heard-with2 .heard-with2 .ensures) (c .taken4 .ensures))
 
@@ -351,9 +228,7 @@ taken-returns-12 t c =
     let at-taken5 = at-gives-zero .before in
     let at-form5 = at-taken5 .before .before .before in
     let at-mark = at-form5 .before .before in
-    let at-wanted-here = at-mark .before .before in
-    let at-form-of = at-wanted-here .before in
-    take-form (at-form-of .form-of .ensures) (at-wanted-here .wanted-here .ensures) (at-mark .mark .ensures) (at-form5 .form5 .given .1)
+    take-form (at-mark .before .before .before .form-of .ensures) (at-mark .before .before .wanted-here .ensures) (at-mark .mark .ensures) (at-form5 .form5 .given .1)
     (take-skip 0 (c .followed-codes2 .ensures) (sym (at-gives-zero .gives-zero .ensures) ∙ at-if1 .if1 .left) (at-taken5 .taken5 .ensures))
 
 taken-returns-13 : (t : ℕ) → taken-lts.Need-returns-13 (taken-claims t) (taken-at t) taken.Post
@@ -362,62 +237,58 @@ taken-returns-13 t c =
     let at-taken7 = at-taken8 .before .before in
     let at-form6 = at-taken7 .before .before .before in
     let at-mark = at-form6 .before .before in
-    let at-wanted-here = at-mark .before .before in
-    let at-form-of = at-wanted-here .before in
-    take-form (at-form-of .form-of .ensures) (at-wanted-here .wanted-here .ensures) (at-mark .mark .ensures) (at-form6 .form6 .given .1)
+    take-form (at-mark .before .before .before .form-of .ensures) (at-mark .before .before .wanted-here .ensures) (at-mark .mark .ensures) (at-form6 .form6 .given .1)
     (take-beside (c .larger .ensures) (at-taken7 .taken7 .ensures) (at-taken8 .taken8 .ensures))
 
 taken-returns-14 : (t : ℕ) → taken-lts.Need-returns-14 (taken-claims t) (taken-at t) taken.Post
 taken-returns-14 t c =
     let at-form7 = c .before .before .before in
     let at-mark = at-form7 .before .before in
-    let at-wanted-here = at-mark .before .before in
-    let at-form-of = at-wanted-here .before in
-    take-form (at-form-of .form-of .ensures) (at-wanted-here .wanted-here .ensures) (at-mark .mark .ensures) (at-form7 .form7 .given .1)
+    take-form (at-mark .before .before .before .form-of .ensures) (at-mark .before .before .wanted-here .ensures) (at-mark .mark .ensures) (at-form7 .form7 .given .1)
     (take-same (c .taken9 .ensures))
 
 pub +taken-spec : {M : Type 1} → statement M
 +taken-spec = close μ-taken λ t. taken-lts.spec (taken-claims t)
     (taken-at t)
     taken.Post
-    (taken-form-of-requires t)
-    (taken-wanted-here-requires t)
+    (λ c κs. c .pre .1)
+    (λ c κs. tt)
     (taken-mark-requires t)
-    (taken-enum-told t)
-    (taken-enum-told-2 t)
-    (taken-enum-told-3 t)
-    (taken-enum-told-4 t)
-    (taken-enum-known-form t)
-    (taken-code-of-requires t)
-    (taken-code-bit-requires t)
-    (taken-enum-known-form-2 t)
-    (taken-status-at-requires t)
-    (taken-enum-told-5 t)
+    (λ c. c .match .keys1)
+    (λ c. c .match .keys2)
+    (λ c. c .match .keys3)
+    (λ c. c .match .keys4)
+    (λ c. c .match .keys5)
+    (λ c κs. tt)
+    (λ c κs. tt)
+    (λ c. c .match .keys6)
+    (λ c κs. tt)
+    (λ c. c .match2 .keys1)
     (taken-taken-requires t)
-    (taken-enum-told-6 t)
+    (λ c. c .match2 .keys2)
     (taken-taken-requires-2 t)
-    (taken-enum-told-7 t)
-    (taken-enum-known-form-3 t)
+    (λ c. c .match2 .keys3)
+    (λ c. c .match .keys7)
     (taken-taken-requires-3 t)
-    (taken-lowered-requires t)
-    (taken-enum-known-form-4 t)
-    (taken-heard-with-requires t)
+    (λ c κs. tt)
+    (λ c. c .match .keys8)
+    (λ c κs. tt)
     (taken-must-can-requires t)
-    (taken-settled-for-requires t)
-    (taken-heard-with-requires-2 t)
+    (λ c κs. tt)
+    (λ c κs. tt)
     (taken-taken-requires-4 t)
-    (taken-enum-known-form-5 t)
+    (λ c. c .match .keys9)
     (taken-taken-requires-5 t)
-    (taken-gives-zero-requires t)
+    (λ c κs. tt)
     (taken-taken-requires-6 t)
-    (taken-followed-codes-requires t)
+    (λ c κs. tt)
     (taken-returns t)
-    (taken-followed-codes-requires-2 t)
-    (taken-enum-known-form-6 t)
+    (λ c κs. tt)
+    (λ c. c .match .keys10)
     (taken-taken-requires-7 t)
     (taken-taken-requires-8 t)
-    (taken-larger-requires t)
-    (taken-enum-known-form-7 t)
+    (λ c κs. tt)
+    (λ c. c .match .keys11)
     (taken-taken-requires-9 t)
     (taken-returns-2 t)
     (taken-returns-3 t)

@@ -7,9 +7,6 @@ use Rattle.reasons.proofs.wanted.mark.Tie as tie
 use Rattle.reasons.proofs.wanted.mark.Reads as reads
 use Rattle.reasons.proofs.wanted.mark.Lts as lts
 
-element-write-marks : tie.Need-element-write-marks
-element-write-marks c = search needs
-
 returns : tie.Need-returns
 returns c = mark-stored (c .before .args .marks .now) (c .before .args .at) (c .before .args .wanted) (c .before .pre) (c .if1 .taken)
 
@@ -17,4 +14,4 @@ returns-2 : tie.Need-returns-2
 returns-2 c = mark-left (c .before .args .marks .now) (c .before .args .at) (c .before .args .wanted) (c .if1 .left)
 
 pub mark-spec : {M : Type 1} → statement M
-mark-spec = tie.close (tie.spec element-write-marks returns returns-2)
+mark-spec = tie.close (tie.spec (λ c. search needs) returns returns-2)

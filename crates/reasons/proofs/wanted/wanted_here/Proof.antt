@@ -12,12 +12,6 @@ use Rattle.reasons.proofs.wanted.wanted_here.Lts as lts
 use Rattle.reasons.proofs.wanted.reached.Reads as reached-reads
 use Rattle.reasons.proofs.wanted.wanted_in.Reads as wanted-in-reads
 
-reached-requires : tie.Need-reached-requires
-reached-requires c κs = search needs
-
-wanted-in-requires : tie.Need-wanted-in-requires
-wanted-in-requires c κs = search needs
-
 returns : tie.Need-returns
 returns c = λ n. when-so (sym (c .before .before .reached .ensures) ∙ c .before .if1 .taken) (c .wanted-in .ensures n)
 
@@ -25,4 +19,4 @@ returns-2 : tie.Need-returns-2
 returns-2 c = λ n. when-not (hit (wanted-of (c .before .before .args .w)) (c .before .before .args .form) (event-of (c .before .before .args .e))) (sym (c .before .reached .ensures) ∙ c .if1 .left)
 
 pub wanted-here-spec : {M : Type 1} → statement M
-wanted-here-spec = tie.close (tie.spec reached-requires wanted-in-requires returns returns-2)
+wanted-here-spec = tie.close (tie.spec (λ c κs. search needs) (λ c κs. search needs) returns returns-2)

@@ -9,18 +9,6 @@ use Rattle.reasons.proofs.wanted.wants_emit.Tie as tie
 use Rattle.reasons.proofs.wanted.wants_emit.Reads as reads
 use Rattle.reasons.proofs.wanted.wants_emit.Lts as lts
 
-enum-told : tie.Need-enum-told
-enum-told c = search needs
-
-enum-known-w : tie.Need-enum-known-w
-enum-known-w c = search needs
-
-enum-told-2 : tie.Need-enum-told-2
-enum-told-2 c = search needs
-
-returns : tie.Need-returns
-returns c = search needs
-
 returns-2 : tie.Need-returns-2
 returns-2 c =
     let at-w = c .before in
@@ -32,4 +20,4 @@ returns-3 c = search needs
 
 pub wants-emit-spec : {M : Type 1} → statement M
 wants-emit-spec =
-    tie.close (tie.spec enum-told enum-known-w enum-told-2 returns returns-2 returns-3)
+    tie.close (tie.spec (λ c. search needs) (λ c. search needs) (λ c. search needs) (λ c. search needs) returns-2 returns-3)
