@@ -34,7 +34,7 @@ pub fn named(words: &[String]) -> Result<Vec<Case>, String> {
     }
 }
 
-/// A case as bytes: its head, the block, the state, the log.
+/// A case as bytes: its head, the block, the state, the log, the shelf or the second block.
 pub fn bytes(case: &Case) -> Vec<u8> {
     let none: &[u8] = &[];
     // A shelf is lent whole, but the zeros at its end are only counted.
@@ -59,6 +59,8 @@ pub fn bytes(case: &Case) -> Vec<u8> {
         Call::Fetch { shelf, party, name } => on_shelf(10, shelf, *party, *name),
         Call::Withdraw { shelf, party, name } => on_shelf(11, shelf, *party, *name),
         Call::Maze { inputs } => (12, none, none, vec![*inputs, 0, 0, 0]),
+        Call::Copies { room } => (14, none, none, vec![0, *room as u64, 0, 0]),
+        Call::Alike { second, room } => (13, none, none, vec![0, *room as u64, second.len() as u64, second.len() as u64]),
     };
     let mut all = vec![kind, state.len() as u8];
     all.extend((log.len() as u16).to_le_bytes());
@@ -93,7 +95,7 @@ fn first(bytes: &[u8]) -> Option<(Case, &[u8])> {
     let block_size = u32::from_le_bytes([head[4], head[5], head[6], head[7]]) as usize;
     let state_at = size + block_size;
     let log_at = state_at + head[1] as usize;
-    let (shelf_size, stands) = if (9..12).contains(&head[0]) { (number(2) as usize, number(3) as usize) } else { (0, 0) };
+    let (shelf_size, stands) = if (9..12).contains(&head[0]) || head[0] == 13 { (number(2) as usize, number(3) as usize) } else { (0, 0) };
     let end = log_at + log_size + stands;
     let block = bytes.get(size..state_at)?.to_vec();
     let state = bytes.get(state_at..log_at)?.to_vec();
@@ -113,6 +115,8 @@ fn first(bytes: &[u8]) -> Option<(Case, &[u8])> {
         10 => Call::Fetch { shelf, party: inputs as u16, name: other as u16 },
         11 => Call::Withdraw { shelf, party: inputs as u16, name: other as u16 },
         12 => Call::Maze { inputs },
+        14 => Call::Copies { room: other as usize },
+        13 => Call::Alike { second: shelf, room: other as usize },
         _ => return None,
     };
     Some((Case { block, call }, &bytes[end..]))

@@ -1,7 +1,11 @@
 //! Calls with all that is lent to them, and lines that give the complete answer and every lent byte after.
 
+use crate::alike::alike;
+use crate::alikes::{alike_edges, some_alike_case};
 use crate::block::{decode, Block, Header};
 use crate::chance::Chance;
+use crate::double::double_loops;
+use crate::doubles::{copies_edges, some_copies_case};
 use crate::edge_calls::{edge_calls, EdgeCall};
 use crate::edges::edge_blocks;
 use crate::family::Family;
@@ -35,6 +39,10 @@ pub enum Call {
     Fetch { shelf: Vec<u8>, party: u16, name: u16 },
     Withdraw { shelf: Vec<u8>, party: u16, name: u16 },
     Maze { inputs: u64 },
+    /// The second block, and how many bytes are lent for the run.
+    Alike { second: Vec<u8>, room: usize },
+    /// How many bytes are lent for the doubled block.
+    Copies { room: usize },
 }
 
 #[derive(Clone, Debug)]
@@ -62,6 +70,15 @@ fn hex_shelf(shelf: &[u8]) -> String {
     format!("{}+{:x}", hex(&shelf[..stands]), shelf.len() - stands)
 }
 
+/// What is lent for an output holds this byte, with which none ends.
+const LENT: u8 = 0xA5;
+
+/// A lent output up to what was written, and how many bytes come after it as they were.
+fn hex_lent(lent: &[u8]) -> String {
+    let stands = lent.iter().rposition(|&byte| byte != LENT).map_or(0, |last| last + 1);
+    format!("{}+{:x}", hex(&lent[..stands]), lent.len() - stands)
+}
+
 /// Number, place, pair, present, absent, undecided, code, rounds, active.
 fn fields(a: &Answer) -> String {
     format!(
@@ -85,6 +102,8 @@ impl Case {
             Call::Fetch { .. } => "fetch",
             Call::Withdraw { .. } => "withdraw",
             Call::Maze { .. } => "maze",
+            Call::Alike { .. } => "alike",
+            Call::Copies { .. } => "copies",
         }
     }
 
@@ -110,6 +129,8 @@ impl Case {
                 format!("{name} {block} {} {present:x} {absent:x} {question:x} {about:x}", hex(state))
             }
             Call::Maze { inputs } => format!("{name} {block} {inputs:x}"),
+            Call::Alike { second, room } => format!("{name} {block} {} {room:x}", hex(second)),
+            Call::Copies { room } => format!("{name} {block} {room:x}"),
             Call::Install { shelf, party, name: own } => {
                 format!("{name} {} {party:x} {own:x} {block}", hex_shelf(shelf))
             }
@@ -153,6 +174,16 @@ impl Case {
                 let (a, [wins, loses, draws]) = maze(&self.block, *inputs, fault);
                 format!("{:x} {:x} {wins:x} {loses:x} {draws:x}", a.number, a.place)
             }
+            Call::Alike { second, room } => {
+                let mut run = vec![LENT; *room];
+                let a = alike(&self.block, second, &mut run, fault);
+                format!("{:x} {:x} {:x} {:x} {}", a.number, a.place, a.second as u8, a.length, hex_lent(&run))
+            }
+            Call::Copies { room } => {
+                let mut out = vec![LENT; *room];
+                let (a, size) = double_loops(&self.block, &mut out, fault);
+                format!("{:x} {:x} {size:x} {}", a.number, a.place, hex_lent(&out))
+            }
             Call::Install { .. } | Call::Fetch { .. } | Call::Withdraw { .. } => self.on_shelf(fault),
         }
     }
@@ -179,12 +210,13 @@ impl Case {
         }
     }
 
-    /// The bytes of the lent shelf that stand before its zeros.
+    /// The bytes of the lent shelf that stand before its zeros, or of the second block.
     pub fn shelf(&self) -> &[u8] {
         match &self.call {
             Call::Install { shelf, .. } | Call::Fetch { shelf, .. } | Call::Withdraw { shelf, .. } => {
                 &shelf[..standing(shelf)]
             }
+            Call::Alike { second, .. } => second,
             _ => &[],
         }
     }
@@ -225,6 +257,8 @@ pub fn cases(family: Family, count: usize, seeds: &[u64]) -> Vec<Case> {
             Family::Why => some_why_case(&mut chance),
             Family::Shelf => some_shelf_case(&mut chance),
             Family::Maze => some_maze_case(&mut chance),
+            Family::Alike => some_alike_case(&mut chance),
+            Family::Copies => some_copies_case(&mut chance),
         })
     });
     edge_cases(family).into_iter().chain(random).take(count).collect()
@@ -245,6 +279,8 @@ pub fn family_edges(family: Family) -> Vec<EdgeCall> {
         Family::Why => why_edges(),
         Family::Shelf => shelf_edges(),
         Family::Maze => maze_edges(),
+        Family::Alike => alike_edges(),
+        Family::Copies => copies_edges(),
     }
 }
 

@@ -5,6 +5,7 @@ use std::collections::HashMap;
 use crate::block::{decode, Block, Form, Statement, Token};
 use crate::calls::told;
 use crate::cases::{Call, Case};
+use crate::doubles::nested_loops;
 use crate::family::{families, Family};
 use crate::fault::Fault;
 use crate::met::{holds, taken, Met};
@@ -87,6 +88,24 @@ const MAZES: [Sort; 5] = [
     ("an output draws", |seen| seen.ends(4)),
     ("outputs win, lose and draw", |seen| seen.ends(2) && seen.ends(3) && seen.ends(4)),
     ("inputs win and lose", |seen| seen.is("maze") && seen.number() == 0 && seen.inputs(2) && seen.inputs(3)),
+];
+
+/// The sorts of two blocks compared: number, place, whether the second, length.
+const ALIKE: [Sort; 6] = [
+    ("alike", |seen| seen.is("alike") && seen.number() == 0 && seen.words[3] == 0),
+    ("told apart by one set", |seen| seen.is("alike") && seen.number() == 0 && seen.words[3] == 1),
+    ("told apart by 3 sets or more", |seen| seen.is("alike") && seen.number() == 0 && seen.words[3] > 2),
+    ("told apart by 1,024 sets", |seen| seen.is("alike") && seen.number() == 0 && seen.words[3] == 1024),
+    ("a second block refused", |seen| seen.is("alike") && seen.number() > 0 && seen.words[2] == 1),
+    ("6 inputs compared", |seen| seen.is("alike") && seen.number() == 0 && seen.block.as_ref().map_or(false, |block| block.header.inputs == 6)),
+];
+
+/// The sorts of doubled blocks: number, place, size.
+const COPIES: [Sort; 4] = [
+    ("a block without a loop doubled", |seen| seen.doubled(|block| nested_loops(block) == 0)),
+    ("a local in a loop doubled", |seen| seen.doubled(|block| nested_loops(block) > 0 && nested(&block.root, Form::Local) > 0)),
+    ("nested loops doubled", |seen| seen.doubled(|block| nested_loops(block) > 1)),
+    ("3 nested loops doubled", |seen| seen.doubled(|block| nested_loops(block) > 2)),
 ];
 
 /// Whether a fetch or a withdrawal is of this entry.
@@ -223,6 +242,11 @@ impl<'a> Seen<'a> {
         self.ran() && self.block.as_ref().map_or(false, what)
     }
 
+    /// Whether such a block was doubled.
+    fn doubled(&self, such: fn(&Block) -> bool) -> bool {
+        self.is("copies") && self.number() == 0 && self.block.as_ref().map_or(false, such)
+    }
+
     fn met(&self, met: Met) -> bool {
         self.ran() && holds(self.met, met)
     }
@@ -268,6 +292,8 @@ fn possible(call: &str, number: usize) -> bool {
         "instant" | "heard" => number <= 13 && number != 12 || number == 17,
         "reason" => number <= 11 || number == 16 || number == 17,
         "maze" => number <= 8 || number == 11 || number == 26,
+        "copies" => number <= 8 || number == 12,
+        "alike" => number <= 8 || number == 12 || (23..=25).contains(&number),
         "install" => number <= 8 || (18..=21).contains(&number),
         "fetch" | "withdraw" => [0, 18, 19, 22].contains(&number),
         "logged" | "heardlogged" => number <= 13 || number == 17,
@@ -286,7 +312,7 @@ fn numbered(call: &str, number: usize) -> String {
 pub fn sorts(case: &Case) -> Vec<String> {
     let seen = Seen::new(case);
     let mut sorts = vec![numbered(case.name(), seen.number())];
-    let named = SORTS.iter().chain(&HEARD).chain(&WHY).chain(&SHELVES).chain(&MAZES);
+    let named = SORTS.iter().chain(&HEARD).chain(&WHY).chain(&SHELVES).chain(&MAZES).chain(&ALIKE).chain(&COPIES);
     sorts.extend(named.filter(|sort| (sort.1)(&seen)).map(|sort| sort.0.to_string()));
     sorts
 }
@@ -299,6 +325,8 @@ fn named_sorts(families: &[Family]) -> Vec<&'static str> {
         Family::Why => &WHY[..],
         Family::Shelf => &SHELVES[..],
         Family::Maze => &MAZES[..],
+        Family::Alike => &ALIKE[..],
+        Family::Copies => &COPIES[..],
     };
     families.iter().flat_map(of).map(|sort| sort.0).collect()
 }

@@ -1,7 +1,7 @@
 //! Families of calls: those of the statement, and those that a later request added. Each has cases, sorts and faults of its own.
 
 use crate::cases::{Call, Case};
-use crate::fault::{Fault, CHECKS, HEARD, LENT, MAZES, RULES, SHELVES, WHY};
+use crate::fault::{Fault, ALIKE, CHECKS, COPIES, HEARD, LENT, MAZES, RULES, SHELVES, WHY};
 
 #[derive(Clone, Copy, PartialEq, Eq, Debug)]
 pub enum Family {
@@ -15,9 +15,14 @@ pub enum Family {
     Shelf,
     /// The maze of the first instant.
     Maze,
+    /// Two blocks compared.
+    Alike,
+    /// Loop bodies doubled.
+    Copies,
 }
 
-pub const FAMILIES: [Family; 5] = [Family::Base, Family::Heard, Family::Why, Family::Shelf, Family::Maze];
+pub const FAMILIES: [Family; 7] =
+    [Family::Base, Family::Heard, Family::Why, Family::Shelf, Family::Maze, Family::Alike, Family::Copies];
 
 impl Family {
     /// The family that a word names.
@@ -32,6 +37,8 @@ impl Family {
             Family::Why => "why",
             Family::Shelf => "shelf",
             Family::Maze => "maze",
+            Family::Alike => "alike",
+            Family::Copies => "copies",
         }
     }
 
@@ -42,6 +49,8 @@ impl Family {
             Family::Why => &["reason"],
             Family::Shelf => &["install", "fetch", "withdraw"],
             Family::Maze => &["maze"],
+            Family::Alike => &["alike"],
+            Family::Copies => &["copies"],
         }
     }
 
@@ -53,6 +62,7 @@ impl Family {
             Family::Why => 8000,
             Family::Shelf => 1600,
             Family::Maze => 4000,
+            Family::Alike | Family::Copies => 2000,
         }
     }
 
@@ -64,6 +74,8 @@ impl Family {
             Family::Why => WHY.to_vec(),
             Family::Shelf => SHELVES.to_vec(),
             Family::Maze => MAZES.to_vec(),
+            Family::Alike => ALIKE.to_vec(),
+            Family::Copies => COPIES.to_vec(),
         }
     }
 
@@ -73,6 +85,8 @@ impl Family {
             Call::Reason { .. } => Family::Why,
             Call::Install { .. } | Call::Fetch { .. } | Call::Withdraw { .. } => Family::Shelf,
             Call::Maze { .. } => Family::Maze,
+            Call::Alike { .. } => Family::Alike,
+            Call::Copies { .. } => Family::Copies,
             _ => Family::Base,
         }
     }

@@ -1,5 +1,7 @@
 //! An independent reference evaluator for blocks: run it without a word to see its subcommands.
 
+mod alike;
+mod alikes;
 mod all;
 mod antt;
 mod bite;
@@ -13,6 +15,7 @@ mod codes;
 mod coherence;
 mod counts;
 mod double;
+mod doubles;
 mod edge_calls;
 mod edge_limits;
 mod edges;
@@ -73,6 +76,8 @@ const USAGE: &str = "subcommands:
   why [SIZE N SEED] reasons beside circuits and executions: all blocks up to SIZE statements (4) and N random ones (3000, seed 1)
   shelf [CALLS N SEED]  a shelf beside its model: all histories of CALLS calls (4) on a small one, N random ones (60, seed 1)
   maze [SIZE N SEED]  mazes beside the rounds: all blocks of the form up to SIZE statements (8) and N random ones (4000, seed 1)
+  alike [SIZE N SEED]  two blocks beside classes of states: all pairs up to SIZE statements (4), N random ones (3000, seed 1)
+  copies [SIZE N SEED]  blocks beside doubled ones: all with a loop up to SIZE statements (6), N random ones (2000, seed 1)
   bite [CASES]      a case for each fault
   run FOLDER        the run program
   cases [CASES]     lines of calls with their complete answers
@@ -87,7 +92,8 @@ const USAGE: &str = "subcommands:
   antt-bite SEED    the smallest row for each wrong rule
   selftest          all of these that can fail
 CASES are [FAMILY] N SEED.. (seeds 1 2 3 4) or a file of calls; families are base (20000 cases), heard
-and why (8000 each), shelf (1600) and maze (4000)";
+and why (8000 each), shelf (1600), maze (4000), alike (2000) and copies
+(2000)";
 
 fn main() {
     let words: Vec<String> = env::args().skip(1).collect();
@@ -113,6 +119,8 @@ fn main() {
         Some("why") => why::print_why(number(1, 4) as usize, number(2, 3000) as usize, number(3, 1)),
         Some("shelf") => shelves::print_shelf(number(1, 4) as usize, number(2, 60) as usize, number(3, 1)),
         Some("maze") => mazes::print_maze(number(1, 8) as usize, number(2, 4000) as usize, number(3, 1)),
+        Some("alike") => alikes::print_alike(number(1, 4) as usize, number(2, 3000) as usize, number(3, 1)),
+        Some("copies") => doubles::print_copies(number(1, 6) as usize, number(2, 2000) as usize, number(3, 1)),
         Some("older") => older::print_older(number(1, 40_000) as usize, number(2, 1)),
         Some("older-smallest") => older::print_smallest(number(1, 1)),
         Some("circuits") => circuits::print_circuits(5, number(1, 4000) as usize, number(2, 1)),

@@ -23,6 +23,17 @@ pub fn some_mixed_block(chance: &mut Chance, least: usize, most: usize) -> (Vec<
     }
 }
 
+/// A block after up to three changes, with the same inputs and outputs, or as it was where they spoil it.
+pub fn altered(block: &Block, chance: &mut Chance) -> Block {
+    let (inputs, outputs) = (block.header.inputs, block.header.outputs);
+    let mut tokens = block.root.tokens();
+    for _ in 0..1 + chance.below(3) {
+        change(&mut tokens, inputs, outputs, chance);
+    }
+    let (_, _, tokens) = renumbered(inputs, outputs, &tokens).unwrap_or((inputs, outputs, tokens));
+    decode(&encode_tokens(header_of(inputs, outputs, &tokens), &tokens), Fault::None).unwrap_or_else(|_| block.clone())
+}
+
 /// A known block after up to four changes; it need not be good.
 fn changed(chance: &mut Chance) -> (u16, u16, Vec<Token>) {
     let known = known_blocks();

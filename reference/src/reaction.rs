@@ -5,7 +5,7 @@ use crate::fault::Fault;
 use crate::rules::Rules;
 use crate::values::{signal_bits, Event, Heard, Mark, Must, Part, Run, Status};
 
-#[derive(Clone, Copy, PartialEq, Eq, Debug)]
+#[derive(Clone, Copy, PartialEq, Eq, Hash, Debug)]
 pub enum Phase {
     Fresh,
     Running(u128),

@@ -43,6 +43,8 @@ impl Asked {
 pub struct Reached {
     pub all: BTreeSet<usize>,
     pub undecided: BTreeSet<usize>,
+    /// Those that are reached in two runs, one resumed and one started, or twice started.
+    pub twice: BTreeSet<usize>,
 }
 
 /// The call: as the instant's 1 to 11, then 16 where the thing asked about is not so. Nothing lent is written.
@@ -157,7 +159,9 @@ impl<'a> Reaching<'a> {
     fn reach(&mut self, part: Part, e: Event) {
         let (p, run) = part;
         let body = p.parts.first();
-        self.found.all.insert(p.number);
+        if !self.found.all.insert(p.number) {
+            self.found.twice.insert(p.number);
+        }
         match p.form {
             Form::Nothing | Form::Pause | Form::Emit | Form::Exit => {}
             Form::Present => self.reach_present(p, run, e),

@@ -1,5 +1,6 @@
 //! Everything that can fail, in under a minute.
 
+use crate::alikes::print_alike;
 use crate::bite::print_bites;
 use crate::block::{decode, encode};
 use crate::calls::{bytes, read, SEEDS};
@@ -7,6 +8,7 @@ use crate::cases::{cases, family_edges, Case};
 use crate::chance::Chance;
 use crate::circuits::print_circuits;
 use crate::counts::print_counts;
+use crate::doubles::print_copies;
 use crate::edges::edge_blocks;
 use crate::family::{Family, FAMILIES};
 use crate::fault::Fault;
@@ -23,7 +25,7 @@ use crate::why::print_why;
 use crate::worked::print_worked;
 
 /// Worked cases, edges, coherence, orders of settling and circuits over all small and some random blocks, the older rule,
-/// states lent to other blocks, inputs not heard, reasons, shelves, mazes, and the faults.
+/// states lent to other blocks, inputs not heard, reasons, shelves, mazes, two blocks compared, loop bodies doubled, and the faults.
 pub fn selftest() -> bool {
     let worked = print_worked();
     let edges = print_edges();
@@ -37,8 +39,10 @@ pub fn selftest() -> bool {
     let why = print_why(4, 3000, 1);
     let shelf = print_shelf(4, 40, 1);
     let maze = print_maze(7, 4000, 1);
+    let alike = print_alike(3, 3000, 1);
+    let copies = print_copies(5, 2000, 1);
     let all = FAMILIES.iter().filter(|&&family| !print_family(family)).count() == 0;
-    worked && edges && coherent && random && orders && older && circuits && states && heard && why && shelf && maze && all
+    worked && edges && coherent && random && orders && older && circuits && states && heard && why && shelf && maze && alike && copies && all
 }
 
 /// The cases of a family: kept as bytes, of every sort, and such that they tell every fault.

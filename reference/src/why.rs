@@ -50,7 +50,7 @@ impl Second {
         };
         let found = self.circuit.reached(phase, heard);
         let own = |n: &usize| self.from[*n];
-        Reached { all: found.all.iter().filter_map(own).collect(), undecided: found.undecided.iter().filter_map(own).collect() }
+        Reached { all: found.all.iter().filter_map(own).collect(), undecided: found.undecided.iter().filter_map(own).collect(), ..Reached::default() }
     }
 }
 
@@ -87,7 +87,7 @@ impl Counts {
         self.instants += 1;
         self.refused += reaction.code.is_none() as usize;
         self.several += (other.undecided.len() > 1) as usize;
-        if one != other {
+        if (&one.all, &one.undecided) != (&other.all, &other.undecided) {
             self.fail(block, phase, heard, format!("{one:?}, by the circuit {other:?}"));
         }
         // An undecided test is there exactly when 13 is given.
