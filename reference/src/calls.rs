@@ -59,6 +59,8 @@ pub fn bytes(case: &Case) -> Vec<u8> {
         Call::Fetch { shelf, party, name } => on_shelf(10, shelf, *party, *name),
         Call::Withdraw { shelf, party, name } => on_shelf(11, shelf, *party, *name),
         Call::Maze { inputs } => (12, none, none, vec![*inputs, 0, 0, 0]),
+        Call::ReadText { room } => (15, none, none, vec![0, *room as u64, 0, 0]),
+        Call::WriteText { room } => (16, none, none, vec![0, *room as u64, 0, 0]),
         Call::Copies { room } => (14, none, none, vec![0, *room as u64, 0, 0]),
         Call::Alike { second, room } => (13, none, none, vec![0, *room as u64, second.len() as u64, second.len() as u64]),
     };
@@ -115,6 +117,8 @@ fn first(bytes: &[u8]) -> Option<(Case, &[u8])> {
         10 => Call::Fetch { shelf, party: inputs as u16, name: other as u16 },
         11 => Call::Withdraw { shelf, party: inputs as u16, name: other as u16 },
         12 => Call::Maze { inputs },
+        15 => Call::ReadText { room: other as usize },
+        16 => Call::WriteText { room: other as usize },
         14 => Call::Copies { room: other as usize },
         13 => Call::Alike { second: shelf, room: other as usize },
         _ => return None,

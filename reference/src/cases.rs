@@ -12,6 +12,8 @@ use crate::family::Family;
 use crate::fault::Fault;
 use crate::generate::{some_active, some_block, some_inputs, some_phase, Wish};
 use crate::heard_cases::{heard_edges, some_heard_case};
+use crate::kernel::{read_text, write_text};
+use crate::kernels::{some_text_case, text_edges};
 use crate::maze::maze;
 use crate::mazes::{maze_edges, some_maze_case};
 use crate::mutate::some_mixed_block;
@@ -43,6 +45,10 @@ pub enum Call {
     Alike { second: Vec<u8>, room: usize },
     /// How many bytes are lent for the doubled block.
     Copies { room: usize },
+    /// The block is the text, and so many bytes are lent for the block.
+    ReadText { room: usize },
+    /// So many bytes are lent for the text.
+    WriteText { room: usize },
 }
 
 #[derive(Clone, Debug)]
@@ -104,6 +110,8 @@ impl Case {
             Call::Maze { .. } => "maze",
             Call::Alike { .. } => "alike",
             Call::Copies { .. } => "copies",
+            Call::ReadText { .. } => "readtext",
+            Call::WriteText { .. } => "writetext",
         }
     }
 
@@ -130,7 +138,7 @@ impl Case {
             }
             Call::Maze { inputs } => format!("{name} {block} {inputs:x}"),
             Call::Alike { second, room } => format!("{name} {block} {} {room:x}", hex(second)),
-            Call::Copies { room } => format!("{name} {block} {room:x}"),
+            Call::Copies { room } | Call::ReadText { room } | Call::WriteText { room } => format!("{name} {block} {room:x}"),
             Call::Install { shelf, party, name: own } => {
                 format!("{name} {} {party:x} {own:x} {block}", hex_shelf(shelf))
             }
@@ -179,9 +187,13 @@ impl Case {
                 let a = alike(&self.block, second, &mut run, fault);
                 format!("{:x} {:x} {:x} {:x} {}", a.number, a.place, a.second as u8, a.length, hex_lent(&run))
             }
-            Call::Copies { room } => {
+            Call::Copies { room } | Call::ReadText { room } | Call::WriteText { room } => {
                 let mut out = vec![LENT; *room];
-                let (a, size) = double_loops(&self.block, &mut out, fault);
+                let (a, size) = match self.call {
+                    Call::Copies { .. } => double_loops(&self.block, &mut out, fault),
+                    Call::ReadText { .. } => read_text(&self.block, &mut out, fault),
+                    _ => write_text(&self.block, &mut out, fault),
+                };
                 format!("{:x} {:x} {size:x} {}", a.number, a.place, hex_lent(&out))
             }
             Call::Install { .. } | Call::Fetch { .. } | Call::Withdraw { .. } => self.on_shelf(fault),
@@ -259,6 +271,7 @@ pub fn cases(family: Family, count: usize, seeds: &[u64]) -> Vec<Case> {
             Family::Maze => some_maze_case(&mut chance),
             Family::Alike => some_alike_case(&mut chance),
             Family::Copies => some_copies_case(&mut chance),
+            Family::Text => some_text_case(&mut chance),
         })
     });
     edge_cases(family).into_iter().chain(random).take(count).collect()
@@ -281,6 +294,7 @@ pub fn family_edges(family: Family) -> Vec<EdgeCall> {
         Family::Maze => maze_edges(),
         Family::Alike => alike_edges(),
         Family::Copies => copies_edges(),
+        Family::Text => text_edges(),
     }
 }
 

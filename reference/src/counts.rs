@@ -108,6 +108,14 @@ const COPIES: [Sort; 4] = [
     ("3 nested loops doubled", |seen| seen.doubled(|block| nested_loops(block) > 2)),
 ];
 
+/// The sorts of texts: number, place, size.
+const TEXTS: [Sort; 4] = [
+    ("a text of 200 bytes or more read", |seen| seen.is("readtext") && seen.number() == 0 && seen.case.block.len() >= 200),
+    ("a text with brackets read", |seen| seen.is("readtext") && seen.number() == 0 && seen.case.block.contains(&b'[')),
+    ("15 past the header", |seen| seen.number() == 15 && seen.words[1] > 30),
+    ("15 at the end", |seen| seen.number() == 15 && seen.words[1] == seen.case.block.len() as u64),
+];
+
 /// Whether a fetch or a withdrawal is of this entry.
 fn asks(case: &Case, entry: &(u16, u16, Vec<u8>)) -> bool {
     match case.call {
@@ -292,7 +300,8 @@ fn possible(call: &str, number: usize) -> bool {
         "instant" | "heard" => number <= 13 && number != 12 || number == 17,
         "reason" => number <= 11 || number == 16 || number == 17,
         "maze" => number <= 8 || number == 11 || number == 26,
-        "copies" => number <= 8 || number == 12,
+        "readtext" => [0, 4, 5, 8, 12, 15].contains(&number),
+        "writetext" | "copies" => number <= 8 || number == 12,
         "alike" => number <= 8 || number == 12 || (23..=25).contains(&number),
         "install" => number <= 8 || (18..=21).contains(&number),
         "fetch" | "withdraw" => [0, 18, 19, 22].contains(&number),
@@ -312,7 +321,7 @@ fn numbered(call: &str, number: usize) -> String {
 pub fn sorts(case: &Case) -> Vec<String> {
     let seen = Seen::new(case);
     let mut sorts = vec![numbered(case.name(), seen.number())];
-    let named = SORTS.iter().chain(&HEARD).chain(&WHY).chain(&SHELVES).chain(&MAZES).chain(&ALIKE).chain(&COPIES);
+    let named = SORTS.iter().chain(&HEARD).chain(&WHY).chain(&SHELVES).chain(&MAZES).chain(&ALIKE).chain(&COPIES).chain(&TEXTS);
     sorts.extend(named.filter(|sort| (sort.1)(&seen)).map(|sort| sort.0.to_string()));
     sorts
 }
@@ -327,6 +336,7 @@ fn named_sorts(families: &[Family]) -> Vec<&'static str> {
         Family::Maze => &MAZES[..],
         Family::Alike => &ALIKE[..],
         Family::Copies => &COPIES[..],
+        Family::Text => &TEXTS[..],
     };
     families.iter().flat_map(of).map(|sort| sort.0).collect()
 }

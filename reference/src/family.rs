@@ -1,7 +1,7 @@
 //! Families of calls: those of the statement, and those that a later request added. Each has cases, sorts and faults of its own.
 
 use crate::cases::{Call, Case};
-use crate::fault::{Fault, ALIKE, CHECKS, COPIES, HEARD, LENT, MAZES, RULES, SHELVES, WHY};
+use crate::fault::{Fault, ALIKE, CHECKS, COPIES, HEARD, LENT, MAZES, RULES, SHELVES, TEXTS, WHY};
 
 #[derive(Clone, Copy, PartialEq, Eq, Debug)]
 pub enum Family {
@@ -19,10 +19,12 @@ pub enum Family {
     Alike,
     /// Loop bodies doubled.
     Copies,
+    /// Blocks as text.
+    Text,
 }
 
-pub const FAMILIES: [Family; 7] =
-    [Family::Base, Family::Heard, Family::Why, Family::Shelf, Family::Maze, Family::Alike, Family::Copies];
+pub const FAMILIES: [Family; 8] =
+    [Family::Base, Family::Heard, Family::Why, Family::Shelf, Family::Maze, Family::Alike, Family::Copies, Family::Text];
 
 impl Family {
     /// The family that a word names.
@@ -39,6 +41,7 @@ impl Family {
             Family::Maze => "maze",
             Family::Alike => "alike",
             Family::Copies => "copies",
+            Family::Text => "text",
         }
     }
 
@@ -51,6 +54,7 @@ impl Family {
             Family::Maze => &["maze"],
             Family::Alike => &["alike"],
             Family::Copies => &["copies"],
+            Family::Text => &["readtext", "writetext"],
         }
     }
 
@@ -63,6 +67,7 @@ impl Family {
             Family::Shelf => 1600,
             Family::Maze => 4000,
             Family::Alike | Family::Copies => 2000,
+            Family::Text => 8000,
         }
     }
 
@@ -76,6 +81,7 @@ impl Family {
             Family::Maze => MAZES.to_vec(),
             Family::Alike => ALIKE.to_vec(),
             Family::Copies => COPIES.to_vec(),
+            Family::Text => TEXTS.to_vec(),
         }
     }
 
@@ -87,6 +93,7 @@ impl Family {
             Call::Maze { .. } => Family::Maze,
             Call::Alike { .. } => Family::Alike,
             Call::Copies { .. } => Family::Copies,
+            Call::ReadText { .. } | Call::WriteText { .. } => Family::Text,
             _ => Family::Base,
         }
     }

@@ -290,6 +290,25 @@ faults! {
         CopyRoomHigh: "one byte more is asked for the output",
         CopyRoomAlways: "3,086 bytes are asked for every output",
     }
+    TEXTS {
+        NameShort: "a name has at most 15 letters and digits",
+        NameLong: "a name has at most 17 letters and digits",
+        VersionBeyond: "a version may pass 65,535",
+        PlaceBehind: "the place of TEXT is behind the token",
+        NamesShadowed: "a name may be declared again in its scope",
+        InnermostCompared: "only the innermost name is compared with a new one",
+        TrapsApart: "traps and signals do not share names",
+        TrapEmitted: "a trap may be emitted",
+        ScopesCounted: "an exit counts the locals between it and its trap",
+        ScopeNeverLeft: "a name holds behind its scope too",
+        MarksTurned: "a parallel binds tighter than a sequence",
+        JoinedToTheLeft: "sequences and parallels join to the left",
+        TextRoomLow: "one byte less is enough for what is written",
+        TextRoomHigh: "one byte more is asked for what is written",
+        TrapOneOff: "an exit is written with the next trap's name",
+        FirstWithoutBrackets: "a first part that is a sequence is written without brackets",
+        NeedlessBrackets: "a second part that is a sequence is written with brackets",
+    }
     REACHED {
         StuckArmHidesOther: "a parallel's second arm is not reached while the first has no code",
     }

@@ -14,6 +14,7 @@ use crate::family::{Family, FAMILIES};
 use crate::fault::Fault;
 use crate::heard::print_heard;
 use crate::generate::{some_inputs, some_phase};
+use crate::kernels::print_text;
 use crate::mutate::some_mixed_block;
 use crate::mazes::print_maze;
 use crate::older::print_older;
@@ -25,7 +26,7 @@ use crate::why::print_why;
 use crate::worked::print_worked;
 
 /// Worked cases, edges, coherence, orders of settling and circuits over all small and some random blocks, the older rule,
-/// states lent to other blocks, inputs not heard, reasons, shelves, mazes, two blocks compared, loop bodies doubled, and the faults.
+/// states lent to other blocks, inputs not heard, reasons, shelves, mazes, two blocks compared, loop bodies doubled, texts, and the faults.
 pub fn selftest() -> bool {
     let worked = print_worked();
     let edges = print_edges();
@@ -41,8 +42,9 @@ pub fn selftest() -> bool {
     let maze = print_maze(7, 4000, 1);
     let alike = print_alike(3, 3000, 1);
     let copies = print_copies(5, 2000, 1);
+    let text = print_text(4, 1000, 1);
     let all = FAMILIES.iter().filter(|&&family| !print_family(family)).count() == 0;
-    worked && edges && coherent && random && orders && older && circuits && states && heard && why && shelf && maze && alike && copies && all
+    worked && edges && coherent && random && orders && older && circuits && states && heard && why && shelf && maze && alike && copies && text && all
 }
 
 /// The cases of a family: kept as bytes, of every sort, and such that they tell every fault.
