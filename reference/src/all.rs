@@ -78,8 +78,8 @@ impl All {
             (from..inputs + outputs).chain(locals).collect()
         };
         match form {
-            Form::Emit => signals(inputs),
-            Form::Present | Form::Suspend => signals(0),
+            Form::Emit | Form::Sustain => signals(inputs),
+            Form::Present | Form::Suspend | Form::Await | Form::Abort => signals(0),
             Form::Exit => (0..place.traps).collect(),
             Form::Local if place.next < inputs + outputs + self.alphabet.locals => vec![place.next],
             Form::Local => Vec::new(),

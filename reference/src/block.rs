@@ -44,8 +44,13 @@ pub fn encode(header: Header, root: &Statement) -> Vec<u8> {
 
 /// Writes statements in preorder as a block, whether they make a good tree or not.
 pub fn encode_tokens(header: Header, tokens: &[Token]) -> Vec<u8> {
+    encode_edition(1, header, tokens)
+}
+
+/// The same in either edition.
+pub fn encode_edition(edition: u16, header: Header, tokens: &[Token]) -> Vec<u8> {
     let mut bytes = Vec::with_capacity(14 + 6 * tokens.len());
-    let head = [14, 1, 1, header.version, header.inputs, header.outputs, header.locals];
+    let head = [14, 1, edition, header.version, header.inputs, header.outputs, header.locals];
     head.iter().for_each(|word| bytes.extend(word.to_le_bytes()));
     for &(form, operand) in tokens {
         bytes.extend((form.length() as u16).to_le_bytes());
@@ -57,13 +62,18 @@ pub fn encode_tokens(header: Header, tokens: &[Token]) -> Vec<u8> {
     bytes
 }
 
-/// Reads a block: the size first, the records from the front, and the loops last.
+/// Reads a block of edition 1: the size first, the records from the front, and the loops last.
 pub fn decode(bytes: &[u8], fault: Fault) -> Result<Block, Refusal> {
+    decode_edition(bytes, 1, fault)
+}
+
+/// The same of either edition.
+pub fn decode_edition(bytes: &[u8], edition: u16, fault: Fault) -> Result<Block, Refusal> {
     let limits = Limits::of(fault);
     if bytes.len() > limits.size {
         return refuse(LIMIT, 0);
     }
-    let mut reader = Reader { bytes, fault, limits, at: 0, signals: 0, statements: 0, pauses: 0, locals: 0 };
+    let mut reader = Reader { bytes, edition, fault, limits, at: 0, signals: 0, statements: 0, pauses: 0, stops: 0, locals: 0 };
     let header = reader.header()?;
     reader.signals = reader.sum(header);
     let root = reader.statement(header, Around { path: 1, traps: 0, locals: 0, scope: 0 })?;
@@ -90,12 +100,15 @@ struct Around {
 
 struct Reader<'a> {
     bytes: &'a [u8],
+    edition: u16,
     fault: Fault,
     limits: Limits,
     at: usize,
     signals: usize,
     statements: usize,
     pauses: usize,
+    /// The pauses and what else a run may stop at.
+    stops: usize,
     locals: usize,
 }
 
@@ -134,7 +147,7 @@ impl<'a> Reader<'a> {
         if self.word(2) != 1 || !length_good {
             return refuse(KIND, 0);
         }
-        if self.word(4) != 1 && self.fault != Fault::EditionUnchecked {
+        if self.word(4) != self.edition && self.fault != Fault::EditionUnchecked {
             return refuse(EDITION, 0);
         }
         let header = Header {
@@ -156,7 +169,8 @@ impl<'a> Reader<'a> {
         if self.left() < 4 {
             return refuse(if self.fault == Fault::CutRecordIsShape { SHAPE } else { BROKEN }, at);
         }
-        let form = Form::of_kind(self.word(at + 2));
+        let kind = self.word(at + 2);
+        let form = if self.edition == 2 { Form::of_wide_kind(kind) } else { Form::of_kind(kind) };
         if self.fault == Fault::KindBeforeBroken && form.is_none() {
             return refuse(KIND, at);
         }
@@ -175,7 +189,7 @@ impl<'a> Reader<'a> {
     fn over_limit(&self, form: Form, around: Around) -> bool {
         self.statements >= self.limits.statements
             || around.path > self.limits.path
-            || form == Form::Pause && self.pauses >= self.limits.pauses
+            || (form == Form::Pause || form.stops() && self.fault == Fault::StopsAsPauses) && self.pauses >= self.limits.pauses
             || form == Form::Trap && around.traps >= self.limits.traps
             || form == Form::Local && around.locals >= self.limits.locals
     }
@@ -194,11 +208,13 @@ impl<'a> Reader<'a> {
             || self.fault == Fault::LocalAnyNumber && signal >= from_locals;
         match form {
             Form::Local => !declared || !next,
-            Form::Emit => {
-                let input = signal < header.inputs as usize && self.fault != Fault::EmitOfInputAllowed;
+            Form::Emit | Form::Sustain => {
+                let sustained = form == Form::Sustain && self.fault == Fault::SustainOfInput;
+                let input = signal < header.inputs as usize && self.fault != Fault::EmitOfInputAllowed && !sustained;
                 !declared || !in_scope || input
             }
-            Form::Present | Form::Suspend => !declared || !in_scope,
+            Form::Await if self.fault == Fault::AwaitOfInputRefused => !declared || !in_scope || signal < header.inputs as usize,
+            Form::Present | Form::Suspend | Form::Await | Form::Abort => !declared || !in_scope,
             _ => false,
         }
     }
@@ -229,13 +245,14 @@ impl<'a> Reader<'a> {
         let form = self.form()?;
         let operand = if form.has_operand() { self.word(self.at + 4) } else { 0 };
         self.test(header, form, operand, around)?;
-        let (number, offset, first_pause) = (self.statements, self.at, self.pauses);
+        let (number, offset, first_pause) = (self.statements, self.at, self.stops);
         self.at += self.word(offset) as usize;
         self.statements += 1;
-        self.pauses += (form == Form::Pause) as usize;
+        self.pauses += (form == Form::Pause || form.stops() && self.fault == Fault::StopsAsPauses) as usize;
+        self.stops += form.stops() as usize;
         self.locals += (form == Form::Local) as usize;
         let mut below = Around { path: around.path + 1, ..around };
-        below.traps += (form == Form::Trap) as usize;
+        below.traps += (form == Form::Trap || form == Form::Abort && self.fault == Fault::AbortAsTrap) as usize;
         if form == Form::Local {
             below.locals += 1;
             below.scope |= 1u128.checked_shl(operand as u32).unwrap_or(0);
@@ -244,7 +261,7 @@ impl<'a> Reader<'a> {
         for _ in 0..form.parts() {
             parts.push(self.statement(header, below)?);
         }
-        let own = if form == Form::Pause { pause_bit(first_pause) } else { 0 };
+        let own = if form.stops() { pause_bit(first_pause) } else { 0 };
         let pauses = parts.iter().fold(own, |all, part| all | part.pauses);
         Ok(Statement { form, operand, parts, number, offset, end: self.at, first_pause, pauses })
     }

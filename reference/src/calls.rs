@@ -61,6 +61,7 @@ pub fn bytes(case: &Case) -> Vec<u8> {
         Call::Maze { inputs } => (12, none, none, vec![*inputs, 0, 0, 0]),
         Call::ReadText { room } => (15, none, none, vec![0, *room as u64, 0, 0]),
         Call::WriteText { room } => (16, none, none, vec![0, *room as u64, 0, 0]),
+        Call::Convert { room } => (17, none, none, vec![0, *room as u64, 0, 0]),
         Call::Copies { room } => (14, none, none, vec![0, *room as u64, 0, 0]),
         Call::Alike { second, room } => (13, none, none, vec![0, *room as u64, second.len() as u64, second.len() as u64]),
     };
@@ -119,6 +120,7 @@ fn first(bytes: &[u8]) -> Option<(Case, &[u8])> {
         12 => Call::Maze { inputs },
         15 => Call::ReadText { room: other as usize },
         16 => Call::WriteText { room: other as usize },
+        17 => Call::Convert { room: other as usize },
         14 => Call::Copies { room: other as usize },
         13 => Call::Alike { second: shelf, room: other as usize },
         _ => return None,

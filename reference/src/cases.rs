@@ -4,6 +4,8 @@ use crate::alike::alike;
 use crate::alikes::{alike_edges, some_alike_case};
 use crate::block::{decode, Block, Header};
 use crate::chance::Chance;
+use crate::convert::convert;
+use crate::converts::{convert_edges, some_convert_case};
 use crate::double::double_loops;
 use crate::doubles::{copies_edges, some_copies_case};
 use crate::edge_calls::{edge_calls, EdgeCall};
@@ -45,6 +47,8 @@ pub enum Call {
     Alike { second: Vec<u8>, room: usize },
     /// How many bytes are lent for the doubled block.
     Copies { room: usize },
+    /// How many bytes are lent for the block of edition 1.
+    Convert { room: usize },
     /// The block is the text, and so many bytes are lent for the block.
     ReadText { room: usize },
     /// So many bytes are lent for the text.
@@ -110,6 +114,7 @@ impl Case {
             Call::Maze { .. } => "maze",
             Call::Alike { .. } => "alike",
             Call::Copies { .. } => "copies",
+            Call::Convert { .. } => "convert",
             Call::ReadText { .. } => "readtext",
             Call::WriteText { .. } => "writetext",
         }
@@ -138,7 +143,7 @@ impl Case {
             }
             Call::Maze { inputs } => format!("{name} {block} {inputs:x}"),
             Call::Alike { second, room } => format!("{name} {block} {} {room:x}", hex(second)),
-            Call::Copies { room } | Call::ReadText { room } | Call::WriteText { room } => format!("{name} {block} {room:x}"),
+            Call::Copies { room } | Call::Convert { room } | Call::ReadText { room } | Call::WriteText { room } => format!("{name} {block} {room:x}"),
             Call::Install { shelf, party, name: own } => {
                 format!("{name} {} {party:x} {own:x} {block}", hex_shelf(shelf))
             }
@@ -187,10 +192,11 @@ impl Case {
                 let a = alike(&self.block, second, &mut run, fault);
                 format!("{:x} {:x} {:x} {:x} {}", a.number, a.place, a.second as u8, a.length, hex_lent(&run))
             }
-            Call::Copies { room } | Call::ReadText { room } | Call::WriteText { room } => {
+            Call::Copies { room } | Call::Convert { room } | Call::ReadText { room } | Call::WriteText { room } => {
                 let mut out = vec![LENT; *room];
                 let (a, size) = match self.call {
                     Call::Copies { .. } => double_loops(&self.block, &mut out, fault),
+                    Call::Convert { .. } => convert(&self.block, &mut out, fault),
                     Call::ReadText { .. } => read_text(&self.block, &mut out, fault),
                     _ => write_text(&self.block, &mut out, fault),
                 };
@@ -272,6 +278,7 @@ pub fn cases(family: Family, count: usize, seeds: &[u64]) -> Vec<Case> {
             Family::Alike => some_alike_case(&mut chance),
             Family::Copies => some_copies_case(&mut chance),
             Family::Text => some_text_case(&mut chance),
+            Family::Convert => some_convert_case(&mut chance),
         })
     });
     edge_cases(family).into_iter().chain(random).take(count).collect()
@@ -295,6 +302,7 @@ pub fn family_edges(family: Family) -> Vec<EdgeCall> {
         Family::Alike => alike_edges(),
         Family::Copies => copies_edges(),
         Family::Text => text_edges(),
+        Family::Convert => convert_edges(),
     }
 }
 

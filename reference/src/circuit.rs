@@ -102,6 +102,7 @@ impl Circuit {
             Form::Trap => self.trap(p, ins),
             // A local's wire is its own: the or of the emits in its body.
             Form::Local => self.put(&p.parts[0], ins),
+            Form::Halt | Form::Sustain | Form::Await | Form::Abort => unreachable!("a statement of edition 2"),
         }
     }
 

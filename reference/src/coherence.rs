@@ -117,6 +117,7 @@ fn execute(slip: Slip, p: &Statement, run: Run, present: u64) -> Vec<Outcome> {
             body.into_iter().map(|outcome| Outcome { code: lower(outcome.code), ..outcome }).collect()
         }
         Form::Local => local(slip, p, run, present),
+        Form::Halt | Form::Sustain | Form::Await | Form::Abort => unreachable!("a statement of edition 2"),
     };
     // A statement with a code other than 1 keeps no pause.
     let keeps = |o: &Outcome| o.code == 1 || slip == Slip::OtherCodesKeep;

@@ -2,7 +2,7 @@
 
 use std::collections::HashMap;
 
-use crate::block::{decode, Block, Form, Statement, Token};
+use crate::block::{decode, decode_edition, Block, Form, Statement, Token};
 use crate::calls::told;
 use crate::cases::{Call, Case};
 use crate::doubles::nested_loops;
@@ -114,6 +114,14 @@ const TEXTS: [Sort; 4] = [
     ("a text with brackets read", |seen| seen.is("readtext") && seen.number() == 0 && seen.case.block.contains(&b'[')),
     ("15 past the header", |seen| seen.number() == 15 && seen.words[1] > 30),
     ("15 at the end", |seen| seen.number() == 15 && seen.words[1] == seen.case.block.len() as u64),
+];
+
+/// The sorts of conversions: number, place, size.
+const CONVERTS: [Sort; 4] = [
+    ("halt converted", |seen| seen.converted(Form::Halt)),
+    ("sustain converted", |seen| seen.converted(Form::Sustain)),
+    ("await converted", |seen| seen.converted(Form::Await)),
+    ("abort converted", |seen| seen.converted(Form::Abort)),
 ];
 
 /// Whether a fetch or a withdrawal is of this entry.
@@ -250,6 +258,13 @@ impl<'a> Seen<'a> {
         self.ran() && self.block.as_ref().map_or(false, what)
     }
 
+    /// Whether a block with such a statement was converted.
+    fn converted(&self, form: Form) -> bool {
+        let block = decode_edition(&self.case.block, 2, Fault::None).ok();
+        let has = |block: Block| block.root.tokens().iter().any(|token| token.0 == form);
+        self.is("convert") && self.number() == 0 && block.map_or(false, has)
+    }
+
     /// Whether such a block was doubled.
     fn doubled(&self, such: fn(&Block) -> bool) -> bool {
         self.is("copies") && self.number() == 0 && self.block.as_ref().map_or(false, such)
@@ -301,7 +316,7 @@ fn possible(call: &str, number: usize) -> bool {
         "reason" => number <= 11 || number == 16 || number == 17,
         "maze" => number <= 8 || number == 11 || number == 26,
         "readtext" => [0, 4, 5, 8, 12, 15].contains(&number),
-        "writetext" | "copies" => number <= 8 || number == 12,
+        "writetext" | "copies" | "convert" => number <= 8 || number == 12,
         "alike" => number <= 8 || number == 12 || (23..=25).contains(&number),
         "install" => number <= 8 || (18..=21).contains(&number),
         "fetch" | "withdraw" => [0, 18, 19, 22].contains(&number),
@@ -321,7 +336,7 @@ fn numbered(call: &str, number: usize) -> String {
 pub fn sorts(case: &Case) -> Vec<String> {
     let seen = Seen::new(case);
     let mut sorts = vec![numbered(case.name(), seen.number())];
-    let named = SORTS.iter().chain(&HEARD).chain(&WHY).chain(&SHELVES).chain(&MAZES).chain(&ALIKE).chain(&COPIES).chain(&TEXTS);
+    let named = SORTS.iter().chain(&HEARD).chain(&WHY).chain(&SHELVES).chain(&MAZES).chain(&ALIKE).chain(&COPIES).chain(&TEXTS).chain(&CONVERTS);
     sorts.extend(named.filter(|sort| (sort.1)(&seen)).map(|sort| sort.0.to_string()));
     sorts
 }
@@ -337,6 +352,7 @@ fn named_sorts(families: &[Family]) -> Vec<&'static str> {
         Family::Alike => &ALIKE[..],
         Family::Copies => &COPIES[..],
         Family::Text => &TEXTS[..],
+        Family::Convert => &CONVERTS[..],
     };
     families.iter().flat_map(of).map(|sort| sort.0).collect()
 }

@@ -1,7 +1,7 @@
 //! Families of calls: those of the statement, and those that a later request added. Each has cases, sorts and faults of its own.
 
 use crate::cases::{Call, Case};
-use crate::fault::{Fault, ALIKE, CHECKS, COPIES, HEARD, LENT, MAZES, RULES, SHELVES, TEXTS, WHY};
+use crate::fault::{Fault, ALIKE, CHECKS, CONVERTS, COPIES, HEARD, LENT, MAZES, RULES, SHELVES, TEXTS, WHY};
 
 #[derive(Clone, Copy, PartialEq, Eq, Debug)]
 pub enum Family {
@@ -21,10 +21,13 @@ pub enum Family {
     Copies,
     /// Blocks as text.
     Text,
+    /// Edition 2 converted.
+    Convert,
 }
 
-pub const FAMILIES: [Family; 8] =
-    [Family::Base, Family::Heard, Family::Why, Family::Shelf, Family::Maze, Family::Alike, Family::Copies, Family::Text];
+pub const FAMILIES: [Family; 9] = [
+    Family::Base, Family::Heard, Family::Why, Family::Shelf, Family::Maze, Family::Alike, Family::Copies, Family::Text, Family::Convert,
+];
 
 impl Family {
     /// The family that a word names.
@@ -42,6 +45,7 @@ impl Family {
             Family::Alike => "alike",
             Family::Copies => "copies",
             Family::Text => "text",
+            Family::Convert => "convert",
         }
     }
 
@@ -55,6 +59,7 @@ impl Family {
             Family::Alike => &["alike"],
             Family::Copies => &["copies"],
             Family::Text => &["readtext", "writetext"],
+            Family::Convert => &["convert"],
         }
     }
 
@@ -66,7 +71,7 @@ impl Family {
             Family::Why => 8000,
             Family::Shelf => 1600,
             Family::Maze => 4000,
-            Family::Alike | Family::Copies => 2000,
+            Family::Alike | Family::Copies | Family::Convert => 2000,
             Family::Text => 8000,
         }
     }
@@ -82,6 +87,7 @@ impl Family {
             Family::Alike => ALIKE.to_vec(),
             Family::Copies => COPIES.to_vec(),
             Family::Text => TEXTS.to_vec(),
+            Family::Convert => CONVERTS.to_vec(),
         }
     }
 
@@ -93,6 +99,7 @@ impl Family {
             Call::Maze { .. } => Family::Maze,
             Call::Alike { .. } => Family::Alike,
             Call::Copies { .. } => Family::Copies,
+            Call::Convert { .. } => Family::Convert,
             Call::ReadText { .. } | Call::WriteText { .. } => Family::Text,
             _ => Family::Base,
         }

@@ -309,6 +309,33 @@ faults! {
         FirstWithoutBrackets: "a first part that is a sequence is written without brackets",
         NeedlessBrackets: "a second part that is a sequence is written with brackets",
     }
+    CONVERTS {
+        SustainOfInput: "an input may be sustained",
+        AwaitOfInputRefused: "an input may not be awaited",
+        StopsAsPauses: "halt, sustain and await count as pauses of the input",
+        AbortAsTrap: "an abort counts as a trap for depths",
+        DepthKept: "exits that leave an abort keep their depth",
+        DepthAlwaysRaised: "exits within an abort's own traps go deeper too",
+        DepthRaisedOnce: "an exit that leaves several aborts goes one deeper only",
+        EditionKept: "the result says edition 2",
+        WatchFirst: "the watching loop stands first",
+        WatchTestsFirst: "a watch tests before it pauses",
+        SustainPausesFirst: "sustain pauses before it emits",
+        EitherEdition: "edition 1 is taken as well",
+        ConvertLimitPlace: "the place of a passed limit is told",
+        ConvertRoomFirst: "ROOM is tested before the limits of the result",
+        ConvertRoomLow: "one byte less is enough for the result",
+        ConvertRoomHigh: "one byte more is asked for the result",
+    }
+    DIRECT {
+        AbortCanWithoutOne: "a resumed abort of an unknown signal can give 0 besides, and not 1",
+        AbortCanWithoutZero: "a resumed abort of an unknown signal can give 1 besides, and not 0",
+        AbortKeepsMark: "a resumed abort of an unknown signal keeps its mark",
+        AbortTestsAtStart: "abort tests its signal when it starts",
+        AwaitTestsAtStart: "await tests its signal when it starts",
+        AbortHolds: "a resumed abort of a present signal holds its body",
+        AwaitNeverEnds: "await goes on waiting where its signal is unknown",
+    }
     REACHED {
         StuckArmHidesOther: "a parallel's second arm is not reached while the first has no code",
     }

@@ -373,6 +373,7 @@ impl Speller {
                 self.spell(0, chance);
             }
             Form::Trap | Form::Local => self.spell_scope(form, chance),
+            Form::Halt | Form::Sustain | Form::Await | Form::Abort => unreachable!("a statement of edition 2"),
         }
     }
 

@@ -28,11 +28,11 @@ fn codes(p: &Statement, fault: Fault, absent: u128) -> u32 {
     let part = |n: usize| codes(&p.parts[n], fault, absent);
     match p.form {
         Form::Nothing | Form::Emit => 1,
-        Form::Pause => 2,
+        Form::Pause | Form::Halt | Form::Sustain | Form::Await => 2,
         Form::Exit => 1 << exit_code(Depth(p.operand)),
         Form::Present if absent >> p.operand & 1 == 1 => part(1),
         Form::Present => part(0) | part(1),
-        Form::Suspend => part(0),
+        Form::Suspend | Form::Abort => part(0),
         Form::Sequence => match part(0) {
             first if first & 1 == 1 => first & !1 | part(1),
             first => first,

@@ -13,6 +13,8 @@ mod circuit;
 mod circuits;
 mod codes;
 mod coherence;
+mod convert;
+mod converts;
 mod counts;
 mod double;
 mod doubles;
@@ -81,6 +83,7 @@ const USAGE: &str = "subcommands:
   alike [SIZE N SEED]  two blocks beside classes of states: all pairs up to SIZE statements (4), N random ones (3000, seed 1)
   copies [SIZE N SEED]  blocks beside doubled ones: all with a loop up to SIZE statements (6), N random ones (2000, seed 1)
   text [MORE N SEED]  every text of up to MORE tokens (5) after the header, and N random blocks (2000, seed 1) read back
+  convert [SIZE N SEED]  edition 2 beside its conversion: all up to SIZE statements (5), N random ones (3000, seed 1)
   bite [CASES]      a case for each fault
   run FOLDER        the run program
   cases [CASES]     lines of calls with their complete answers
@@ -95,8 +98,8 @@ const USAGE: &str = "subcommands:
   antt-bite SEED    the smallest row for each wrong rule
   selftest          all of these that can fail
 CASES are [FAMILY] N SEED.. (seeds 1 2 3 4) or a file of calls; families are base (20000 cases), heard
-and why (8000 each), shelf (1600), maze (4000), alike and copies
-(2000 each) and text (8000)";
+and why (8000 each), shelf (1600), maze (4000), alike, copies
+and convert (2000 each) and text (8000)";
 
 fn main() {
     let words: Vec<String> = env::args().skip(1).collect();
@@ -125,6 +128,7 @@ fn main() {
         Some("alike") => alikes::print_alike(number(1, 4) as usize, number(2, 3000) as usize, number(3, 1)),
         Some("copies") => doubles::print_copies(number(1, 6) as usize, number(2, 2000) as usize, number(3, 1)),
         Some("text") => kernels::print_text(number(1, 5) as usize, number(2, 2000) as usize, number(3, 1)),
+        Some("convert") => converts::print_convert(number(1, 5) as usize, number(2, 3000) as usize, number(3, 1)),
         Some("older") => older::print_older(number(1, 40_000) as usize, number(2, 1)),
         Some("older-smallest") => older::print_smallest(number(1, 1)),
         Some("circuits") => circuits::print_circuits(5, number(1, 4000) as usize, number(2, 1)),

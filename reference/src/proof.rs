@@ -159,6 +159,7 @@ fn words(form: Form, number: usize) -> [String; 3] {
         Form::Trap => ("trap ".to_string(), "", String::new()),
         Form::Exit => (format!("exit (depth {number})"), "", String::new()),
         Form::Local => (format!("local {number} "), "", String::new()),
+        Form::Halt | Form::Sustain | Form::Await | Form::Abort => unreachable!("a statement of edition 2"),
     };
     [before, between.to_string(), after]
 }

@@ -129,6 +129,7 @@ impl Rules {
         match p.form {
             // A started pause keeps itself.
             Form::Pause if run == Run::Started || self.planted(Fault::ResumedPauseStays) => pause_bit(p.first_pause),
+            Form::Halt | Form::Sustain | Form::Await => pause_bit(p.first_pause),
             // A suspended body keeps its old set.
             Form::Suspend if self.suspend_status(p, run, e) == Status::Present => match run {
                 Run::Resumed(active) if !self.planted(Fault::SuspendedForgets) => active & p.pauses,

@@ -163,12 +163,12 @@ impl<'a> Reaching<'a> {
             self.found.twice.insert(p.number);
         }
         match p.form {
-            Form::Nothing | Form::Pause | Form::Emit | Form::Exit => {}
+            Form::Nothing | Form::Pause | Form::Emit | Form::Exit | Form::Halt | Form::Sustain | Form::Await => {}
             Form::Present => self.reach_present(p, run, e),
             Form::Suspend => self.reach_suspend(p, run, e),
             Form::Sequence | Form::Loop => self.reach_stages(p, run, e),
             Form::Parallel => self.reach_parallel(p, run, e),
-            Form::Trap => body.into_iter().for_each(|body| self.reach((body, run), e)),
+            Form::Trap | Form::Abort => body.into_iter().for_each(|body| self.reach((body, run), e)),
             Form::Local => {
                 // The body with the status that must settles for it in this run.
                 let settled = self.fault != Fault::LocalLeftUnknown;

@@ -24,6 +24,10 @@ impl Rules {
             Form::Pause => Must::code(self.pause_code(run)),
             Form::Emit => Must { signals: signal_bit(p.operand), code: Some(0) },
             Form::Exit => Must::code(self.exit_code(p)),
+            Form::Halt => Must::code(1),
+            Form::Sustain => Must { signals: signal_bit(p.operand), code: Some(1) },
+            Form::Await => self.must_await(p, run, e),
+            Form::Abort => self.must_abort(p, run, e),
             Form::Present => self.must_present(p, run, e),
             Form::Suspend => self.must_suspend(p, run, e),
             Form::Sequence | Form::Loop => self.must_stages(p, run, e),
@@ -50,6 +54,10 @@ impl Rules {
             Form::Pause => Can::code(self.pause_code(run)),
             Form::Emit => Can { signals: signal_bit(p.operand), codes: 1 },
             Form::Exit => Can::code(self.exit_code(p)),
+            Form::Halt => Can::code(1),
+            Form::Sustain => Can { signals: signal_bit(p.operand), codes: 2 },
+            Form::Await => self.can_await(p, run, e),
+            Form::Abort => self.can_abort(p, run, mark, e),
             Form::Present => self.can_present(p, run, mark, e),
             Form::Suspend => self.can_suspend(p, run, mark, e),
             Form::Sequence | Form::Loop => self.can_stages(p, run, mark, e),
@@ -171,6 +179,56 @@ impl Rules {
                 note(Met::UnknownSuspend);
                 let mark = if self.planted(Fault::UnknownSuspendKeepsMark) { mark } else { Mark::Open };
                 self.can(body, mark, e).union(Can::code(1))
+            }
+        }
+    }
+
+    /// The status that decides an await or an abort; started, neither looks at its signal.
+    fn waits_for(&self, p: &Statement, run: Run, e: Event, early: Fault) -> Status {
+        let started = run == Run::Started && !self.planted(early);
+        if started { Status::Absent } else { e.status(p.operand) }
+    }
+
+    /// Resumed: present gives 0, absent 1; unknown, must is empty.
+    fn must_await(&self, p: &Statement, run: Run, e: Event) -> Must {
+        match self.waits_for(p, run, e, Fault::AwaitTestsAtStart) {
+            Status::Present => Must::code(0),
+            Status::Absent => Must::code(1),
+            Status::Unknown => Must::nothing_known(),
+        }
+    }
+
+    fn can_await(&self, p: &Statement, run: Run, e: Event) -> Can {
+        match self.waits_for(p, run, e, Fault::AwaitTestsAtStart) {
+            Status::Present => Can::code(0),
+            Status::Unknown if !self.planted(Fault::AwaitNeverEnds) => Can::code(0).union(Can::code(1)),
+            _ => Can::code(1),
+        }
+    }
+
+    /// Resumed: present gives code 0 and no signal; absent, the body; unknown, must is empty.
+    fn must_abort(&self, p: &Statement, run: Run, e: Event) -> Must {
+        match self.waits_for(p, run, e, Fault::AbortTestsAtStart) {
+            Status::Present => Must::code(self.planted(Fault::AbortHolds) as u32),
+            Status::Absent => self.must((&p.parts[0], run), e),
+            Status::Unknown => Must::nothing_known(),
+        }
+    }
+
+    /// Unknown: can is the body's under open mark, and the codes 0 and 1 besides.
+    fn can_abort(&self, p: &Statement, run: Run, mark: Mark, e: Event) -> Can {
+        let body = (&p.parts[0], run);
+        match self.waits_for(p, run, e, Fault::AbortTestsAtStart) {
+            Status::Present => Can::code(self.planted(Fault::AbortHolds) as u32),
+            Status::Absent => self.can(body, mark, e),
+            Status::Unknown => {
+                let mark = if self.planted(Fault::AbortKeepsMark) { mark } else { Mark::Open };
+                let besides = match self.fault {
+                    Fault::AbortCanWithoutOne => 1,
+                    Fault::AbortCanWithoutZero => 2,
+                    _ => 3,
+                };
+                self.can(body, mark, e).union(Can { signals: 0, codes: besides })
             }
         }
     }

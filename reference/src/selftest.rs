@@ -8,6 +8,7 @@ use crate::cases::{cases, family_edges, Case};
 use crate::chance::Chance;
 use crate::circuits::print_circuits;
 use crate::counts::print_counts;
+use crate::converts::print_convert;
 use crate::doubles::print_copies;
 use crate::edges::edge_blocks;
 use crate::family::{Family, FAMILIES};
@@ -26,7 +27,7 @@ use crate::why::print_why;
 use crate::worked::print_worked;
 
 /// Worked cases, edges, coherence, orders of settling and circuits over all small and some random blocks, the older rule,
-/// states lent to other blocks, inputs not heard, reasons, shelves, mazes, two blocks compared, loop bodies doubled, texts, and the faults.
+/// states lent to other blocks, inputs not heard, reasons, shelves, mazes, two blocks compared, loop bodies doubled, texts, edition 2, and the faults.
 pub fn selftest() -> bool {
     let worked = print_worked();
     let edges = print_edges();
@@ -43,8 +44,9 @@ pub fn selftest() -> bool {
     let alike = print_alike(3, 3000, 1);
     let copies = print_copies(5, 2000, 1);
     let text = print_text(4, 1000, 1);
+    let convert = print_convert(4, 3000, 1);
     let all = FAMILIES.iter().filter(|&&family| !print_family(family)).count() == 0;
-    worked && edges && coherent && random && orders && older && circuits && states && heard && why && shelf && maze && alike && copies && text && all
+    worked && edges && coherent && random && orders && older && circuits && states && heard && why && shelf && maze && alike && copies && text && convert && all
 }
 
 /// The cases of a family: kept as bytes, of every sort, and such that they tell every fault.

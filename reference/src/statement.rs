@@ -3,7 +3,7 @@
 /// A statement without its children: form and operand. A block is a list of them in preorder.
 pub type Token = (Form, u16);
 
-/// The eleven statements, in the order of their kind numbers from 16 on.
+/// The eleven statements, in the order of their kind numbers from 16 on, and the four of edition 2, from 32 on.
 #[derive(Clone, Copy, PartialEq, Eq, Debug, Hash)]
 pub enum Form {
     Nothing,
@@ -17,7 +17,14 @@ pub enum Form {
     Trap,
     Exit,
     Local,
+    Halt,
+    Sustain,
+    Await,
+    Abort,
 }
+
+/// Those that edition 2 adds.
+pub const EVERYDAY: [Form; 4] = [Form::Halt, Form::Sustain, Form::Await, Form::Abort];
 
 pub const FORMS: [Form; 11] = [
     Form::Nothing,
@@ -41,13 +48,30 @@ impl Form {
         }
     }
 
+    /// The form of a kind in edition 2.
+    pub fn of_wide_kind(kind: u16) -> Option<Form> {
+        match kind {
+            32..=35 => Some(EVERYDAY[kind as usize - 32]),
+            _ => Form::of_kind(kind),
+        }
+    }
+
     pub fn kind(self) -> u16 {
-        16 + self as u16
+        let number = self as u16;
+        if EVERYDAY.contains(&self) { number - Form::Halt as u16 + 32 } else { number + 16 }
     }
 
     /// Whether the operand, if there is one, is a signal.
     pub fn names_signal(self) -> bool {
-        matches!(self, Form::Emit | Form::Present | Form::Suspend | Form::Local)
+        matches!(
+            self,
+            Form::Emit | Form::Present | Form::Suspend | Form::Local | Form::Sustain | Form::Await | Form::Abort
+        )
+    }
+
+    /// Whether a run may stop at it: a pause, and in edition 2 what waits.
+    pub fn stops(self) -> bool {
+        matches!(self, Form::Pause | Form::Halt | Form::Sustain | Form::Await)
     }
 
     pub fn has_operand(self) -> bool {
@@ -61,8 +85,8 @@ impl Form {
     /// The number of children.
     pub fn parts(self) -> usize {
         match self {
-            Form::Nothing | Form::Pause | Form::Emit | Form::Exit => 0,
-            Form::Suspend | Form::Loop | Form::Trap | Form::Local => 1,
+            Form::Nothing | Form::Pause | Form::Emit | Form::Exit | Form::Halt | Form::Sustain | Form::Await => 0,
+            Form::Suspend | Form::Loop | Form::Trap | Form::Local | Form::Abort => 1,
             Form::Present | Form::Sequence | Form::Parallel => 2,
         }
     }
@@ -79,7 +103,7 @@ pub struct Statement {
     /// Its bytes in the block, with all below it.
     pub offset: usize,
     pub end: usize,
-    /// The number of the first pause at or after it in preorder; a pause's own number.
+    /// The number of the first pause (in edition 2, of the first stop) at or after it in preorder; a pause's own number.
     pub first_pause: usize,
     /// One bit for each pause in it.
     pub pauses: u128,

@@ -2,7 +2,7 @@
 
 use crate::block::{Form, Token};
 
-const WORDS: [(Form, &str); 11] = [
+const WORDS: [(Form, &str); 15] = [
     (Form::Nothing, "nothing"),
     (Form::Pause, "pause"),
     (Form::Emit, "emit"),
@@ -14,6 +14,10 @@ const WORDS: [(Form, &str); 11] = [
     (Form::Trap, "trap"),
     (Form::Exit, "exit"),
     (Form::Local, "local"),
+    (Form::Halt, "halt"),
+    (Form::Sustain, "sustain"),
+    (Form::Await, "await"),
+    (Form::Abort, "abort"),
 ];
 
 /// Writes the statements of a block in preorder as one expression; pauses show their numbers.
