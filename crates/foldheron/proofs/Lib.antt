@@ -1,2 +1,3 @@
 pub mod Owed
 pub mod Calls
+pub mod Reasons

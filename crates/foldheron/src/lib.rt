@@ -1,5 +1,7 @@
-// What users call: the check of a block, a fresh state for it, one instant, one with a log record, an excerpt of a block, and the calls on a
-// shelf of blocks: install, fetch and withdraw.
+// What users call: the check of a block, a fresh state for it, one instant, one with a log record, an excerpt of a block, the reason of an
+// instant, and the calls on a shelf of blocks: install, fetch and withdraw.
+pub mod say_why;
+
 pub use block::kinds::Code;
 use block::kinds::wide;
 pub use block::whole::Checked;
@@ -9,8 +11,11 @@ use block::whole::read_block;
 pub use reaction::Doubt;
 use reaction::Given;
 pub use reaction::Instant;
+use reaction::Met;
 pub use reaction::Reaction;
 use reaction::comes_to;
+use reaction::tests::front;
+pub use reasons::asked::Asked;
 use records::log::no_room;
 use records::log::write_at_end;
 use records::parts::cut;
@@ -18,10 +23,13 @@ use records::state::write_next;
 use records::state::write_state;
 pub use refusals::Why;
 pub use refusals::number_of;
+pub use say_why::Reason;
+use say_why::of_named;
 pub use shelf::Shelved;
 pub use shelf::fetch;
 pub use shelf::install;
 pub use shelf::withdraw;
+use words::events::Heard;
 ghost use mathlib.Core.Path.{_≡_};
 ghost use mathlib.Core.Bool.{false};
 ghost use Prim.Native.Nat.{_+_, _≤_, _<_};
@@ -31,6 +39,8 @@ ghost use Rattle.records.specs.LogRecord.{no-room};
 ghost use Rattle.reaction.specs.declared.Given.the-variants.{All, Two};
 ghost use Rattle.reaction.specs.Instants.{told, state-after, log-after, end-after, verdict, instant-verdict, logged-verdict, heard-verdict, heard-logged-verdict};
 ghost use Rattle.reaction.specs.Answers.{instant-told};
+ghost use Rattle.reasons.specs.Taking.{asked-of};
+ghost use Rattle.foldheron.specs.Reasons.{reason-values, reason-owed};
 ghost use Rattle.foldheron.specs.Answers.{check-values, check-owed, begun-values, begun-owed, state-owed, absent-part, part-owed, part-lies};
 
 // A fresh state was written, or why it was not and where.
@@ -239,4 +249,36 @@ pub fn instant_heard_logged(
     ensures { λ _. ⌜ now (log .exit) ≡ log-after (now (log .entry)) end (Two present absent) (heard-logged-verdict (now (block .entry)) (now (state .entry)) present absent (now (log .entry)) end) ⌝ }
 {
     run_logged(block, state, Given::Two(present, absent), log, end)
+}
+
+// Says why, of the instant with these inputs present and those absent, the rest being unknown: numbers 1 to 8, then 9, 17, 10 with the pair, 11, and 16
+// where the thing asked about is not so. Nothing is run, and nothing lent is written.
+pub fn reason(block: &[u8], state: &[u8], present: u64, absent: u64, asked: Asked) -> Reason
+    ensures { λ r. ⌜ reason-values r ≡ reason-owed (now (block .entry)) (now (state .entry)) present absent (asked-of asked) ⌝ }
+{
+    let mut kinds = [0u16; 512];
+    let mut operands = [0u16; 512];
+    let mut sizes = [0u16; 512];
+    let given = Given::Two(present, absent);
+    let grounds = front(block, state, given, &mut kinds, &mut operands, &mut sizes);
+    let met = grounds.met;
+    let set = grounds.active;
+    match met {
+        Met::Refused(why, place) => Reason::Refused(why, place),
+        Met::Clash(m, n) => Reason::Clash(m, n),
+        Met::Ready(s, phase) => {
+            let heard = Heard { present, absent };
+            of_named(reasons::asked::reason(
+                &kinds,
+                &operands,
+                &sizes,
+                phase,
+                set,
+                s.inputs,
+                s.outputs,
+                heard,
+                asked,
+            ))
+        }
+    }
 }

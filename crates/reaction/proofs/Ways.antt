@@ -45,6 +45,10 @@ refused-comes : (given : Given) (n at : ℕ) {w : Why} {o : Outcome} → o .answ
 unfolding instant-told told Writes Hears case-of case-for
 refused-comes given n at e d = record { same-case = ap case-of e; told-is = ap instant-told e ∙ ap (λ (m : ℕ). told-refusal m at 0 0) d; writes = tt; hears = tt }
 
+clash-comes : (given : Given) (k n : ℕ) {o : Outcome} → o .answer ≡ Clash k n → Comes given (clash (record { first = k; second = n })) o
+unfolding instant-told told Writes Hears case-of case-for
+clash-comes given k n e = record { same-case = ap case-of e; told-is = ap instant-told e; writes = tt; hears = tt }
+
 -- a set of signals as a word
 signals-word : (A : Numbers) (w : ℕ) → bits w ≡ A → w < 2 ^ 64 → w ≡ word 64 A
 signals-word A w e h = is-word 64 (record { bit = λ n. ap (λ (f : Numbers). f n) e }) h
@@ -178,37 +182,34 @@ module _ {tab : Table} {s : Summary} {g : Good} (o : Opened tab s g) (st : State
 
 -- what the code found before the rules says what the tests came to
 module _ (tab : Table) (r : Grounds) where
-  stopped-goes : (given : Given) (roomless : Bool) (x : Front) {out : Outcome} → Means x tab r → (why : Why) (at : ℕ) → r .met ≡ met.Refused why at → out .answer ≡ Refused why at
-      → Comes given (goes-on given roomless x) out
-  unfolding Means goes-on
-  stopped-goes given roomless (stopped n i) m why at e a =
+  pub stopped-in : (x : Front) → Means x tab r → (why : Why) (at : ℕ) → r .met ≡ met.Refused why at → x ≡ stopped (number why) at
+  unfolding Means
+  stopped-in (stopped n i) m why at e =
       let z : _≡_ {A = Met} (met.Refused (m .why) i) (met.Refused why at) = sym (m .is-refused) ∙ e in
       let p : m .why ≡ why = cc in
       let q : i ≡ at = cc in
-      refused-comes given n i (a ∙ sym (ap₂ Refused p q)) (m .its-number)
-  stopped-goes given roomless (clashing pair) m why at e a =
+      ap₂ stopped (sym (m .its-number) ∙ ap number p) q
+  stopped-in (clashing pair) m why at e =
       let z : _≡_ {A = Met} (met.Clash (pair .first) (pair .second)) (met.Refused why at) = sym m ∙ e in
       let q : _≡_ {A = ℕ} 0 1 = cc in
       absurd (omega arith)
-  stopped-goes given roomless (ready g st) m why at e a =
+  stopped-in (ready g st) m why at e =
       let z : _≡_ {A = Met} (met.Ready (m .summary) (m .phase)) (met.Refused why at) = sym (m .is-ready) ∙ e in
       let q : _≡_ {A = ℕ} 0 1 = cc in
       absurd (omega arith)
 
-  clash-goes : (given : Given) (roomless : Bool) (x : Front) {out : Outcome} → Means x tab r → (k n : ℕ) → r .met ≡ met.Clash k n → out .answer ≡ Clash k n
-      → Comes given (goes-on given roomless x) out
-  unfolding Means goes-on instant-told told Writes Hears case-of case-for
-  clash-goes given roomless (stopped i at) m k n e a =
+  pub clash-in : (x : Front) → Means x tab r → (k n : ℕ) → r .met ≡ met.Clash k n → x ≡ clashing (record { first = k; second = n })
+  unfolding Means
+  clash-in (stopped i at) m k n e =
       let z : _≡_ {A = Met} (met.Refused (m .why) at) (met.Clash k n) = sym (m .is-refused) ∙ e in
       let q : _≡_ {A = ℕ} 0 1 = cc in
       absurd (omega arith)
-  clash-goes given roomless (clashing pair) m k n e a =
+  clash-in (clashing pair) m k n e =
       let z : _≡_ {A = Met} (met.Clash (pair .first) (pair .second)) (met.Clash k n) = sym m ∙ e in
       let p : pair .first ≡ k = cc in
       let q : pair .second ≡ n = cc in
-      let b = a ∙ sym (ap₂ Clash p q) in
-      record { same-case = ap case-of b; told-is = ap instant-told b; writes = tt; hears = tt }
-  clash-goes given roomless (ready g st) m k n e a =
+      λ i. clashing (record { first = p i; second = q i })
+  clash-in (ready g st) m k n e =
       let z : _≡_ {A = Met} (met.Ready (m .summary) (m .phase)) (met.Clash k n) = sym (m .is-ready) ∙ e in
       let q : _≡_ {A = ℕ} 0 1 = cc in
       absurd (omega arith)
@@ -248,12 +249,15 @@ gone-in {tab} {r} {x} m {s} {phase} e = going tab r x (m .means) s phase e
 
 module _ {tab : Table} {r : Grounds} (b s : List ℕ) (given : Given) (roomless : Bool) {out : Outcome} (m : Meets (front b s given) tab r) where
   pub stopped-way : (why : Why) (at : ℕ) → r .met ≡ met.Refused why at → out .answer ≡ Refused why at → Comes given (verdict b s given roomless) out
-  unfolding verdict
-  stopped-way why at e a = stopped-goes tab r given roomless (front b s given) (m .means) why at e a
+  unfolding verdict goes-on
+  stopped-way why at e a =
+      subst (λ (x : Front). Comes given (goes-on given roomless x) out) (sym (stopped-in tab r (front b s given) (m .means) why at e))
+      (refused-comes given (number why) at a refl)
 
   pub clash-way : (k n : ℕ) → r .met ≡ met.Clash k n → out .answer ≡ Clash k n → Comes given (verdict b s given roomless) out
-  unfolding verdict
-  clash-way k n e a = clash-goes tab r given roomless (front b s given) (m .means) k n e a
+  unfolding verdict goes-on
+  clash-way k n e a =
+      subst (λ (x : Front). Comes given (goes-on given roomless x) out) (sym (clash-in tab r (front b s given) (m .means) k n e)) (clash-comes given k n a)
 
   pub ready-way : {g : Good} {st : State} → front b s given ≡ ready g st → Comes given (goes-on given roomless (ready g st)) out → Comes given (verdict b s given roomless) out
   unfolding verdict
