@@ -44,7 +44,7 @@ extern "C" {
 #define FOLDHERON_VERSION "2.0.0"
 
 /* The numbers of refusals, the first that applies in this order. 1 to 8, the block: every call that takes one (an install after 18 and 19); 9, the state: fresh and the instants; 17, then 10,
- * 11 and 13: the instants; 12: those with a log, before 13; 14: an excerpt. 64, the answer's bytes, comes before all of them. */
+ * 11 and 13: the instants; 12: those with a log, before 13; 14: an excerpt; 16: a reason, after an instant's 1 to 11. 64, the answer's bytes, comes before all of them. */
 #define FOLDHERON_GOOD 0
 #define FOLDHERON_BROKEN 1           /* a record is cut off, or has a length below 4 */
 #define FOLDHERON_KIND 2             /* a kind that is not allowed here, or not that kind's length */
@@ -155,6 +155,23 @@ uint16_t foldheron_instant_heard_logged(const uint8_t *block, size_t block_size,
 #define FOLDHERON_AT_COUNT 24
 uint16_t foldheron_excerpt(const uint8_t *block, size_t block_size, size_t n, uint8_t *answer, size_t answer_size);
 
+/* Says why: names a statement that accounts for an instant. Nothing is run and no lent byte but the answer's is written: state, present and absent are those of
+ * the instant that is asked about, as foldheron_instant_heard takes them. What is asked, and what about is:
+ *   WHY_REFUSED        why the instant is refused with 13; about is not looked at. Named is the lowest present started, or suspend resumed, that must be
+ *                      reached in the final round with its signal undecided there, an input not heard being undecided;
+ *   WHY_PRESENT        why this output, a signal number, is present in the answered instant. Named is its lowest emit that was executed;
+ *   WHY_NOT_EXECUTED   why this emit, a statement number, was not executed in the answered instant. Named is the topmost statement on its path that was not, in a
+ *                      finished block the root.
+ * The answer, 40 bytes: number, place, the pair of a CLASH (AT_FIRST, AT_SECOND), and the statement's number, which foldheron_excerpt finds. Refusals: 1 to 8,
+ * then 9, 17, 10, 11, and 16 where the thing asked about is not so, or asked is none of the three; never 13. */
+#define FOLDHERON_REASON_SIZE 40
+#define FOLDHERON_AT_STATEMENT 32
+#define FOLDHERON_WHY_REFUSED 0
+#define FOLDHERON_WHY_PRESENT 1
+#define FOLDHERON_WHY_NOT_EXECUTED 2
+uint16_t foldheron_reason(const uint8_t *block, size_t block_size, const uint8_t *state, size_t state_size, uint64_t present,
+                          uint64_t absent, uint16_t asked, size_t about, uint8_t *answer, size_t answer_size);
+
 /* A shelf: exactly so many lent bytes, on which two parties, 0 and 1, keep blocks under names of their own, which are numbers. An empty shelf is
  * that many zeros; there is no call that makes one. Each party may hold so many bytes of entries: an entry is 8 bytes and its block. For both
  * parties together that is the whole shelf, so what either may still install always finds its room.
@@ -253,6 +270,13 @@ struct foldheron_excerpt_answer {
     size_t place, offset, count;
 };
 
+struct foldheron_reason_answer {
+    uint16_t number;
+    size_t place;
+    uint16_t first, second;
+    size_t statement;
+};
+
 struct foldheron_fetch_answer {
     uint16_t number;
     size_t place, count;
@@ -304,6 +328,17 @@ static inline struct foldheron_excerpt_answer foldheron_read_excerpt(const uint8
     a.place = (size_t)foldheron_number(answer, FOLDHERON_AT_PLACE);
     a.offset = (size_t)foldheron_number(answer, FOLDHERON_AT_OFFSET);
     a.count = (size_t)foldheron_number(answer, FOLDHERON_AT_COUNT);
+    return a;
+}
+
+static inline struct foldheron_reason_answer foldheron_read_reason(const uint8_t *answer)
+{
+    struct foldheron_reason_answer a;
+    a.number = (uint16_t)foldheron_number(answer, FOLDHERON_AT_NUMBER);
+    a.place = (size_t)foldheron_number(answer, FOLDHERON_AT_PLACE);
+    a.first = (uint16_t)foldheron_number(answer, FOLDHERON_AT_FIRST);
+    a.second = (uint16_t)foldheron_number(answer, FOLDHERON_AT_SECOND);
+    a.statement = (size_t)foldheron_number(answer, FOLDHERON_AT_STATEMENT);
     return a;
 }
 

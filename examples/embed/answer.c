@@ -8,12 +8,12 @@
 #include <stdio.h>
 #include <string.h>
 
-/* A case: which call, the bytes that are lent to it, and its numbers; other is a log's end or the number of an excerpt. Of a call on a shelf
- * inputs is the party, other the name, absent the shelf's size, and shelf_size how many of its bytes stand in the file: the rest are 0. */
+/* A case: which call, the bytes that are lent to it, and its numbers; other is a log's end, the number of an excerpt, or what a question is about,
+ * and asked which question it is. Of a call on a shelf inputs is the party, other the name, absent the shelf's size, and shelf_size how many of its bytes stand in the file: the rest are 0. */
 struct call {
     unsigned kind;
     size_t block_size, state_size, log_size, shelf_size;
-    uint64_t inputs, other, absent;
+    uint64_t inputs, other, absent, asked;
 };
 
 static uint8_t block[1 << 20], state[256], log_bytes[1 << 16], shelf[1 << 17], fetched[FOLDHERON_BLOCK_MOST], answer[FOLDHERON_LOGGED_SIZE];
@@ -42,7 +42,8 @@ static int next_call(FILE *file, struct call *call)
     call->inputs = number(head + 8, 8);
     call->other = number(head + 16, 8);
     call->absent = number(head + 24, 8);
-    call->shelf_size = call->kind >= 9 ? (size_t)number(head + 32, 8) : 0;
+    call->asked = number(head + 32, 8);
+    call->shelf_size = call->kind >= 9 ? (size_t)call->asked : 0;
     if (call->block_size > sizeof block || call->shelf_size > sizeof shelf || (call->kind >= 9 && call->absent > sizeof shelf))
         return -1;
     memset(shelf, 0, sizeof shelf);
@@ -146,6 +147,15 @@ static void answer_heard_logged(const struct call *call)
     put_bytes(log_bytes, call->log_size);
 }
 
+static void answer_reason(const struct call *call)
+{
+    static const size_t at_reason[] = {FOLDHERON_AT_NUMBER, FOLDHERON_AT_PLACE, FOLDHERON_AT_FIRST, FOLDHERON_AT_SECOND, FOLDHERON_AT_STATEMENT};
+    unsigned given = foldheron_reason(block, call->block_size, state, call->state_size, call->inputs, call->absent, (uint16_t)call->asked,
+                                      (size_t)call->other, answer, FOLDHERON_REASON_SIZE);
+    printf("reason");
+    put_numbers(given, at_reason, 5);
+}
+
 static void answer_install(const struct call *call)
 {
     unsigned given = foldheron_install(shelf, (size_t)call->absent, (uint16_t)call->inputs, (uint16_t)call->other, block, call->block_size, answer,
@@ -172,11 +182,10 @@ static void answer_withdraw(const struct call *call)
     put_shelf((size_t)call->absent);
 }
 
-/* Call 8 is none of the library's. */
 int main(int argc, char **argv)
 {
     static void (*const answers[])(const struct call *) = {answer_check, answer_fresh, answer_instant, answer_logged, answer_excerpt,
-                                                             answer_heard, answer_heard_logged, NULL, answer_install, answer_fetch,
+                                                             answer_heard, answer_heard_logged, answer_reason, answer_install, answer_fetch,
                                                              answer_withdraw};
     struct call call;
     int more = -1;
@@ -189,7 +198,7 @@ int main(int argc, char **argv)
         fprintf(stderr, "answer: %s: %s\n", argv[1], strerror(errno));
         return 1;
     }
-    while ((more = next_call(file, &call)) == 1 && call.kind >= 1 && call.kind <= 11 && call.kind != 8) {
+    while ((more = next_call(file, &call)) == 1 && call.kind >= 1 && call.kind <= 11) {
         memset(answer, 0xA5, sizeof answer);
         answers[call.kind - 1](&call);
         putchar('\n');

@@ -71,7 +71,8 @@ static void try_layout(void)
     EXPECT(FOLDHERON_CHECK_SIZE == 64 && FOLDHERON_FRESH_SIZE == 16 && FOLDHERON_INSTANT_SIZE == 80 && FOLDHERON_EXCERPT_SIZE == 32);
     EXPECT(FOLDHERON_BLOCK_MOST == 3086 && FOLDHERON_STATE_SIZE == 26 && FOLDHERON_RECORD_SIZE == 32);
     EXPECT(FOLDHERON_INSTALL_SIZE == 16 && FOLDHERON_FETCH_SIZE == 24 && FOLDHERON_SHELF_SIZE == 65536 && FOLDHERON_HELD_MOST == 32768);
-    EXPECT(FOLDHERON_WITHDRAW_SIZE == 16);
+    EXPECT(FOLDHERON_WITHDRAW_SIZE == 16 && FOLDHERON_REASON_SIZE == 40 && foldheron_number(bytes, FOLDHERON_AT_STATEMENT) == 4);
+    EXPECT(FOLDHERON_WHY_REFUSED == 0 && FOLDHERON_WHY_PRESENT == 1 && FOLDHERON_WHY_NOT_EXECUTED == 2);
 }
 
 /* The structs, against an answer whose n-th number is n. */
@@ -88,6 +89,8 @@ static void try_structs(void)
     EXPECT(i.rounds == 7 && i.code == 8 && i.active == 9 && i.end == 0 && l.end == 10 && l.active == 9);
     struct foldheron_excerpt_answer e = foldheron_read_excerpt(bytes);
     EXPECT(e.number == 0 && e.place == 1 && e.offset == 2 && e.count == 3);
+    struct foldheron_reason_answer r = foldheron_read_reason(bytes);
+    EXPECT(r.number == 0 && r.place == 1 && r.first == 2 && r.second == 3 && r.statement == 4);
     struct foldheron_fetch_answer f = foldheron_read_fetch(bytes);
     EXPECT(f.number == 0 && f.place == 1 && f.count == 2);
 }
@@ -97,8 +100,10 @@ static void try_names(void)
 {
     static const char *const names[65] = {[1] = "BROKEN", [2] = "KIND", [3] = "EDITION", [4] = "LIMIT", [5] = "SIGNAL", [6] = "EXIT",
                                           [7] = "SHAPE", [8] = "LOOP", [9] = "STATE", [10] = "CLASH", [11] = "INPUT", [12] = "ROOM",
-                                          [13] = "NOT CONSTRUCTIVE", [14] = "INDEX", [17] = "OTHER BLOCK", [18] = "PARTY", [19] = "SHELF",
-                                          [20] = "TAKEN", [21] = "QUOTA", [22] = "ABSENT", [64] = "ANSWER"};
+                                          [13] = "NOT CONSTRUCTIVE", [14] = "INDEX", [15] = "TEXT", [16] = "QUESTION",
+                                          [17] = "OTHER BLOCK", [18] = "PARTY", [19] = "SHELF", [20] = "TAKEN", [21] = "QUOTA",
+                                          [22] = "ABSENT", [23] = "INTERFACE", [24] = "WIDE", [25] = "PAIRS", [26] = "FORM",
+                                          [64] = "ANSWER"};
     for (unsigned number = 0; number < 70000; number++) {
         const char *wanted = number < 65 ? names[number] : NULL, *name = foldheron_name(number);
         EXPECT(wanted == NULL ? name == NULL : name != NULL && strcmp(name, wanted) == 0);
@@ -249,6 +254,46 @@ static void try_excerpt(void)
     EXPECT(foldheron_excerpt(block, sizeof block, SIZE_MAX, a.bytes, FOLDHERON_EXCERPT_SIZE) == FOLDHERON_INDEX && told(&a, 32, none));
     a = lend();
     EXPECT(foldheron_excerpt(block, sizeof block, 1, a.bytes, 33) == FOLDHERON_ANSWER && guarded(&a, 0));
+}
+
+/* A question about an instant of the first block, from a state of this phase with this pause active: it is told these numbers, and nothing that is lent
+ * changes but the answer. */
+static int says_why(uint8_t phase, uint64_t present, uint64_t absent, uint16_t asked, size_t about, uint16_t number, size_t statement)
+{
+    uint8_t state[26] = {26, 0, 2, 0, 7, 0, 4, 0, phase, 0, phase == 1}, kept[26];
+    const uint64_t numbers[] = {number, 0, 0, 0, statement};
+    struct lent a = lend();
+    memcpy(kept, state, sizeof kept);
+    uint16_t back = foldheron_reason(block, sizeof block, state, 26, present, absent, asked, about, a.bytes, FOLDHERON_REASON_SIZE);
+    return back == number && told(&a, FOLDHERON_REASON_SIZE, numbers) && memcmp(state, kept, 26) == 0;
+}
+
+/* What can be asked of the first block, worked by hand: its statements are the suspend, 0, the sequence, 1, the pause, 2, and the emit, 3. */
+static void try_reason(void)
+{
+    EXPECT(says_why(0, 0, 0, FOLDHERON_WHY_NOT_EXECUTED, 3, 0, 3) && says_why(0, 0, 0, FOLDHERON_WHY_REFUSED, 9, FOLDHERON_QUESTION, 0));
+    EXPECT(says_why(1, 0, 0, FOLDHERON_WHY_REFUSED, SIZE_MAX, 0, 0) && says_why(1, 0, 0, FOLDHERON_WHY_NOT_EXECUTED, 3, FOLDHERON_QUESTION, 0));
+    EXPECT(says_why(1, 1, 0, FOLDHERON_WHY_NOT_EXECUTED, 3, 0, 1) && says_why(1, 1, 0, FOLDHERON_WHY_PRESENT, 1, FOLDHERON_QUESTION, 0));
+    EXPECT(says_why(1, 0, 1, FOLDHERON_WHY_PRESENT, 1, 0, 3) && says_why(1, 0, 1, FOLDHERON_WHY_NOT_EXECUTED, 3, FOLDHERON_QUESTION, 0));
+    EXPECT(says_why(2, 0, 0, FOLDHERON_WHY_NOT_EXECUTED, 3, 0, 0) && says_why(2, 0, 0, FOLDHERON_WHY_NOT_EXECUTED, 2, FOLDHERON_QUESTION, 0));
+    EXPECT(says_why(1, 0, 1, FOLDHERON_WHY_PRESENT, 65537, FOLDHERON_QUESTION, 0) && says_why(1, 0, 1, 3, 1, FOLDHERON_QUESTION, 0));
+    EXPECT(says_why(1, 0, 1, 65535, 3, FOLDHERON_QUESTION, 0) && says_why(0, 0, 0, FOLDHERON_WHY_NOT_EXECUTED, 4, FOLDHERON_QUESTION, 0));
+    EXPECT(says_why(1, 1, 1, FOLDHERON_WHY_REFUSED, 0, FOLDHERON_INPUT, 0) && says_why(1, 2, 0, 7, 0, FOLDHERON_INPUT, 0));
+    EXPECT(says_why(3, 1, 1, 7, 0, FOLDHERON_STATE, 0));
+}
+
+/* The refusals before 16, the undecided test of the cycle, and answers of another size. */
+static void try_reason_refusals(void)
+{
+    static const uint64_t pair[] = {10, 0, 0, 1, 0}, cut[] = {1, 28, 0, 0, 0}, other[] = {17, 0, 0, 0, 0}, test[] = {0, 0, 0, 0, 2};
+    uint8_t both[26] = {26, 0, 2, 0, 7, 0, 3, 0, 1, 0, 3}, fresh[26] = {26, 0, 2, 0, 1, 0, 5};
+    struct lent a = lend();
+    EXPECT(foldheron_reason(block, sizeof block, fresh, 26, 0, 0, 0, 0, a.bytes, 39) == FOLDHERON_ANSWER && guarded(&a, 0));
+    EXPECT(foldheron_reason(block, sizeof block, fresh, 26, 0, 0, 0, 0, a.bytes, 41) == FOLDHERON_ANSWER && guarded(&a, 0));
+    EXPECT(foldheron_reason(block, sizeof block - 1, fresh, 25, 9, 9, 9, 0, a.bytes, 40) == FOLDHERON_BROKEN && told(&a, 40, cut));
+    EXPECT(foldheron_reason(block, sizeof block, fresh, 26, 9, 9, 9, 0, a.bytes, 40) == FOLDHERON_OTHER_BLOCK && told(&a, 40, other));
+    EXPECT(foldheron_reason(pauses, sizeof pauses, both, 26, 9, 9, 9, 0, a.bytes, 40) == FOLDHERON_CLASH && told(&a, 40, pair));
+    EXPECT(foldheron_reason(cycle, sizeof cycle, fresh, 26, 0, 0, FOLDHERON_WHY_REFUSED, 0, a.bytes, 40) == 0 && told(&a, 40, test));
 }
 
 /* A shelf as it is, and as it should be, with a guard of 8 bytes on either side. */
@@ -459,6 +504,8 @@ int main(void)
     try_heard();
     try_heard_logged();
     try_excerpt();
+    try_reason();
+    try_reason_refusals();
     try_install();
     try_quota();
     try_no_shelf();

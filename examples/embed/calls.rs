@@ -2,7 +2,7 @@
 //! and those around it. Prints a line for each thing that is not so; ends with 0 where all is.
 
 use foldheron::{check, excerpt, fresh, instant, instant_heard, instant_heard_logged, instant_logged, name_of};
-use foldheron::{Doubt, Instant, Logged, Reaction, Refusal, Summary};
+use foldheron::{reason, Asked, Doubt, Instant, Logged, Reaction, Reason, Refusal, Summary};
 use foldheron::{fetch, install, withdraw, BLOCK_MOST, HELD_MOST, SHELF};
 use std::sync::atomic::{AtomicUsize, Ordering};
 
@@ -229,12 +229,46 @@ fn try_excerpt() {
     expect!(excerpt(&BLOCK[..33], 0) == Err(refused(1, 28)));
 }
 
+/// Every question about the first block's statements, from each phase and with I present, absent and not heard, worked by hand: the suspend is 0, the
+/// sequence 1, the pause 2, the emit 3.
+fn try_reason() {
+    let not_so = Reason::Refused(refused(16, 0));
+    let (begin, waits, ended) = (state(0, 0), state(1, 1), state(2, 0));
+    let told = [
+        (begin, 0, 0, Asked::NotExecuted(3), Reason::Statement(3)),
+        (begin, 0, 0, Asked::Refused, not_so),
+        (waits, 0, 0, Asked::Refused, Reason::Statement(0)),
+        (waits, 1, 0, Asked::NotExecuted(3), Reason::Statement(1)),
+        (waits, 0, 1, Asked::Present(1), Reason::Statement(3)),
+        (waits, 0, 1, Asked::Present(0), not_so),
+        (waits, 1, 0, Asked::Present(0), not_so),
+        (waits, 0, 1, Asked::Present(64), not_so),
+        (waits, 0, 1, Asked::Present(65_537), not_so),
+        (waits, 0, 1, Asked::NotExecuted(3), not_so),
+        (waits, 0, 0, Asked::NotExecuted(3), not_so),
+        (ended, 0, 0, Asked::NotExecuted(3), Reason::Statement(0)),
+        (ended, 0, 0, Asked::NotExecuted(2), not_so),
+        (ended, 0, 0, Asked::NotExecuted(usize::MAX), not_so),
+    ];
+    for (held, present, absent, asked, wanted) in told {
+        expect!(reason(&BLOCK, &held, present, absent, asked) == wanted);
+    }
+    expect!(reason(&CYCLE, &state_of(1, 5, 0, 0), 0, 0, Asked::Refused) == Reason::Statement(2));
+    expect!(reason(&BLOCK[..33], &waits[1..], 3, 3, Asked::Refused) == Reason::Refused(refused(1, 28)));
+    expect!(reason(&BLOCK, &waits[1..], 3, 3, Asked::Refused) == Reason::Refused(refused(9, 0)));
+    expect!(reason(&PAUSES, &state_of(8, 3, 1, 3), 1, 0, Asked::Refused) == Reason::Refused(refused(17, 0)));
+    expect!(reason(&PAUSES, &state_of(7, 3, 1, 3), 1, 0, Asked::Refused) == Reason::Clash(0, 1));
+    expect!(reason(&BLOCK, &waits, 1, 1, Asked::Present(1)) == Reason::Refused(refused(11, 0)));
+    let numbers = [Reason::Statement(7), Reason::Clash(0, 1), not_so];
+    expect!(numbers.iter().map(Reason::number).eq([0, 10, 16]));
+}
+
 /// The names in the order of document 01's table, those of later requests, and what a refusal says of itself.
 fn try_names() {
-    let names = "BROKEN,KIND,EDITION,LIMIT,SIGNAL,EXIT,SHAPE,LOOP,STATE,CLASH,INPUT,ROOM,NOT CONSTRUCTIVE,INDEX";
-    expect!((1..15).filter_map(name_of).collect::<Vec<_>>().join(",") == names);
-    expect!(name_of(17) == Some("OTHER BLOCK"));
-    expect!(name_of(0).is_none() && name_of(15).is_none() && name_of(64).is_none() && name_of(u16::MAX).is_none());
+    let names = "BROKEN,KIND,EDITION,LIMIT,SIGNAL,EXIT,SHAPE,LOOP,STATE,CLASH,INPUT,ROOM,NOT CONSTRUCTIVE,INDEX,TEXT,QUESTION,OTHER BLOCK";
+    expect!((1..18).filter_map(name_of).collect::<Vec<_>>().join(",") == names);
+    expect!((23..27).filter_map(name_of).collect::<Vec<_>>().join(",") == "INTERFACE,WIDE,PAIRS,FORM");
+    expect!(name_of(0).is_none() && name_of(27).is_none() && name_of(64).is_none() && name_of(u16::MAX).is_none());
     expect!(refused(1, 28).to_string() == "refused with 1, BROKEN, at offset 28 of the block");
     expect!(refused(9, 0).to_string() == "refused with 9, STATE");
     let numbers = [answered(0, 0, 1, 0), Instant::Clash(0, 1), Instant::Refused(refused(12, 0))];
@@ -254,6 +288,7 @@ fn main() {
     try_heard();
     try_heard_logged();
     try_excerpt();
+    try_reason();
     try_names();
     let wrong = WRONG.load(Ordering::Relaxed);
     println!("calls: {} wrong", wrong);

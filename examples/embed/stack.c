@@ -8,14 +8,16 @@
 #include <string.h>
 #include <ucontext.h>
 
-enum { DEEPEST = 64, ROOM = 1 << 17, PAINT = 0xA5, CALLS = 7, SPINES = 1500 };
+enum { DEEPEST = 64, ROOM = 1 << 17, PAINT = 0xA5, CALLS = 8, SPINES = 1500 };
 enum { PRESENT = 19, SUSPEND, SEQUENCE, LOOP, PARALLEL, TRAP, EXIT, LOCAL };
 
-static const char *const names[CALLS] = {"check", "fresh", "instant", "instant_logged", "instant_heard", "instant_heard_logged", "excerpt"};
+static const char *const names[CALLS] = {"check", "fresh", "instant", "instant_logged", "instant_heard", "instant_heard_logged", "excerpt", "reason"};
 static uint8_t block[FOLDHERON_BLOCK_MOST], state[FOLDHERON_STATE_SIZE], record[FOLDHERON_RECORD_SIZE], painted[ROOM];
 static size_t block_size, most[CALLS];
 static uint64_t inputs, absent;
 static int call, over;
+static uint16_t asked;
+static size_t about;
 static uint16_t number;
 static const uint8_t *top;
 static ucontext_t outside, inside;
@@ -90,7 +92,8 @@ static void run(void)
     case 5:
         number = foldheron_instant_heard_logged(block, block_size, state, sizeof state, inputs, absent, record, sizeof record, 0, a, sizeof a);
         break;
-    default: number = foldheron_excerpt(block, block_size, DEEPEST - 1, a, FOLDHERON_EXCERPT_SIZE);
+    case 6: number = foldheron_excerpt(block, block_size, DEEPEST - 1, a, FOLDHERON_EXCERPT_SIZE); break;
+    default: number = foldheron_reason(block, block_size, state, sizeof state, inputs, absent, asked, about, a, FOLDHERON_REASON_SIZE);
     }
 }
 
@@ -115,8 +118,17 @@ static uint16_t measure(int which)
     return number;
 }
 
-/* Every call on the block: four instants from fresh, with or without a log and with every input heard or not by chance. Answers how many were
- * answered. */
+/* The three questions about the instant that comes next: of the output, and of any statement. */
+static void ask(void)
+{
+    for (asked = 0; asked < 3; asked++) {
+        about = asked == 1 ? 2 : any(2 * DEEPEST);
+        measure(7);
+    }
+}
+
+/* Every call on the block: four instants from fresh, with or without a log and with every input heard or not by chance, each asked about before it is run.
+ * Answers how many were answered. */
 static unsigned try_block(void)
 {
     unsigned answered = 0;
@@ -127,6 +139,7 @@ static unsigned try_block(void)
     for (int n = 0; n < 4; n++) {
         inputs = n == 0 ? 2 : any(4);
         absent = any(4) & ~inputs;
+        ask();
         answered += measure(2 + (int)any(4)) == 0;
     }
     return answered;

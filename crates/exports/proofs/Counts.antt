@@ -2,6 +2,7 @@
 use mathlib.Core.Path.{_≡_, refl, sym, ap, _∙_, subst}
 use mathlib.Core.Bool.{Bool, true, false, cond, _&&_}
 use mathlib.Core.List.{List, [], _∷_}
+use mathlib.Core.Option.{Option, none, some}
 use Prim.Native.Nat.{ℕ, zero, suc, _^_, _≤_, _<_}
 use native.Mathlib.Omega.{arith}
 use native.Mathlib.Decide.{ℕ-discrete}
@@ -13,17 +14,23 @@ use mir.Val.{Fits}
 use Rattle.refusals.specs.Refusals.{number, refusals, has-number}
 use Rattle.refusals.specs.declared.Why.{Why}
 use Rattle.sets.proofs.Members.{and-left, and-right}
+use Rattle.rules.specs.States.{State}
 use Rattle.rules.specs.Rounds.{answered, not-constructive}
-use Rattle.block.specs.Format.{Reading, good, turned-down, reading}
+use Rattle.rules.specs.Reasons.{Asked, reason-of}
+use Rattle.block.specs.Format.{Good, Reading, good, turned-down, reading}
 use Rattle.block.proofs.GoodReadings.{numbers}
-use Rattle.reaction.specs.Instants.{Verdict, refused, clash, reacted, Told, told, verdict}
+use Rattle.reaction.specs.Fronts.{Front, front}
+use Rattle.reaction.specs.Instants.{block-of, heard-of, Verdict, refused, clash, reacted, Told, told, verdict}
 use Rattle.reaction.specs.declared.Given.{Given}
+use Rattle.reaction.specs.declared.Given.the-variants.{Two}
+use Rattle.reaction.proofs.Cases.{by-front}
 use Rattle.foldheron.specs.declared.Part.{Part}
 use Rattle.foldheron.specs.Answers.{check-owed, begun-owed, part-owed, part-values, absent-part}
+use Rattle.foldheron.specs.Reasons.{named-owed, past-tests}
 use Rattle.foldheron.proofs.Calls.{Leaves, leaves}
 use Rattle.shelf.specs.Answered.{shelved-owed}
 use Rattle.shelf.proofs.Told.{install-small, fetch-small, withdraw-small}
-use Rattle.exports.specs.Calls.{told-values, logged-values, install-owed, fetch-owed, withdraw-owed}
+use Rattle.exports.specs.Calls.{told-values, logged-values, told-why, install-owed, fetch-owed, withdraw-owed}
 
 -- So many values, the first of which is a number given back.
 pub record Counted (size : ℕ) (xs : List ℕ) : Type 0 where
@@ -100,6 +107,23 @@ first-of (suc n) (x ∷ l) f (suc i) = first-of n l (λ j. f (suc j)) i
 
 pub same-number : {vs : List ℕ} {t : Told} → vs ≡ logged-values t 0 → getD vs 0 0 ≡ getD (take 10 vs) 0 0
 same-number e = ap (λ (l : List ℕ). getD l 0 0) e ∙ sym (ap (λ (l : List ℕ). getD (take 10 l) 0 0) e)
+
+-- A reason.
+named-counted : (o : Option ℕ) → Counted 5 (named-owed o)
+unfolding named-owed
+named-counted (some n) = record { counted = refl; small = lit≤ tt }
+named-counted none = record { counted = refl; small = lit≤ tt }
+
+past-counted : (b s : List ℕ) (given : Given) (said : Good → State → Option ℕ) → Counted 5 (past-tests (front b s given) said)
+unfolding past-tests
+past-counted b s given said =
+    by-front b s given (λ (x : Front). Counted 5 (past-tests x said)) (λ n at e. record { counted = refl; small = let r = numbers b n at e in omega (arith, r .1) })
+    (record { counted = refl; small = lit≤ tt }) (record { counted = refl; small = lit≤ tt }) (λ g st pair e. record { counted = refl; small = lit≤ tt })
+    (record { counted = refl; small = lit≤ tt }) (λ g st e h. named-counted (said g st))
+
+pub why-counted : (b s : List ℕ) (p a : ℕ) (q : Option Asked) → Counted 5 (told-why b s p a q)
+why-counted b s p a (some asked) = past-counted b s (Two p a) (λ g st. reason-of (block-of g) st (heard-of g (Two p a)) asked)
+why-counted b s p a none = past-counted b s (Two p a) (λ g st. none)
 
 -- The calls on a shelf.
 pub install-counted : (s : List ℕ) (p n : ℕ) (b : List ℕ) → Counted 2 (install-owed s p n b)

@@ -11,7 +11,7 @@ ghost use Rattle.reaction.specs.Instants.{told, state-after, log-after, end-aft
 ghost use Rattle.reaction.specs.declared.Given.the-variants.{All, Two};
 ghost use Rattle.foldheron.specs.Answers.{check-owed, begun-owed, state-owed, part-owed, part-values};
 ghost use Rattle.exports.specs.Layout.{lent, Answers, lent-both, AnswersBoth};
-ghost use Rattle.exports.specs.Calls.{told-values, logged-values, install-owed, install-leaves, fetch-owed, fetch-leaves, withdraw-owed, withdraw-leaves};
+ghost use Rattle.exports.specs.Calls.{told-values, logged-values, asked-by, told-why, install-owed, install-leaves, fetch-owed, fetch-leaves, withdraw-owed, withdraw-leaves};
 
 const ANSWER: u16 = 64;
 
@@ -140,6 +140,27 @@ pub extern "C" fn foldheron_excerpt(block: &[u8], n: usize, answer: &mut [u8]) -
         return ANSWER;
     }
     let values = values::excerpt(block, n);
+    put_values(answer, &values);
+    values[0] as u16
+}
+
+// 40 bytes: the number, the place, the pair, and the statement that is named.
+#[no_mangle]
+pub extern "C" fn foldheron_reason(
+    block: &[u8],
+    state: &[u8],
+    present: u64,
+    absent: u64,
+    asked: u16,
+    about: usize,
+    answer: &mut [u8],
+) -> u16
+    ensures { λ r. ⌜ Answers 5 (told-why (now (block .entry)) (now (state .entry)) present absent (asked-by asked about)) (now (answer .entry)) (now (answer .exit)) r ⌝ }
+{
+    if answer.len() != 40 {
+        return ANSWER;
+    }
+    let values = values::reason(block, state, present, absent, asked, about);
     put_values(answer, &values);
     values[0] as u16
 }

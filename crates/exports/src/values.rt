@@ -1,8 +1,10 @@
 // The only source file that names the library: each of its answers as plain numbers, in the order of the answer's layout. What an answer does
 // not name is 0.
+use foldheron::Asked;
 use foldheron::Begun;
 use foldheron::Checked;
 use foldheron::Instant;
+use foldheron::Reason;
 use foldheron::Shelved;
 use foldheron::number_of;
 use records::parts::copy_at;
@@ -14,7 +16,10 @@ ghost use Rattle.reaction.specs.declared.Given.the-variants.{All, Two};
 ghost use Rattle.foldheron.specs.Answers.{check-owed, begun-owed, state-owed, part-owed, part-values};
 ghost use Rattle.reaction.specs.Answers.{instant-told};
 ghost use Rattle.shelf.specs.Answered.{shelved-values};
-ghost use Rattle.exports.specs.Calls.{logged-values, install-owed, install-leaves, fetch-owed, fetch-leaves, withdraw-owed, withdraw-leaves};
+ghost use Rattle.reasons.specs.Taking.{asked-of};
+ghost use Rattle.foldheron.specs.Reasons.{reason-values};
+ghost use Rattle.exports.specs.Asking.{question-for};
+ghost use Rattle.exports.specs.Calls.{logged-values, asked-by, told-why, install-owed, install-leaves, fetch-owed, fetch-leaves, withdraw-owed, withdraw-leaves};
 
 // Number, place, version, inputs, outputs, locals, statements, pauses.
 pub(crate) fn check(block: &[u8]) -> [u64; 8]
@@ -169,6 +174,43 @@ pub(crate) fn excerpt(block: &[u8], n: usize) -> [u64; 4]
         part.offset as u64,
         part.size as u64,
     ]
+}
+
+// What is asked by number. Another number asks about statement 512, which no block has, so that it is answered as a thing that is not so.
+fn asked_by(asked: u16, about: usize) -> Asked
+    ensures { λ r. ⌜ asked-of r ≡ question-for (asked-by asked about) ⌝ }
+{
+    match asked {
+        0 => Asked::Refused,
+        1 => Asked::Present(about),
+        2 => Asked::NotExecuted(about),
+        _ => Asked::NotExecuted(512),
+    }
+}
+
+// Number, place, pair, and the statement that is named.
+fn reasoned(answer: Reason) -> [u64; 5]
+    ensures { λ r. ⌜ r ≡ reason-values answer ⌝ }
+{
+    match answer {
+        Reason::Statement(n) => [0, 0, 0, 0, n as u64],
+        Reason::Clash(first, second) => [10, 0, first as u64, second as u64, 0],
+        Reason::Refused(why, place) => [number_of(why) as u64, place as u64, 0, 0, 0],
+    }
+}
+
+pub(crate) fn reason(
+    block: &[u8],
+    state: &[u8],
+    present: u64,
+    absent: u64,
+    asked: u16,
+    about: usize,
+) -> [u64; 5]
+    ensures { λ r. ⌜ r ≡ told-why (now (block .entry)) (now (state .entry)) present absent (asked-by asked about) ⌝ }
+{
+    let question = asked_by(asked, about);
+    reasoned(foldheron::reason(block, state, present, absent, question))
 }
 
 // Number, place.

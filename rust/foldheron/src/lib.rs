@@ -121,6 +121,38 @@ pub struct Logged {
     pub end: usize,
 }
 
+/// What is asked about an instant.
+#[derive(Clone, Copy, PartialEq, Eq, Debug)]
+pub enum Asked {
+    /// Why it is refused with 13.
+    Refused,
+    /// Why this output, a signal number, is present.
+    Present(usize),
+    /// Why this emit, a statement number, was not executed.
+    NotExecuted(usize),
+}
+
+/// The statement that accounts for it, by its number, or why none does.
+#[derive(Clone, Copy, PartialEq, Eq, Debug)]
+pub enum Reason {
+    Statement(usize),
+    /// 10: two active pauses of the state that cannot be active together.
+    Clash(u16, u16),
+    /// 16 where the thing asked about is not so.
+    Refused(Refusal),
+}
+
+impl Reason {
+    /// The number of the refusal, 0 where a statement is named.
+    pub fn number(&self) -> u16 {
+        match self {
+            Reason::Statement(_) => 0,
+            Reason::Clash(_, _) => 10,
+            Reason::Refused(refusal) => refusal.number,
+        }
+    }
+}
+
 /// The version of the library's calls and records, as FOLDHERON_VERSION in `include/foldheron.h`.
 pub const VERSION: &str = "2.0.0";
 /// How many bytes a block has at most.
@@ -185,6 +217,23 @@ pub fn excerpt(block: &[u8], n: usize) -> Result<&[u8], Refusal> {
     refusal(&a)?;
     let offset = number(&a, 2) as usize;
     Ok(&block[offset..offset + number(&a, 3) as usize])
+}
+
+/// Says why, of the instant that `instant_heard` would run with the same state and inputs; nothing is run or written. Of a refused instant (13) the lowest
+/// present started, or suspend resumed, that must be reached in the final round with its signal undecided there; of a present output of an answered one its
+/// lowest emit that was executed; of an emit that was not executed the topmost statement on its path that was not, which `excerpt` shows.
+pub fn reason(block: &[u8], state: &[u8], present: u64, absent: u64, asked: Asked) -> Reason {
+    let (kind, about) = match asked {
+        Asked::Refused => (0, 0),
+        Asked::Present(signal) => (1, signal),
+        Asked::NotExecuted(statement) => (2, statement),
+    };
+    let a = raw::reason(block, state, present, absent, kind, about);
+    match refusal(&a) {
+        Ok(()) => Reason::Statement(number(&a, 4) as usize),
+        Err(Refusal { number: 10, .. }) => Reason::Clash(small(&a, 2), small(&a, 3)),
+        Err(other) => Reason::Refused(other),
+    }
 }
 
 /// Puts a block on the shelf as the party's block of that name, after the last entry. Refused, no byte of the shelf changes.

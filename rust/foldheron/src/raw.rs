@@ -24,6 +24,10 @@ extern "C" {
         log_len: usize, end: usize, answer: *mut u8, answer_len: usize,
     ) -> u16;
     fn foldheron_excerpt(block: *const u8, block_len: usize, n: usize, answer: *mut u8, answer_len: usize) -> u16;
+    fn foldheron_reason(
+        block: *const u8, block_len: usize, state: *const u8, state_len: usize, present: u64, absent: u64, asked: u16, about: usize,
+        answer: *mut u8, answer_len: usize,
+    ) -> u16;
     fn foldheron_install(
         shelf: *mut u8, shelf_len: usize, party: u16, name: u16, block: *const u8, block_len: usize, answer: *mut u8, answer_len: usize,
     ) -> u16;
@@ -90,6 +94,14 @@ pub fn instant_heard_logged(block: &[u8], state: &mut [u8], present: u64, absent
 pub fn excerpt(block: &[u8], n: usize) -> [u8; 32] {
     let mut answer = [0; 32];
     let number = unsafe { foldheron_excerpt(block.as_ptr(), block.len(), n, answer.as_mut_ptr(), answer.len()) };
+    told(number, answer)
+}
+
+pub fn reason(block: &[u8], state: &[u8], present: u64, absent: u64, asked: u16, about: usize) -> [u8; 40] {
+    let mut answer = [0; 40];
+    let (held, size) = (state.as_ptr(), state.len());
+    let (into, length) = (answer.as_mut_ptr(), answer.len());
+    let number = unsafe { foldheron_reason(block.as_ptr(), block.len(), held, size, present, absent, asked, about, into, length) };
     told(number, answer)
 }
 
