@@ -11,7 +11,7 @@
  * nothing checks a caller in C:
  *
  *   - each pointer is to as many bytes as the length beside it says, and is not NULL, not even beside a length of 0;
- *   - the bytes that a call may write (state, log, answer) overlap neither each other nor the block;
+ *   - the bytes that a call may write (state, log, answer) overlap neither each other nor anything else that is lent;
  *   - no other thread writes the block, or touches the state, the log or the answer, during the call.
  *
  * The library keeps nothing between calls and allocates nothing. Calls on different states and answers may run at the same time. Of the
@@ -81,7 +81,7 @@ extern "C" {
 #define FOLDHERON_STATE_SIZE 26
 #define FOLDHERON_RECORD_SIZE 32
 
-/* A call takes less stack than this, from its caller's frame down; 45,320 bytes were the most that was seen. */
+/* A call takes less stack than this, from its caller's frame down; 46,264 bytes were the most that was seen. */
 #define FOLDHERON_STACK_MOST 49152
 
 /* Where every answer has its number and its place. */
