@@ -16,6 +16,7 @@ mod output;
 mod refusal;
 mod replace;
 mod run;
+mod saved;
 mod sets;
 mod shelf;
 mod status;

@@ -85,7 +85,18 @@ fn set(part: &str, labels: &Labels) -> Outcome<Given> {
         [] => Err(Trouble::call("there is nothing in it").advise("write - for a set without an input; semicolons stand between sets alone")),
         [NONE] => Ok(Given::default()),
         [UNHEARD] => Ok(Given { present: 0, unheard: labels.all_inputs() }),
+        _ if words.contains(&UNHEARD) => Err(lone_mark(&words, labels)),
         _ => words.iter().try_fold(Given::default(), |given, word| with_input(given, word, labels)),
+    }
+}
+
+/// A ? among other words: before the name of an input it may be meant for that, or for all the others.
+fn lone_mark(words: &[&str], labels: &Labels) -> Trouble {
+    let after = words.iter().skip_while(|word| **word != UNHEARD).nth(1);
+    let trouble = Trouble::call("? stands alone, for a set of which no input is heard");
+    match after.filter(|word| labels.find(word).is_some()) {
+        Some(name) => trouble.advise(format!("is ?{} meant, without a space? that is: {} is not heard", name, name)),
+        None => trouble.advise("write ?NAME for one input that is not heard"),
     }
 }
 
@@ -93,7 +104,6 @@ fn set(part: &str, labels: &Labels) -> Outcome<Given> {
 fn with_input(mut given: Given, word: &str, labels: &Labels) -> Outcome<Given> {
     match word.strip_prefix(UNHEARD) {
         None => given.present |= 1 << input(word, labels)?,
-        Some("") => return Err(Trouble::call("? alone is a set of which no input is heard").advise("write ?NAME for one input that is not heard")),
         Some(name) => given.unheard |= 1 << declared(name, labels)?,
     }
     match given.present & given.unheard {
@@ -108,7 +118,8 @@ fn declared(name: &str, labels: &Labels) -> Outcome<usize> {
     if labels.inputs().contains(&n) {
         return Ok(n);
     }
-    Err(no_input(format!("the block has no input '{}'", name), labels))
+    let trouble = no_input(format!("the block has no input '{}'", name), labels);
+    Err(trouble.advise("without the ? the instant is refused with 11; of an input that is not heard the library is told nothing"))
 }
 
 /// The number of an input. One that the block does not have may be given by its number: the library refuses it.

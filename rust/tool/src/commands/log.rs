@@ -6,7 +6,7 @@ use crate::block;
 use crate::files;
 use crate::json::Object;
 use crate::labels::{members, Labels};
-use crate::layout::{LogRecord, RECORD};
+use crate::layout::{two, LogRecord, OLD_RECORD, RECORD};
 use crate::log::{no_log, no_record, other_file, Next, Records};
 use crate::names;
 use crate::output::Out;
@@ -32,8 +32,8 @@ pub static COMMAND: Command = Command {
     more: "A log has a record for each answered instant and none for a refused one, so its records are numbered by themselves. What\n\
            changed since the record before is marked: + came, - went. In the first record what was before is not known, and nothing\n\
            is marked. ? marks an input that was not heard: with --block any, else those below the highest input that is told of in\n\
-           the record, for a log does not say how many inputs there are. Records of 24 bytes, from before version 2.0.0, are read too:\n\
-           in them every input is heard. A log does not name its block: whose it is, is yours to say.\n",
+           the record or in one before it, for a log does not say how many inputs there are. Records of 24 bytes, from before version\n\
+           2.0.0, are read too: in them every input is heard. A log does not name its block: whose it is, is yours to say.\n",
     run,
 };
 
@@ -45,7 +45,7 @@ fn run(words: &Words, out: &mut Out) -> Outcome<Status> {
     };
     let path = Path::new(word);
     let mut records = Records::new(BufReader::new(files::open(path).map_err(|why| files::unread(path, &why))?), path);
-    let mut printer = Printer { labels: &labels, json: words.has("--json"), table: Table::new(columns(&labels, "record", false)), before: None };
+    let mut printer = Printer { labels: &labels, json: words.has("--json"), table: Table::new(columns(&labels, "record", false)), before: None, told: 0 };
     printer.begin(out)?;
     loop {
         match records.next()? {
@@ -62,7 +62,10 @@ fn short(path: &Path, number: u64, bytes: &[u8]) -> Trouble {
         return no_log(path, other);
     }
     let left = counted(bytes.len() as u64, "byte");
-    let said = format!("{}: after {} there are {}, and a record has {}", files::shown(path), counted(number, "record"), left, RECORD);
+    let are = if bytes.len() == 1 { "is" } else { "are" };
+    let is_old = two(bytes, 0) == Some(OLD_RECORD as u16);
+    let whole = if is_old { format!("an old record has {}", OLD_RECORD) } else { format!("a record has {}", RECORD) };
+    let said = format!("{}: after {} there {} {}, and {}", files::shown(path), counted(number, "record"), are, left, whole);
     Trouble::new(Status::Refused, said).advise("it is cut off there, or it is no log")
 }
 
@@ -71,6 +74,8 @@ struct Printer<'a> {
     json: bool,
     table: Table,
     before: Option<LogRecord>,
+    /// The inputs that this record and those before it tell of.
+    told: u64,
 }
 
 impl Printer<'_> {
@@ -94,6 +99,7 @@ impl Printer<'_> {
             let object = object.texts("outputs", &outputs);
             return out.line(&object.number("code", record.code).number("rounds", record.rounds).done());
         }
+        self.told |= record.inputs | record.absent.unwrap_or(0);
         let cells = [
             number.to_string(),
             changed_inputs(self.given(&record), self.before.map(|before| self.given(&before)), |n| labels.input(n)),
@@ -105,15 +111,14 @@ impl Printer<'_> {
         out.line(&self.table.row(&cells.iter().map(String::as_str).collect::<Vec<_>>()))
     }
 
-    /// The inputs of a record. Where the block is not known, at least the inputs below the highest that is told of are its.
+    /// The inputs of a record. Where the block is not known, at least the inputs below the highest that was told of by now are its.
     fn given(&self, record: &LogRecord) -> Given {
         let absent = match record.absent {
             Some(absent) => absent,
             None => return Given::heard(record.inputs),
         };
-        let told = record.inputs | absent;
-        let all = if self.labels.signals() > 0 { self.labels.all_inputs() } else { u64::MAX.checked_shr(told.leading_zeros()).unwrap_or(0) };
-        Given { present: record.inputs, unheard: all & !told }
+        let all = if self.labels.signals() > 0 { self.labels.all_inputs() } else { u64::MAX.checked_shr(self.told.leading_zeros()).unwrap_or(0) };
+        Given { present: record.inputs, unheard: all & !(record.inputs | absent) }
     }
 
     fn end(&self, number: u64, out: &mut Out) -> Outcome<Status> {

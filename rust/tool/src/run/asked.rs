@@ -35,6 +35,8 @@ pub struct Asked {
     pub expect: Option<PathBuf>,
     pub from: Option<PathBuf>,
     pub to: Option<PathBuf>,
+    /// Whether a state of another block may be written over.
+    pub over: bool,
     pub log: Option<PathBuf>,
     /// Whether a 13 with inputs not heard is looked into.
     pub waits: bool,
@@ -51,7 +53,7 @@ impl Asked {
         });
         let inputs = inputs_of(words, &block)?;
         let path = |name: &str| words.value(name).map(PathBuf::from);
-        let asked = Asked { block, inputs, form, expect: path("--expect"), from: path("--from"), to: path("--to"), log: path("--log"), waits: words.has("--waits") };
+        let asked = Asked { block, inputs, form, expect: path("--expect"), from: path("--from"), to: path("--to"), over: words.has("--over"), log: path("--log"), waits: words.has("--waits") };
         asked.look()?;
         Ok(asked)
     }
@@ -60,6 +62,9 @@ impl Asked {
     fn look(&self) -> Outcome<()> {
         if self.expect.is_some() && (self.to.is_some() || self.log.is_some()) {
             return Err(Trouble::call("--expect only compares: it does not go together with --to or --log"));
+        }
+        if self.over && self.to.is_none() {
+            return Err(Trouble::call("--over goes together with --to alone"));
         }
         if self.waits && !matches!(self.form(), Some(Form::Table | Form::Json)) {
             return Err(Trouble::call("--waits is told in the table and with --json alone"));

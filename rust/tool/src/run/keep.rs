@@ -2,16 +2,17 @@
 
 use super::asked::Asked;
 use crate::block::Block;
-use crate::commands::state::turned_down;
 use crate::files;
-use crate::layout::{begins_state, HEAD, RECORD, STATE};
+use crate::json::Object;
+use crate::layout::{begins_state, State, RECORD, STATE};
 use crate::log::Log;
 use crate::refusal;
 use crate::replace::{look, replace};
+use crate::saved::{named, names, turned_down, TurnedDown};
 use crate::sets::Given;
 use crate::status::Status;
 use crate::trouble::{Outcome, Trouble};
-use foldheron::{fresh, instant, instant_heard, instant_heard_logged, instant_logged, Instant};
+use foldheron::{fresh, instant, instant_heard, instant_heard_logged, instant_logged, name_of, Instant};
 use std::path::{Path, PathBuf};
 
 pub struct Kept {
@@ -21,13 +22,10 @@ pub struct Kept {
 }
 
 impl Kept {
-    pub fn open(asked: &Asked, block: &Block) -> Outcome<Kept> {
-        let state = match &asked.from {
-            Some(path) => saved(path, block)?,
-            None => begun(block)?,
-        };
+    /// What is kept of a run that begins in this state.
+    pub fn open(asked: &Asked, block: &Block, state: Vec<u8>) -> Outcome<Kept> {
         if let Some(to) = &asked.to {
-            may_be_replaced(to)?;
+            may_be_replaced(to, block, asked.over)?;
         }
         let log = asked.log.as_deref().map(Log::open).transpose()?;
         Ok(Kept { state, to: asked.to.clone(), log })
@@ -83,34 +81,55 @@ fn one(block: &Block, state: &mut [u8], given: Given) -> Instant {
     }
 }
 
+/// The state from which a run begins: the saved one that is named, where the block takes it, or a fresh one.
+pub fn begins(from: Option<&Path>, block: &Block) -> Outcome<Result<Vec<u8>, TurnedDown>> {
+    let path = match from {
+        Some(path) => path,
+        None => return begun(block).map(Ok),
+    };
+    let state = files::state(path)?;
+    Ok(match turned_down(block, &state) {
+        None => Ok(state),
+        Some(down) => Err(down),
+    })
+}
+
 fn begun(block: &Block) -> Outcome<Vec<u8>> {
     let mut state = vec![0; STATE];
     fresh(&block.bytes, &mut state).map_err(|why| Trouble::new(Status::of(why.number), why.to_string()))?;
     Ok(state)
 }
 
-/// The state of a file, which the block has to take.
-fn saved(path: &Path, block: &Block) -> Outcome<Vec<u8>> {
-    let state = files::state(path)?;
-    match turned_down(block, &state) {
-        None => Ok(state),
-        Some((number, why)) => {
-            let said = format!("the state in {} is refused with {}: {}", files::shown(path), refusal::title(number), why);
-            Err(Trouble::new(Status::of(number), said).advise(refusal::advice(number)).advise("foldheron state shows it"))
-        }
-    }
+/// A saved state that the block does not take, in words.
+pub fn not_taken(path: &Path, down: &TurnedDown) -> Trouble {
+    let said = format!("the state in {} is refused with {}: {}", files::shown(path), refusal::title(down.number), down.why);
+    Trouble::new(Status::of(down.number), said).advise(format!("{} (without --from)", down.advice)).advise("foldheron state shows it")
 }
 
-/// A file that is there is replaced by a state only if it is one.
-fn may_be_replaced(path: &Path) -> Outcome<()> {
+/// The same for a program.
+pub fn not_taken_object(path: &Path, down: &TurnedDown) -> Object {
+    let object = Object::new().text("state", &path.to_string_lossy()).number("refusal", down.number).text("name", name_of(down.number).unwrap_or(""));
+    object.text("wrong", &down.why).text("advice", down.advice)
+}
+
+/// A file that is there is replaced by a state only if it is a state that names this block; with --over if it is any state.
+fn may_be_replaced(path: &Path, block: &Block, over: bool) -> Outcome<()> {
     look(path)?;
     let length = match files::size(path) {
         None | Some(0) => return Ok(()),
         Some(length) => length,
     };
-    let head = files::first(path, HEAD).map_err(|why| files::unread(path, &why))?;
-    if begins_state(&head, length) {
-        return Ok(());
+    let bytes = files::state(path)?;
+    let left = |what: String| Trouble::call(format!("{} is there and is {}: it is left as it is", files::shown(path), what));
+    if !begins_state(&bytes, length) {
+        return Err(left("no state".to_string()));
     }
-    Err(Trouble::call(format!("{} is there and is no state: it is left as it is", files::shown(path))))
+    let ours = named(block.summary.version, block.summary.statements);
+    match State::of(&bytes) {
+        _ if over => Ok(()),
+        Some(state) if names(&state, &block.summary) => Ok(()),
+        Some(state) => Err(left(format!("a state of {}", named(state.version, state.statements)))),
+        None => Err(left("a state that names no block".to_string())),
+    }
+    .map_err(|trouble| trouble.advise(format!("this block is {}: save its state in another file, or say --over to write over that one", ours)))
 }

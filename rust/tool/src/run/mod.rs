@@ -19,18 +19,20 @@ use crate::commands::Command;
 use crate::files;
 use crate::names;
 use crate::output::{warn, Out};
+use crate::saved::TurnedDown;
 use crate::status::Status;
 use crate::trouble::{Outcome, Trouble};
-use asked::Asked;
+use asked::{Asked, Form};
 use inputs::{Next, Source};
 use keep::Kept;
 use progress::Progress;
+use std::path::Path;
 use style::{Step, Style, Tally};
 
 pub static COMMAND: Command = Command {
     name: "run",
     does: "runs a block on sets of inputs",
-    call: "FILE [--inputs FILE | --in SETS] [--plain | --csv | --json] [--expect FILE] [--waits]\n              [--from STATE] [--to STATE] [--log FILE] [--names FILE | --no-names]",
+    call: "FILE [--inputs FILE | --in SETS] [--plain | --csv | --json] [--expect FILE] [--waits]\n              [--from STATE] [--to STATE [--over]] [--log FILE] [--names FILE | --no-names]",
     options: &[
         with("--inputs", "FILE", "sets of 8 bytes each, read as they come; without it, and without --in, inputs.bin beside the block"),
         with("--in", "SETS", IN_HELP),
@@ -41,6 +43,7 @@ pub static COMMAND: Command = Command {
         flag("--waits", "of a 13 with inputs not heard, which input, or which two, would settle it: found by trying every status\nof each; in the table and with --json"),
         with("--from", "STATE", "go on from the state in STATE; without it the run begins afresh"),
         with("--to", "STATE", "save the next state in STATE, which may be the file of --from"),
+        flag("--over", "save it over another block's state too; without it a state that does not name this block is left as it is"),
         with("--log", "FILE", "put a record behind FILE for each answered instant"),
         names::OPTION,
         names::NO_OPTION,
@@ -56,7 +59,9 @@ and ? a set of which no input is heard; without a ? what is not named is absent"
 const MORE: &str = "In the table + marks what came and - what went: of inputs since the instant before, of outputs since the last answered one.
 In the first instant after --from what was before is not known, and nothing is marked; nor is an input that was not heard then.
 An instant with inputs not heard is answered where they make no difference; else it is refused with 13. ? marks them, in the
-columns of --csv too, and --json lists them as unheard. The sets of a file have every input heard.
+columns of --csv too, and --json lists them as unheard. The sets of a file have every input heard. An input that the block does not
+have may be named by its number, as i9: the instant is then refused with 11. As not heard, ?i9, it cannot be told to the library,
+which is given the inputs that are heard, so that is a wrong call.
 A refused instant has no outputs: x stands in their place, and the state is as it was, so the next instant goes on from there.
 
 What is saved: the state is written beside STATE, flushed to the disk and put in its place in one step, after the last
@@ -76,7 +81,11 @@ fn run(words: &Words, out: &mut Out) -> Outcome<Status> {
     let path = asked.block.clone();
     let block = if asked.wants_names() || names::is_named(words) { block::checked(words, path, bytes)? } else { block::unnamed(path, bytes)? };
     let mut source = asked.source(&block)?;
-    let mut kept = Kept::open(&asked, &block)?;
+    let state = match keep::begins(asked.from.as_deref(), &block)? {
+        Ok(state) => state,
+        Err(down) => return state_refused(&asked, &down, out),
+    };
+    let mut kept = Kept::open(&asked, &block, state)?;
     let mut style = style::of(&asked, &block)?;
     let ended = all(&asked, &block, &mut source, &mut kept, style.as_mut(), out);
     match ended.and_then(|tally| kept.save().map(|_| tally)) {
@@ -133,6 +142,16 @@ fn hint(asked: &Asked, block: &Block, tally: &Tally) {
 
 /// How many bytes of the inputs are looked at for that.
 const FIRST: usize = 512;
+
+/// A refused state of --from: an object where objects are asked for, else words on standard error.
+fn state_refused(asked: &Asked, down: &TurnedDown, out: &mut Out) -> Outcome<Status> {
+    let path = asked.from.as_deref().unwrap_or_else(|| Path::new(files::STDIN));
+    if asked.form() != Some(Form::Json) {
+        return Err(keep::not_taken(path, down));
+    }
+    out.line(&keep::not_taken_object(path, down).done())?;
+    Ok(Status::of(down.number))
+}
 
 /// A refused block: a line of its own where lines are asked for, else words on standard error.
 fn refused(asked: &Asked, report: &Report, out: &mut Out) -> Outcome<Status> {

@@ -26,6 +26,8 @@ pub struct Tally {
     pub refused: Vec<(u16, u64)>,
     /// Whether some input was not heard in some instant.
     pub has_unheard: bool,
+    /// Whether an instant with inputs not heard was refused with 13, and not looked into.
+    pub has_unsettled: bool,
     /// Bytes left over at the end of the inputs.
     pub short: usize,
     pub state: Vec<u8>,
@@ -36,6 +38,7 @@ impl Tally {
         self.instants += 1;
         self.has_unheard |= step.inputs.unheard != 0;
         let number = step.answer.number();
+        self.has_unsettled |= number == 13 && step.inputs.unheard != 0 && step.waits.is_none();
         if number == 0 {
             return;
         }

@@ -136,6 +136,9 @@ impl Style for Table<'_> {
             (true, false) => out.line("+ came, - went, x no outputs")?,
             _ => {}
         }
+        if tally.has_unsettled {
+            out.line("of a 13 with inputs not heard --waits says which input, or which two, would settle it")?;
+        }
         if tally.short > 0 {
             out.line(&short(tally.short))?;
         }
