@@ -4,6 +4,7 @@ mod alike;
 mod alikes;
 mod all;
 mod antt;
+mod arrows;
 mod bite;
 mod block;
 mod calls;
@@ -78,6 +79,8 @@ const USAGE: &str = "subcommands:
   states [SIZE N SEED]  states lent to other blocks: all blocks up to SIZE statements (3) and N random ones (4000, seed 1)
   heard [SIZE N SEED]  inputs not heard: all blocks up to SIZE statements (4) and N random ones (2000, seed 1)
   why [SIZE N SEED] reasons beside circuits and executions: all blocks up to SIZE statements (4) and N random ones (3000, seed 1)
+  doubts [N SEED]   N refused instants (100, seed 1) of random blocks
+  arrows            reads such instants with what a program says that they wait for, and says whether it is true
   shelf [CALLS N SEED]  a shelf beside its model: all histories of CALLS calls (4) on a small one, N random ones (60, seed 1)
   maze [SIZE N SEED]  mazes beside the rounds: all blocks of the form up to SIZE statements (8) and N random ones (4000, seed 1)
   alike [SIZE N SEED]  two blocks beside classes of states: all pairs up to SIZE statements (4), N random ones (3000, seed 1)
@@ -123,6 +126,8 @@ fn main() {
         Some("states") => states::print_states(number(1, 3) as usize, number(2, 4000) as usize, number(3, 1)),
         Some("heard") => heard::print_heard(number(1, 4) as usize, number(2, 2000) as usize, number(3, 1)),
         Some("why") => why::print_why(number(1, 4) as usize, number(2, 3000) as usize, number(3, 1)),
+        Some("doubts") => arrows::print_doubts(number(1, 100) as usize, number(2, 1)),
+        Some("arrows") => arrows::print_arrows(),
         Some("shelf") => shelves::print_shelf(number(1, 4) as usize, number(2, 60) as usize, number(3, 1)),
         Some("maze") => mazes::print_maze(number(1, 8) as usize, number(2, 4000) as usize, number(3, 1)),
         Some("alike") => alikes::print_alike(number(1, 4) as usize, number(2, 3000) as usize, number(3, 1)),

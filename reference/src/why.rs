@@ -54,6 +54,14 @@ impl Second {
     }
 }
 
+/// What is reached by the circuit; by the rules where the circuit would be too large.
+pub fn reached_by_circuit(block: &Block, phase: Phase, heard: Heard) -> Reached {
+    match Second::new(block) {
+        Some(second) => second.reached(phase, heard),
+        None => reached(block, phase, heard, Fault::None),
+    }
+}
+
 struct Counts {
     fault: Fault,
     blocks: usize,

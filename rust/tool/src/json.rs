@@ -43,6 +43,17 @@ impl Object {
         self.put(key, &listed(values))
     }
 
+    pub fn numbers(self, key: &str, values: &[usize]) -> Object {
+        let all: Vec<String> = values.iter().map(usize::to_string).collect();
+        self.put(key, &format!("[{}]", all.join(",")))
+    }
+
+    /// A list of objects.
+    pub fn objects(self, key: &str, values: Vec<Object>) -> Object {
+        let all: Vec<String> = values.into_iter().map(Object::done).collect();
+        self.put(key, &format!("[{}]", all.join(",")))
+    }
+
     /// A list of lists of texts.
     pub fn lists(self, key: &str, values: &[Vec<String>]) -> Object {
         let all: Vec<String> = values.iter().map(|value| listed(value)).collect();
@@ -87,5 +98,6 @@ mod tests {
         assert_eq!(object.done(), r#"{"n":7,"t":"a\"b\\c\n\u0001ä","f":true,"l":["x","y"],"z":null}"#);
         assert_eq!(Object::new().texts("l", &[]).done(), r#"{"l":[]}"#);
         assert_eq!(Object::new().lists("l", &[vec!["x".into()], vec![]]).done(), r#"{"l":[["x"],[]]}"#);
+        assert_eq!(Object::new().numbers("n", &[1, 20]).objects("o", vec![Object::new().number("a", 1u64), Object::new()]).done(), r#"{"n":[1,20],"o":[{"a":1},{}]}"#);
     }
 }

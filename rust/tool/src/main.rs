@@ -25,6 +25,7 @@ mod table;
 mod tree;
 mod trouble;
 mod walk;
+mod why;
 
 use commands::{find, help, unknown, Command};
 use output::{say, Out};

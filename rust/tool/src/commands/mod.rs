@@ -26,10 +26,11 @@ pub struct Command {
     pub run: fn(&Words, &mut Out) -> Outcome<Status>,
 }
 
-pub static COMMANDS: [&Command; 9] = [
+pub static COMMANDS: [&Command; 10] = [
     &check::COMMAND,
     &show::COMMAND,
     &crate::run::COMMAND,
+    &crate::why::COMMAND,
     &excerpt::COMMAND,
     &state::COMMAND,
     &log::COMMAND,

@@ -6,6 +6,7 @@ use crate::files;
 use crate::json::Object;
 use crate::layout::{begins_state, State, RECORD, STATE};
 use crate::log::Log;
+use crate::output::Out;
 use crate::refusal;
 use crate::replace::{look, replace};
 use crate::saved::{named, names, turned_down, TurnedDown};
@@ -74,7 +75,7 @@ impl Kept {
 }
 
 /// One instant over a state, without a log.
-fn one(block: &Block, state: &mut [u8], given: Given) -> Instant {
+pub fn one(block: &Block, state: &mut [u8], given: Given) -> Instant {
     match given.unheard {
         0 => instant(&block.bytes, state, given.present),
         _ => instant_heard(&block.bytes, state, given.present, given.absent(block.labels.all_inputs())),
@@ -100,16 +101,16 @@ fn begun(block: &Block) -> Outcome<Vec<u8>> {
     Ok(state)
 }
 
-/// A saved state that the block does not take, in words.
-pub fn not_taken(path: &Path, down: &TurnedDown) -> Trouble {
+/// Tells of a saved state that the block does not take: an object where objects are asked for, else words on standard error.
+pub fn not_taken(path: &Path, down: &TurnedDown, is_json: bool, out: &mut Out) -> Outcome<Status> {
+    let status = Status::of(down.number);
+    if is_json {
+        let object = Object::new().text("state", &path.to_string_lossy()).number("refusal", down.number).text("name", name_of(down.number).unwrap_or(""));
+        out.line(&object.text("wrong", &down.why).text("advice", down.advice).done())?;
+        return Ok(status);
+    }
     let said = format!("the state in {} is refused with {}: {}", files::shown(path), refusal::title(down.number), down.why);
-    Trouble::new(Status::of(down.number), said).advise(format!("{} (without --from)", down.advice)).advise("foldheron state shows it")
-}
-
-/// The same for a program.
-pub fn not_taken_object(path: &Path, down: &TurnedDown) -> Object {
-    let object = Object::new().text("state", &path.to_string_lossy()).number("refusal", down.number).text("name", name_of(down.number).unwrap_or(""));
-    object.text("wrong", &down.why).text("advice", down.advice)
+    Err(Trouble::new(status, said).advise(format!("{} (without --from)", down.advice)).advise("foldheron state shows it"))
 }
 
 /// A file that is there is replaced by a state only if it is a state that names this block; with --over if it is any state.

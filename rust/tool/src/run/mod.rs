@@ -5,7 +5,7 @@ mod csv;
 mod expect;
 mod inputs;
 mod json;
-mod keep;
+pub mod keep;
 mod plain;
 mod progress;
 mod style;
@@ -19,7 +19,6 @@ use crate::commands::Command;
 use crate::files;
 use crate::names;
 use crate::output::{warn, Out};
-use crate::saved::TurnedDown;
 use crate::status::Status;
 use crate::trouble::{Outcome, Trouble};
 use asked::{Asked, Form};
@@ -83,7 +82,7 @@ fn run(words: &Words, out: &mut Out) -> Outcome<Status> {
     let mut source = asked.source(&block)?;
     let state = match keep::begins(asked.from.as_deref(), &block)? {
         Ok(state) => state,
-        Err(down) => return state_refused(&asked, &down, out),
+        Err(down) => return keep::not_taken(asked.from.as_deref().unwrap_or_else(|| Path::new("")), &down, asked.form() == Some(Form::Json), out),
     };
     let mut kept = Kept::open(&asked, &block, state)?;
     let mut style = style::of(&asked, &block)?;
@@ -142,16 +141,6 @@ fn hint(asked: &Asked, block: &Block, tally: &Tally) {
 
 /// How many bytes of the inputs are looked at for that.
 const FIRST: usize = 512;
-
-/// A refused state of --from: an object where objects are asked for, else words on standard error.
-fn state_refused(asked: &Asked, down: &TurnedDown, out: &mut Out) -> Outcome<Status> {
-    let path = asked.from.as_deref().unwrap_or_else(|| Path::new(files::STDIN));
-    if asked.form() != Some(Form::Json) {
-        return Err(keep::not_taken(path, down));
-    }
-    out.line(&keep::not_taken_object(path, down).done())?;
-    Ok(Status::of(down.number))
-}
 
 /// A refused block: a line of its own where lines are asked for, else words on standard error.
 fn refused(asked: &Asked, report: &Report, out: &mut Out) -> Outcome<Status> {

@@ -1,0 +1,64 @@
+//! The answer for a program: one object.
+
+use super::route::{Arrow, Waiting};
+use super::reach::Stands;
+use super::{so, Question};
+use crate::json::Object;
+use crate::labels::members;
+use crate::output::Out;
+use crate::status::Status;
+use crate::trouble::Outcome;
+use foldheron::{name_of, Asked};
+
+/// The instant and the question.
+fn begun(question: &Question) -> Object {
+    let names = |set: u64| members(set).map(|n| question.labels().input(n)).collect::<Vec<_>>();
+    let object = Object::new().number("instant", question.number as u64).texts("inputs", &names(question.given.present));
+    let object = if question.given.unheard == 0 { object } else { object.texts("unheard", &names(question.given.unheard)) };
+    match question.asked {
+        Asked::Refused => object.text("asked", "refused"),
+        Asked::Present(n) => object.text("asked", "present").text("about", &question.labels().signal(n)),
+        Asked::NotExecuted(n) => object.text("asked", "not executed").number("about", n as u64),
+    }
+}
+
+/// A refused question, with what is so instead.
+pub fn refused(question: &Question, number: u16, out: &mut Out) -> Outcome<Status> {
+    let object = begun(question).number("refusal", number).text("name", name_of(number).unwrap_or("")).text("wrong", &so::is_so(question, number));
+    out.line(&object.done())?;
+    Ok(Status::of(number))
+}
+
+pub fn told(question: &Question, n: usize, waiting: Option<&Waiting>, out: &mut Out) -> Outcome<Status> {
+    let object = begun(question).number("refusal", 0u64).number("statement", n as u64).numbers("path", &question.way(n));
+    let object = match waiting {
+        Some(waiting) => waits(question, waiting, object),
+        None => object,
+    };
+    out.line(&object.done())?;
+    Ok(Status::Good)
+}
+
+/// The tests that are waited for, the emits that may still come with the tests that they wait for, and the ways by the tests on them.
+fn waits(question: &Question, waiting: &Waiting, object: Object) -> Object {
+    let test = |n: usize| waiting.reach.tests[n].statement;
+    let way = |way: Option<Vec<Arrow>>| way.map_or(Vec::new(), |way| std::iter::once(test(waiting.named)).chain(way.iter().map(|arrow| test(arrow.to))).collect());
+    let mut met: Vec<usize> = waiting.met();
+    met.sort_unstable();
+    let tests = met.iter().map(|n| Object::new().number("statement", test(*n) as u64).text("signal", &question.signal(test(*n))));
+    let emits = waiting.reach.emits.iter().filter(|emit| met.iter().any(|n| waiting.signal(*n) == emit.signal));
+    let emits = emits.map(|emit| {
+        let waits: Vec<usize> = emit.waits.clone().map(test).collect();
+        Object::new().number("statement", emit.statement as u64).text("signal", &question.signal(emit.statement)).text("stands", stands(emit.stands)).numbers("waits", &waits)
+    });
+    let object = object.objects("tests", tests.collect()).objects("emits", emits.collect());
+    object.numbers("cycle", &way(waiting.cycle())).numbers("chain", &way(waiting.chain()))
+}
+
+fn stands(stands: Stands) -> &'static str {
+    match stands {
+        Stands::Under => "under",
+        Stands::After => "after",
+        Stands::Again => "again",
+    }
+}

@@ -1,0 +1,146 @@
+//! What is reached in the final round: the statements that are executed for sure, the tests among them whose signal is undecided, and the emits that may
+//! still be executed, each with the undecided tests that it stands under, or comes after.
+
+use super::meaning::{Event, Meaning, Part, Run, Status};
+use std::ops::Range;
+
+/// A statement that is executed for sure, how, and with which statuses.
+pub struct Visit {
+    pub part: Part,
+    pub event: Event,
+}
+
+/// A signal; of a local also which run of its body it belongs to.
+#[derive(Clone, Copy, PartialEq, Eq, Debug)]
+pub struct Signal {
+    pub number: u16,
+    pub scope: usize,
+}
+
+/// An undecided test that is reached for sure.
+pub struct Test {
+    pub statement: usize,
+    pub signal: Signal,
+}
+
+/// How an emit stands to the test that it waits for.
+#[derive(Clone, Copy, PartialEq, Eq, PartialOrd, Ord, Debug)]
+pub enum Stands {
+    Under,
+    After,
+    /// In the body that a loop starts again once the test is settled.
+    Again,
+}
+
+/// An emit that may still be executed, and the tests, by their places in the list, that have to be settled before.
+pub struct Emit {
+    pub statement: usize,
+    pub signal: Signal,
+    pub stands: Stands,
+    pub waits: Range<usize>,
+}
+
+/// Whether a part is executed for sure, or waits for tests.
+#[derive(Clone)]
+enum Way {
+    Sure,
+    Waits(Stands, Range<usize>),
+}
+
+pub struct Reach<'a> {
+    pub meaning: &'a Meaning,
+    pub visits: Vec<Visit>,
+    pub tests: Vec<Test>,
+    pub emits: Vec<Emit>,
+    scopes: usize,
+}
+
+/// For each local by its number the run of its body that is at hand.
+type Scopes = [usize; 64];
+
+impl<'a> Reach<'a> {
+    /// What is reached at the statuses with which the rounds end; in a block that has ended nothing is.
+    pub fn of(meaning: &'a Meaning, run: Option<Run>, e: Event) -> Reach<'a> {
+        let mut reach = Reach { meaning, visits: Vec::new(), tests: Vec::new(), emits: Vec::new(), scopes: 0 };
+        if let Some(run) = run {
+            reach.walk((0, run), e, &[0; 64], &Way::Sure);
+        }
+        reach
+    }
+
+    fn walk(&mut self, part: Part, e: Event, scopes: &Scopes, way: &Way) {
+        let (n, run) = part;
+        let meaning = self.meaning;
+        let node = &meaning.nodes[n];
+        let is_sure = matches!(way, Way::Sure);
+        if is_sure {
+            self.visits.push(Visit { part, event: e });
+        }
+        match node.name {
+            "emit" => self.emit(n, scopes, way),
+            "present" => match meaning.branch(part, e) {
+                Some(branch) => self.walk(branch, e, scopes, way),
+                None => self.undecided(n, &[(node.parts[0], run), (node.parts[1], run)], e, scopes, way),
+            },
+            "suspend" => match meaning.held(part, e) {
+                Status::Present => {}
+                Status::Absent => self.walk((node.parts[0], run), e, scopes, way),
+                Status::Unknown => self.undecided(n, &[(node.parts[0], run)], e, scopes, way),
+            },
+            "sequence" | "loop" => self.stages(part, e, scopes, way),
+            "parallel" => meaning.arms(part).into_iter().for_each(|arm| self.walk(arm, e, scopes, way)),
+            "trap" => self.walk((node.parts[0], run), e, scopes, way),
+            "local" => {
+                self.scopes += 1;
+                let mut inner = *scopes;
+                inner[usize::from(node.operand)] = self.scopes;
+                self.walk((node.parts[0], run), meaning.inside(part, is_sure, e), &inner, way);
+            }
+            _ => {}
+        }
+    }
+
+    fn signal(&self, n: usize, scopes: &Scopes) -> Signal {
+        let number = self.meaning.nodes[n].operand;
+        Signal { number, scope: scopes[usize::from(number)] }
+    }
+
+    fn emit(&mut self, n: usize, scopes: &Scopes, way: &Way) {
+        if let Way::Waits(stands, waits) = way {
+            let signal = self.signal(n, scopes);
+            self.emits.push(Emit { statement: n, signal, stands: *stands, waits: waits.clone() });
+        }
+    }
+
+    /// The parts of an undecided test: they wait for it, or for what the test itself waits for.
+    fn undecided(&mut self, n: usize, parts: &[Part], e: Event, scopes: &Scopes, way: &Way) {
+        let way = match way {
+            Way::Waits(_, _) => way.clone(),
+            Way::Sure => {
+                let signal = self.signal(n, scopes);
+                self.tests.push(Test { statement: n, signal });
+                Way::Waits(Stands::Under, self.tests.len() - 1..self.tests.len())
+            }
+        };
+        parts.iter().for_each(|part| self.walk(*part, e, scopes, &way));
+    }
+
+    /// The second stage is sure where the first must give 0; where it can give 0 it waits for every undecided test in the first.
+    fn stages(&mut self, part: Part, e: Event, scopes: &Scopes, way: &Way) {
+        let (first, second) = self.meaning.stages(part);
+        let before = self.tests.len();
+        self.walk(first, e, scopes, way);
+        let second = match second {
+            Some(second) => second,
+            None => return,
+        };
+        let is_sure = matches!(way, Way::Sure);
+        if is_sure && self.meaning.code(first, e) == Some(0) {
+            self.walk(second, e, scopes, way);
+        } else if self.meaning.can(first, is_sure, e).codes & 1 == 1 {
+            let stands = if self.meaning.nodes[part.0].name == "loop" { Stands::Again } else { Stands::After };
+            let way = if is_sure { Way::Waits(stands, before..self.tests.len()) } else { way.clone() };
+            self.walk(second, e, scopes, &way);
+        }
+    }
+}

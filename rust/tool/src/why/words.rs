@@ -1,0 +1,159 @@
+//! The answer for a person: the named statement with the way to it and all below it, and what it waits for.
+
+use super::meaning::{Run, Status};
+use super::reach::{Reach, Stands};
+use super::route::{Arrow, Waiting};
+use super::{so, Question};
+use crate::output::Out;
+use crate::refusal;
+use crate::sets::{changed_inputs, listed};
+use crate::status;
+use crate::tree;
+use crate::trouble::Outcome;
+use crate::walk::Statement;
+use foldheron::Asked;
+
+pub fn told(question: &Question, n: usize, reach: &Reach, waiting: Option<&Waiting>, out: &mut Out) -> Outcome<status::Status> {
+    let (what, named) = match question.asked {
+        Asked::Refused => (format!("refused with {}", refusal::title(13)), "the lowest test that is reached with its signal undecided".to_string()),
+        Asked::Present(signal) => (format!("answered, and {} is present", question.labels().signal(signal)), "the lowest emit of it that was executed".to_string()),
+        Asked::NotExecuted(emit) => {
+            (format!("answered, and statement {}, emit {}, was not executed", emit, question.signal(emit)), format!("the topmost on the way to it that was not executed: {}", because(question, reach, n)))
+        }
+    };
+    out.line(&format!("instant {}, inputs {}: {}", question.number, inputs(question), what))?;
+    out.line(&format!("statement {} is {}", n, named))?;
+    out.line(tree::HEAD)?;
+    for row in shown(question, n, reach) {
+        out.line(&row)?;
+    }
+    match waiting {
+        Some(waiting) => waits(question, waiting, out)?,
+        None if question.asked == Asked::Refused => out.line("what it waits for could not be followed")?,
+        None => {}
+    }
+    Ok(status::Status::Good)
+}
+
+/// The inputs of the instant, as a run has them.
+pub fn inputs(question: &Question) -> String {
+    changed_inputs(question.given, None, |n| question.labels().input(n))
+}
+
+/// The way to a statement, and all below it, as a tree.
+fn shown(question: &Question, n: usize, reach: &Reach) -> Vec<String> {
+    let way = question.way(n);
+    let level = question.statements[n].level;
+    let below = question.statements[n + 1..].iter().take_while(|s| s.level > level);
+    let rows: Vec<Statement> = way.iter().map(|m| question.statements[*m].clone()).chain(below.cloned()).collect();
+    tree::rows(&rows, question.labels(), |s| mark(question, s, n, &way, reach))
+}
+
+/// What is said behind a statement: what its tests found, and which one is named.
+fn mark(question: &Question, s: &Statement, named: usize, way: &[usize], reach: &Reach) -> Option<String> {
+    let is_asked = question.asked == Asked::NotExecuted(s.number);
+    let words = match question.asked {
+        Asked::NotExecuted(_) if s.number == named => "not executed".to_string(),
+        Asked::Present(_) if s.number == named => "executed".to_string(),
+        _ if is_asked => "asked about".to_string(),
+        _ if way.contains(&s.number) => tested(question, s, reach)?,
+        _ => return None,
+    };
+    Some(format!("<- {}", words))
+}
+
+/// What a test on the way found, in each of its runs.
+fn tested(question: &Question, s: &Statement, reach: &Reach) -> Option<String> {
+    let is_present = s.kind.name == "present";
+    if !is_present && s.kind.name != "suspend" {
+        return None;
+    }
+    let signal = s.operand.unwrap_or(0);
+    let found = reach.visits.iter().filter(|visit| visit.part.0 == s.number).filter_map(|visit| match (is_present, visit.part.1) {
+        (true, Run::Resumed) => Some("resumed"),
+        (false, Run::Started) => None,
+        _ => Some(in_words(question, signal, visit.event.status(signal))),
+    });
+    let mut all: Vec<&str> = found.collect();
+    all.dedup();
+    Some(all.join(", then ")).filter(|words| !words.is_empty())
+}
+
+fn in_words(question: &Question, signal: u16, status: Status) -> &'static str {
+    match status {
+        Status::Present => "present",
+        Status::Absent => "absent",
+        Status::Unknown if usize::from(signal) < question.labels().inputs().len() => "not heard",
+        Status::Unknown => "undecided",
+    }
+}
+
+/// Why the parts above a statement were executed and it was not.
+fn because(question: &Question, reach: &Reach, n: usize) -> String {
+    let above = match question.way(n).iter().rev().nth(1).copied() {
+        Some(above) => above,
+        None => return "the block had ended before".to_string(),
+    };
+    let visits = reach.visits.iter().filter(|visit| visit.part.0 == above);
+    let mut all: Vec<String> = visits.map(|visit| so::kept_from(question, reach.meaning, visit, n)).collect();
+    all.dedup();
+    all.join("; and when it is started again, ")
+}
+
+/// The way round, or the chain to an input.
+fn waits(question: &Question, waiting: &Waiting, out: &mut Out) -> Outcome<()> {
+    let (cycle, chain) = (waiting.cycle(), waiting.chain());
+    let found = "followed in the block, not proved";
+    let name = question.signal(waiting.reach.tests[waiting.named].statement);
+    if let Some(way) = &cycle {
+        let is_round = way.last().map_or(false, |last| last.to == waiting.named);
+        let title = if is_round { format!("how {} waits for itself", name) } else { format!("how {} waits for what waits for itself", name) };
+        out.line(&format!("{} ({}):", title, found))?;
+        arrows(question, waiting, way, out)?;
+    }
+    if let Some(way) = &chain {
+        let also = if cycle.is_some() { "also " } else { "" };
+        out.line(&format!("how it {}waits for an input that is not heard ({}):", also, found))?;
+        arrows(question, waiting, way, out)?;
+        let last = way.last().map_or(waiting.named, |arrow| arrow.to);
+        let test = waiting.reach.tests[last].statement;
+        out.line(&format!("  {} tests {}, which is not heard", test, question.signal(test)))?;
+    }
+    match (&cycle, &chain) {
+        (None, None) => out.line("what it waits for could not be followed"),
+        (Some(_), None) => out.line(&format!("what to do: {}", refusal::advice(13))),
+        _ => out.line("what to do: run it again when more is heard; foldheron run --waits tries which input would settle it"),
+    }
+}
+
+fn arrows(question: &Question, waiting: &Waiting, way: &[Arrow], out: &mut Out) -> Outcome<()> {
+    for arrow in way {
+        let tests = &waiting.reach.tests;
+        let (from, to) = (tests[arrow.from].statement, tests[arrow.to].statement);
+        let mut others: Vec<usize> = waiting.emits(waiting.signal(arrow.from)).map(|emit| emit.statement).filter(|emit| *emit != arrow.emit).collect();
+        others.sort_unstable();
+        others.dedup();
+        let which = format!("emit {}{}", arrow.emit, or(&others));
+        out.line(&format!("  {} tests {}: {} may still come, and {} {}, which tests {}", from, question.signal(from), which, arrow.emit, stands(arrow.stands), question.signal(to)).replace("{to}", &to.to_string()))?;
+    }
+    Ok(())
+}
+
+/// The other emits that may come, a few of them.
+fn or(others: &[usize]) -> String {
+    let words: Vec<String> = others.iter().map(usize::to_string).collect();
+    match words.len() {
+        0 => String::new(),
+        1..=4 => format!(" (or {})", listed(&words).replace(" and ", " or ")),
+        n => format!(" (or one of {} more)", n),
+    }
+}
+
+/// How an emit stands to a test, whose number is put in.
+fn stands(stands: Stands) -> &'static str {
+    match stands {
+        Stands::Under => "stands under {to}",
+        Stands::After => "comes after {to}",
+        Stands::Again => "comes after {to} in the loop's next turn",
+    }
+}
