@@ -87,6 +87,11 @@ impl Shelf {
         format!("choose another name, or withdraw that block first: {}", withdraw)
     }
 
+    /// A shelf that is damaged is mended by no command, and not written over.
+    fn advise_copy(&self) -> String {
+        format!("take the last good copy of it; where there is none, move it away, begin with foldheron shelf {} new and install the blocks from their files", self.word())
+    }
+
     fn too_much(&self, party: u16, block: &[u8]) -> String {
         let entry = counted((ENTRY + block.len()) as u64, "byte");
         format!("party {} holds {}, and this entry has {}: {} and the block", party, self.held_in_words(party), entry, ENTRY)
@@ -111,12 +116,12 @@ impl Shelf {
             (Some(what), _) => (what.to_string(), mean),
             (None, SHELF) => {
                 let wrong = "its bytes are not entries of good blocks and then zeros: something else than these commands changed it";
-                (wrong.to_string(), "take the last good copy of it".to_string())
+                (wrong.to_string(), self.advise_copy())
             }
             (None, size) if size > SHELF => (format!("it has more than {} bytes", grouped(SHELF as u64)), mean),
             (None, size) => {
                 let wrong = format!("it has {}, and a shelf has {}", counted(size as u64, "byte"), grouped(SHELF as u64));
-                (wrong, "it was cut off, or is another file: take the last good copy of it".to_string())
+                (wrong, format!("it was cut off, or is another file: {}", self.advise_copy()))
             }
         }
     }

@@ -30,14 +30,19 @@ pub static COMMAND: Command = Command {
     options: &[
         with("--party", "P", "whose blocks: 0 or 1"),
         with("--name", "N", "the block's name on the shelf, a number up to 65,535; each party has names of its own"),
-        flag("--over", "write over the file that is there, where it is a shelf (new) or a good block (fetch)"),
+        flag("--over", "write over the file that is there, where it is a shelf (new: all blocks of both parties go) or a good block (fetch)"),
         flag("--json", "objects, each on a line of its own"),
     ],
-    more: "new begins an empty shelf. list shows one party its own blocks, in the order in which it installed them, and how many bytes it\n\
-           holds: each block and 8 more. install puts a good block on the shelf, after all that is there; a name that the party has there\n\
-           is refused, and nothing is replaced. fetch writes the party's block of that name into OUT. withdraw takes it off the shelf, and\n\
-           its room serves again; fetch it first where you want to keep it. What one party is told depends on its own calls alone.\n\
-           That holds of these commands, not of the file: who can read it reads both parties' blocks.\n\
+    more: "new begins an empty shelf where there is no file, or an empty one. Any other file it leaves as it is, and ends with 2. With\n\
+           --over it begins an empty shelf in the place of a shelf: the blocks of both parties are gone then. A file that is no shelf, be\n\
+           it a damaged one, is left as it is even so.\n\
+           \n\
+           list shows one party its own blocks, in the order in which it installed them, and how many bytes it holds: each block and 8\n\
+           more. install puts a good block on the shelf, after all that is there; a name that the party has there is refused, and nothing\n\
+           is replaced. fetch writes the party's block of that name into OUT. withdraw takes it off the shelf, and its room serves again;\n\
+           fetch it first where you want to keep it. A shelf keeps blocks and no names of their signals: a names file is not fetched with\n\
+           its block. What one party is told depends on its own calls alone. That holds of these commands, not of the file: who can read\n\
+           it reads both parties' blocks.\n\
            \n\
            A shelf is written beside FILE, flushed to the disk and put in its place in one step: killed at any moment, FILE holds the old\n\
            shelf or the new one, whole. Two that change it at once are kept apart by the system's lock on FILE, for which the second\n\
@@ -88,19 +93,20 @@ fn unknown(word: &str) -> Trouble {
     }
 }
 
-/// The number of an option, of two bytes.
-fn number(words: &Words, option: &str, what: &str) -> Outcome<u16> {
+/// The number of an option, of two bytes: what it is, what is wanted, and what another word is said to be.
+fn number(words: &Words, option: &str, what: &str, wanted: &str, other: &str) -> Outcome<u16> {
     let value = words.value(option).ok_or_else(|| Trouble::call(format!("{} is missing: {}", option, what)))?;
     let text = value.to_string_lossy();
-    text.parse().map_err(|_| Trouble::call(format!("{} wants a number from 0 to 65,535, and '{}' is none", option, files::printable(&text))))
+    text.parse().map_err(|_| Trouble::call(format!("{} wants {}, and '{}' is {}", option, wanted, files::printable(&text), other)))
 }
 
+/// Any number of two bytes goes to the library, which turns down all but two.
 fn party(words: &Words) -> Outcome<u16> {
-    number(words, "--party", "whose blocks, 0 or 1")
+    number(words, "--party", "whose blocks, 0 or 1", "0 or 1", "neither")
 }
 
 fn asked(words: &Words) -> Outcome<Asked> {
-    Ok(Asked { party: party(words)?, name: number(words, "--name", "the block's name, a number")? })
+    Ok(Asked { party: party(words)?, name: number(words, "--name", "the block's name, a number", "a number from 0 to 65,535", "none")? })
 }
 
 /// Tells what is done by now.
