@@ -12,36 +12,6 @@ use Rattle.writing.proofs.put_header.Reads as reads
 use Rattle.writing.proofs.put_header.Lts as lts
 use Rattle.records.proofs.numerals.put_number.Reads as put-number-reads
 
-put-number-requires : tie.Need-put-number-requires
-put-number-requires c κs = search needs
-
-put-number-requires-2 : tie.Need-put-number-requires-2
-put-number-requires-2 c κs = search needs
-
-put-number-requires-3 : tie.Need-put-number-requires-3
-put-number-requires-3 c κs = search needs
-
-cast-put-number : tie.Need-cast-put-number
-cast-put-number c = search needs
-
-put-number-requires-4 : tie.Need-put-number-requires-4
-put-number-requires-4 c κs = search needs
-
-cast-put-number-2 : tie.Need-cast-put-number-2
-cast-put-number-2 c = search needs
-
-put-number-requires-5 : tie.Need-put-number-requires-5
-put-number-requires-5 c κs = search needs
-
-cast-put-number-3 : tie.Need-cast-put-number-3
-cast-put-number-3 c = search needs
-
-put-number-requires-6 : tie.Need-put-number-requires-6
-put-number-requires-6 c κs = search needs
-
-cast-put-number-4 : tie.Need-cast-put-number-4
-cast-put-number-4 c = search needs
-
 put-number-requires-7 : tie.Need-put-number-requires-7
 put-number-requires-7 c κs =
     let at-place = c .before .before .before .before in
@@ -104,16 +74,16 @@ pub put-header-spec : {M : Type 1} → statement M
 put-header-spec =
     tie.close
     (tie.spec
-    put-number-requires
-    put-number-requires-2
-    put-number-requires-3
-    cast-put-number
-    put-number-requires-4
-    cast-put-number-2
-    put-number-requires-5
-    cast-put-number-3
-    put-number-requires-6
-    cast-put-number-4
+    (λ c κs. search needs)
+    (λ c κs. search needs)
+    (λ c κs. search needs)
+    (λ c. search needs)
+    (λ c κs. search needs)
+    (λ c. search needs)
+    (λ c κs. search needs)
+    (λ c. search needs)
+    (λ c κs. search needs)
+    (λ c. search needs)
     put-number-requires-7
     same-length
     returns)

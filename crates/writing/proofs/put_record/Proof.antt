@@ -14,26 +14,11 @@ use Rattle.writing.proofs.put_record.Lts as lts
 use Rattle.block.proofs.kinds.shape_of.Reads as shape-of-reads
 use Rattle.records.proofs.numerals.put_number.Reads as put-number-reads
 
-shape-of-requires : tie.Need-shape-of-requires
-shape-of-requires c κs = search needs
-
-enum-known-shape : tie.Need-enum-known-shape
-enum-known-shape c = search needs
-
 enum-told : tie.Need-enum-told
 enum-told c = search needs
 
 returns : tie.Need-returns
 returns c = let e = sym (c .before .before .shape-of .ensures) ∙ c .enum-told .given .1 in (omega (arith, not-known _ e), not-stored _ _ _ _ e)
-
-cast-end : tie.Need-cast-end
-cast-end c = search needs
-
-add-end : tie.Need-add-end
-add-end c = search needs
-
-cast-put-number : tie.Need-cast-put-number
-cast-put-number c = search needs
 
 put-number-requires : tie.Need-put-number-requires
 put-number-requires c κs =
@@ -44,9 +29,6 @@ put-number-requires c κs =
     let e = sym (p2 .shape-of .ensures) ∙ p1 .shape .given .1 in
     omega (arith, room-for _ _ _ e (p3 .pre) .1)
 
-add-put-number : tie.Need-add-put-number
-add-put-number c = search needs
-
 put-number-requires-2 : tie.Need-put-number-requires-2
 put-number-requires-2 c κs =
     let at-place = c .before .before .before in
@@ -56,9 +38,6 @@ put-number-requires-2 c κs =
     let p4 = p3 .before .before in
     let e = sym (p3 .shape-of .ensures) ∙ p2 .shape .given .1 in
     omega (arith, room-for _ _ _ e (p4 .pre) .1, simp length-sets at (ap length (p1 .put-number .ensures)))
-
-same-length : tie.Need-same-length
-same-length c = search needs
 
 returns-2 : tie.Need-returns-2
 returns-2 c =
@@ -71,9 +50,6 @@ returns-2 c =
     let e = sym (p4 .shape-of .ensures) ∙ p3 .shape .given .1 in
     (ap (λ (n : ℕ). p5 .args .at + n) (shaped _ e .its-length), stored-plain _ _ _ _ e (p2 .put-number .ensures) (p1 .put-number2 .ensures) (c .if1 .taken))
 
-add-put-number-2 : tie.Need-add-put-number-2
-add-put-number-2 c = search needs
-
 put-number-requires-3 : tie.Need-put-number-requires-3
 put-number-requires-3 c κs =
     let p1 = c .before in
@@ -84,9 +60,6 @@ put-number-requires-3 c κs =
     let p6 = p5 .before .before in
     let e = sym (p5 .shape-of .ensures) ∙ p4 .shape .given .1 in
     omega (arith, room-for _ _ _ e (p6 .pre) .2 (p1 .if1 .left), simp length-sets at (ap length (p3 .put-number .ensures)), simp length-sets at (ap length (p2 .put-number2 .ensures)))
-
-same-length-2 : tie.Need-same-length-2
-same-length-2 c = search needs
 
 returns-3 : tie.Need-returns-3
 returns-3 c =
@@ -104,19 +77,19 @@ pub put-record-spec : {M : Type 1} → statement M
 put-record-spec =
     tie.close
     (tie.spec
-    shape-of-requires
-    enum-known-shape
+    (λ c κs. search needs)
+    (λ c. search needs)
     enum-told
     returns
-    cast-end
-    add-end
-    cast-put-number
+    (λ c. search needs)
+    (λ c. search needs)
+    (λ c. search needs)
     put-number-requires
-    add-put-number
+    (λ c. search needs)
     put-number-requires-2
-    same-length
+    (λ c. search needs)
     returns-2
-    add-put-number-2
+    (λ c. search needs)
     put-number-requires-3
-    same-length-2
+    (λ c. search needs)
     returns-3)
