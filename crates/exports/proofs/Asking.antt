@@ -16,7 +16,6 @@ use Rattle.rules.specs.Rounds.{Answer, answered, not-constructive, react}
 use Rattle.rules.specs.Taken.{every, taken}
 use Rattle.rules.specs.Reasons.{Asked, refused, is-present, not-executed, is-emit, cut-off, where-so, reason-from, reason-of}
 use Rattle.rules.proofs.Preorder.{all-counted}
-use Rattle.block.specs.Format.{Good, good, reading}
 use Rattle.block.proofs.GoodReadings.{sound}
 use Rattle.reaction.specs.Fronts.{Front, front}
 use Rattle.reaction.specs.Instants.{block-of, heard-of}
@@ -64,9 +63,9 @@ module _ (b s : List ℕ) (p a : ℕ) where
   nothing-asked : reason-owed b s p a (not-executed 512) ≡ past-tests (front b s (Two p a)) (λ g st. none)
   unfolding past-tests
   nothing-asked =
-      by-front b s (Two p a) (λ (x : Front). past-tests x (λ g st. reason-of (block-of g) st (heard-of g (Two p a)) (not-executed 512)) ≡ past-tests x (λ g st. none)) (λ n at e. refl) refl refl
-      (λ g st pair e. refl) refl
-      (λ g st e h. ap named-owed (no-reason (block-of g) st (heard-of g (Two p a)) (omega (arith, sound b g e .counted, sound b g e .few-statements))))
+      by-front b s (Two p a) (λ (x : Front). past-tests x (λ g st. reason-of (block-of g) st (heard-of g (Two p a)) (not-executed 512)) ≡ past-tests x (λ g st. none)) (λ n at e. refl)
+      (λ g e. refl) (λ g e. refl) (λ g e st h pair q. refl) (λ g e. refl)
+      (λ g e st h. ap named-owed (no-reason (block-of g) st (heard-of g (Two p a)) (omega (arith, sound b g e .counted, sound b g e .few-statements))))
 
   -- What the code's question is owed is what is told.
   pub question-told : (q : Option Asked) → reason-owed b s p a (question-for q) ≡ told-why b s p a q

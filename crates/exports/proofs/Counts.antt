@@ -118,8 +118,8 @@ past-counted : (b s : List ℕ) (given : Given) (said : Good → State → Optio
 unfolding past-tests
 past-counted b s given said =
     by-front b s given (λ (x : Front). Counted 5 (past-tests x said)) (λ n at e. record { counted = refl; small = let r = numbers b n at e in omega (arith, r .1) })
-    (record { counted = refl; small = lit≤ tt }) (record { counted = refl; small = lit≤ tt }) (λ g st pair e. record { counted = refl; small = lit≤ tt })
-    (record { counted = refl; small = lit≤ tt }) (λ g st e h. named-counted (said g st))
+    (λ g e. record { counted = refl; small = lit≤ tt }) (λ g e. record { counted = refl; small = lit≤ tt }) (λ g e st h pair q. record { counted = refl; small = lit≤ tt })
+    (λ g e. record { counted = refl; small = lit≤ tt }) (λ g e st h. named-counted (said g st))
 
 pub why-counted : (b s : List ℕ) (p a : ℕ) (q : Option Asked) → Counted 5 (told-why b s p a q)
 why-counted b s p a (some asked) = past-counted b s (Two p a) (λ g st. reason-of (block-of g) st (heard-of g (Two p a)) asked)

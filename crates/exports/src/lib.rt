@@ -76,9 +76,12 @@ pub extern "C" fn foldheron_instant_logged(
     end: usize,
     answer: &mut [u8],
 ) -> u16
-    ensures { λ r. ⌜ Answers 11 (logged-values (told (logged-verdict (now (block .entry)) (now (state .entry)) inputs (now (log .entry)) end)) (end-after end (logged-verdict (now (block .entry)) (now (state .entry)) inputs (now (log .entry)) end))) (now (answer .entry)) (now (answer .exit)) r ⌝ }
-    ensures { λ _. ⌜ now (state .exit) ≡ lent 11 (now (answer .entry)) (state-after (now (state .entry)) (logged-verdict (now (block .entry)) (now (state .entry)) inputs (now (log .entry)) end)) (now (state .entry)) ⌝ }
-    ensures { λ _. ⌜ now (log .exit) ≡ lent 11 (now (answer .entry)) (log-after (now (log .entry)) end (All inputs) (logged-verdict (now (block .entry)) (now (state .entry)) inputs (now (log .entry)) end)) (now (log .entry)) ⌝ }
+    ensures { λ r. ⌜ Answers 11 (logged-values (told (logged-verdict (now (block .entry)) (now (state .entry)) inputs (now (log .entry)) end))
+        (end-after end (logged-verdict (now (block .entry)) (now (state .entry)) inputs (now (log .entry)) end))) (now (answer .entry)) (now (answer .exit)) r ⌝ }
+    ensures { λ _. ⌜ now (state .exit) ≡ lent 11 (now (answer .entry))
+        (state-after (now (state .entry)) (logged-verdict (now (block .entry)) (now (state .entry)) inputs (now (log .entry)) end)) (now (state .entry)) ⌝ }
+    ensures { λ _. ⌜ now (log .exit) ≡ lent 11 (now (answer .entry))
+        (log-after (now (log .entry)) end (All inputs) (logged-verdict (now (block .entry)) (now (state .entry)) inputs (now (log .entry)) end)) (now (log .entry)) ⌝ }
 {
     if answer.len() != LOGGED {
         return ANSWER;
@@ -98,7 +101,8 @@ pub extern "C" fn foldheron_instant_heard(
     answer: &mut [u8],
 ) -> u16
     ensures { λ r. ⌜ Answers 10 (told-values (told (heard-verdict (now (block .entry)) (now (state .entry)) present absent))) (now (answer .entry)) (now (answer .exit)) r ⌝ }
-    ensures { λ _. ⌜ now (state .exit) ≡ lent 10 (now (answer .entry)) (state-after (now (state .entry)) (heard-verdict (now (block .entry)) (now (state .entry)) present absent)) (now (state .entry)) ⌝ }
+    ensures { λ _. ⌜ now (state .exit) ≡ lent 10 (now (answer .entry))
+        (state-after (now (state .entry)) (heard-verdict (now (block .entry)) (now (state .entry)) present absent)) (now (state .entry)) ⌝ }
 {
     if answer.len() != INSTANT {
         return ANSWER;
@@ -119,9 +123,12 @@ pub extern "C" fn foldheron_instant_heard_logged(
     end: usize,
     answer: &mut [u8],
 ) -> u16
-    ensures { λ r. ⌜ Answers 11 (logged-values (told (heard-logged-verdict (now (block .entry)) (now (state .entry)) present absent (now (log .entry)) end)) (end-after end (heard-logged-verdict (now (block .entry)) (now (state .entry)) present absent (now (log .entry)) end))) (now (answer .entry)) (now (answer .exit)) r ⌝ }
-    ensures { λ _. ⌜ now (state .exit) ≡ lent 11 (now (answer .entry)) (state-after (now (state .entry)) (heard-logged-verdict (now (block .entry)) (now (state .entry)) present absent (now (log .entry)) end)) (now (state .entry)) ⌝ }
-    ensures { λ _. ⌜ now (log .exit) ≡ lent 11 (now (answer .entry)) (log-after (now (log .entry)) end (Two present absent) (heard-logged-verdict (now (block .entry)) (now (state .entry)) present absent (now (log .entry)) end)) (now (log .entry)) ⌝ }
+    ensures { λ r. ⌜ Answers 11 (logged-values (told (heard-logged-verdict (now (block .entry)) (now (state .entry)) present absent (now (log .entry)) end))
+        (end-after end (heard-logged-verdict (now (block .entry)) (now (state .entry)) present absent (now (log .entry)) end))) (now (answer .entry)) (now (answer .exit)) r ⌝ }
+    ensures { λ _. ⌜ now (state .exit) ≡ lent 11 (now (answer .entry))
+        (state-after (now (state .entry)) (heard-logged-verdict (now (block .entry)) (now (state .entry)) present absent (now (log .entry)) end)) (now (state .entry)) ⌝ }
+    ensures { λ _. ⌜ now (log .exit) ≡ lent 11 (now (answer .entry))
+        (log-after (now (log .entry)) end (Two present absent) (heard-logged-verdict (now (block .entry)) (now (state .entry)) present absent (now (log .entry)) end)) (now (log .entry)) ⌝ }
 {
     if answer.len() != LOGGED {
         return ANSWER;

@@ -129,7 +129,8 @@ pub(crate) fn instant_logged(
     log: &mut [u8],
     end: usize,
 ) -> [u64; 11]
-    ensures { λ r. ⌜ r ≡ logged-values (told (logged-verdict (now (block .entry)) (now (state .entry)) inputs (now (log .entry)) end)) (end-after end (logged-verdict (now (block .entry)) (now (state .entry)) inputs (now (log .entry)) end)) ⌝ }
+    ensures { λ r. ⌜ r ≡ logged-values (told (logged-verdict (now (block .entry)) (now (state .entry)) inputs (now (log .entry)) end))
+        (end-after end (logged-verdict (now (block .entry)) (now (state .entry)) inputs (now (log .entry)) end)) ⌝ }
     ensures { λ _. ⌜ now (state .exit) ≡ state-after (now (state .entry)) (logged-verdict (now (block .entry)) (now (state .entry)) inputs (now (log .entry)) end) ⌝ }
     ensures { λ _. ⌜ now (log .exit) ≡ log-after (now (log .entry)) end (All inputs) (logged-verdict (now (block .entry)) (now (state .entry)) inputs (now (log .entry)) end) ⌝ }
 {
@@ -154,7 +155,8 @@ pub(crate) fn instant_heard_logged(
     log: &mut [u8],
     end: usize,
 ) -> [u64; 11]
-    ensures { λ r. ⌜ r ≡ logged-values (told (heard-logged-verdict (now (block .entry)) (now (state .entry)) present absent (now (log .entry)) end)) (end-after end (heard-logged-verdict (now (block .entry)) (now (state .entry)) present absent (now (log .entry)) end)) ⌝ }
+    ensures { λ r. ⌜ r ≡ logged-values (told (heard-logged-verdict (now (block .entry)) (now (state .entry)) present absent (now (log .entry)) end))
+        (end-after end (heard-logged-verdict (now (block .entry)) (now (state .entry)) present absent (now (log .entry)) end)) ⌝ }
     ensures { λ _. ⌜ now (state .exit) ≡ state-after (now (state .entry)) (heard-logged-verdict (now (block .entry)) (now (state .entry)) present absent (now (log .entry)) end) ⌝ }
     ensures { λ _. ⌜ now (log .exit) ≡ log-after (now (log .entry)) end (Two present absent) (heard-logged-verdict (now (block .entry)) (now (state .entry)) present absent (now (log .entry)) end) ⌝ }
 {

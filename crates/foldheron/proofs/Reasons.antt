@@ -23,7 +23,7 @@ use Rattle.reaction.specs.Outcomes.{Meets}
 use Rattle.reaction.proofs.Fronts.{same-block}
 use Rattle.reaction.proofs.Ways.{stopped-in, clash-in, Going}
 use Rattle.foldheron.specs.declared.say_why.Reason.{Reason}
-use Rattle.foldheron.specs.declared.say_why.Reason.the-variants.{Statement, Clash, Refused}
+use Rattle.foldheron.specs.declared.say_why.Reason.the-variants.{Clash, Refused}
 use Rattle.foldheron.specs.Reasons.{reason-values, named-owed, past-tests, reason-owed}
 
 module _ (b s : List ℕ) (p a : ℕ) (asked : Asked) {tab : Table} {r : Grounds} (m : Meets (front b s (Two p a)) tab r) where

@@ -18,8 +18,8 @@ use Rattle.block.proofs.GoodReadings.{numbers}
 use Rattle.records.specs.StateRecord.{version-in, statements-in, Found, not-a-state, state, active-in, read-state, names-block, state-record, Pair, first-clash}
 use Rattle.records.specs.LogRecord.{no-room}
 use Rattle.records.proofs.Reading.{found-sized, named-version, named-statements, named-not}
-use Rattle.reaction.specs.Fronts.{STATE, OTHER-BLOCK, INPUT, stopped, ready, wrong-inputs, try-inputs, try-clash, clash-tried, try-names, try-state, try-block, front}
-use Rattle.reaction.specs.Instants.{CLASH, ROOM, Verdict, refused, clash, reacted, block-of, goes-on, verdict, told, heard-of}
+use Rattle.reaction.specs.Fronts.{STATE, OTHER-BLOCK, INPUT, Front, stopped, clashing, ready, wrong-inputs, try-inputs, try-clash, clash-tried, try-names, try-state, try-block, front}
+use Rattle.reaction.specs.Instants.{CLASH, ROOM, Verdict, clash, reacted, block-of, goes-on, verdict, told, heard-of}
 use Rattle.reaction.specs.declared.Given.{Given}
 use Rattle.foldheron.specs.declared.Part.{Part}
 use Rattle.foldheron.specs.Answers.{check-owed, begun-owed, state-owed, absent-part, part-owed}
@@ -73,11 +73,11 @@ of-the-block b n at e ts = let r = numbers b n at e in one-of b n at e one-to-8 
 
 -- 9, 17, 10, 11, then the tests in the middle (of the log call, 12), then 13.
 module _ (b s : List ℕ) (w : Given) (g : Good) (e : reading b ≡ good g) where
-  same-block : (x : Good) → reading b ≡ good x → g ≡ x
+  pub same-block : (x : Good) → reading b ≡ good x → g ≡ x
   same-block x q = let d : good g ≡ good x = sym e ∙ q in cc
 
   module _ (st : State) (h : read-state (g .pauses) s ≡ state st) where
-    same-state : (x : Good) (y : State) → HeldBy b s x y → st ≡ y
+    pub same-state : (x : Good) (y : State) → HeldBy b s x y → st ≡ y
     same-state x y q =
         let d : state st ≡ state y = sym h ∙ ap (λ (z : Good). read-state (z .pauses) s) (same-block x (q .is-good)) ∙ q .is-found in
         cc
@@ -151,42 +151,37 @@ module _ (b s : List ℕ) (w : Given) (g : Good) (e : reading b ≡ good g) wher
     code-first (not-constructive vs n) q = inl (unsettled (code-unknown (block-of g) st (heard-of g w) (checked b g e) vs n q), refl)
     code-first (answered vs c st′ n) q = inr ((λ t. code-known (block-of g) st (heard-of g w) (checked b g e) vs c st′ n q (settled t)), refl)
 
-    module _ (roomless : Bool) (middle : List Test) (full : roomless ≡ true → (ts : List Test) → First (middle ++ ts) ROOM)
-        (room : roomless ≡ false → (ts : List Test) (n : ℕ) → First ts n → First (middle ++ ts) n) where
-      inputs-first : First (input-test b w ∷ (middle ++ code-test b s w ∷ [])) (told (goes-on w roomless (try-inputs g st w)) .number)
-      unfolding told try-inputs goes-on
-      inputs-first = go (wrong-inputs (g .header .inputs) w) refl roomless refl
+    -- The tests that come last apply to what is made of a state that was found.
+    module _ (made : Front → ℕ) (stops : (n at : ℕ) → made (stopped n at) ≡ n) (clashes : (pair : Pair) → made (clashing pair) ≡ CLASH) (late : List Test)
+        (last : First late (made (ready g st))) where
+      inputs-first : First (input-test b w ∷ late) (made (try-inputs g st w))
+      unfolding try-inputs
+      inputs-first = go (wrong-inputs (g .header .inputs) w) refl
         where
-          go : (x : Bool) → wrong-inputs (g .header .inputs) w ≡ x → (y : Bool) → roomless ≡ y
-              → First (input-test b w ∷ (middle ++ code-test b s w ∷ []))
-              (told (goes-on w y (cond x (stopped INPUT 0) (ready g st))) .number)
-          go true q y r = inl (input-some q, refl)
-          go false q true r = inr (input-none q, full r (code-test b s w ∷ []))
-          go false q false r = inr (input-none q, room r (code-test b s w ∷ []) _ (code-first (react (block-of g) st (heard-of g w)) refl))
+          go : (x : Bool) → wrong-inputs (g .header .inputs) w ≡ x → First (input-test b w ∷ late) (made (cond x (stopped INPUT 0) (ready g st)))
+          go true q = inl (input-some q, stops INPUT 0)
+          go false q = inr (input-none q, last)
 
-      clash-first : (c : Option Pair) → first-clash (g .body) (active-of st) ≡ c
-          → First (clash-test b s ∷ input-test b w ∷ (middle ++ code-test b s w ∷ [])) (told (goes-on w roomless (try-clash g st w c)) .number)
-      unfolding told try-clash goes-on
+      clash-first : (c : Option Pair) → first-clash (g .body) (active-of st) ≡ c → First (clash-test b s ∷ input-test b w ∷ late) (made (try-clash g st w c))
+      unfolding try-clash
       clash-first none q = inr (clash-none q, inputs-first)
-      clash-first (some pair) q = inl (clash-some pair q, refl)
+      clash-first (some pair) q = inl (clash-some pair q, clashes pair)
 
-      names-first : First (names-test b s ∷ clash-test b s ∷ input-test b w ∷ (middle ++ code-test b s w ∷ [])) (told (goes-on w roomless (try-names g st s w)) .number)
-      unfolding told try-names goes-on
+      names-first : First (names-test b s ∷ clash-test b s ∷ input-test b w ∷ late) (made (try-names g st s w))
+      unfolding try-names
       names-first = go (names-block (g .header .version) (g .statements) s) refl
         where
           go : (x : Bool) → names-block (g .header .version) (g .statements) s ≡ x
-              → First (names-test b s ∷ clash-test b s ∷ input-test b w ∷ (middle ++ code-test b s w ∷ []))
-              (told (goes-on w roomless (cond x (clash-tried g st w) (stopped OTHER-BLOCK 0))) .number)
+              → First (names-test b s ∷ clash-test b s ∷ input-test b w ∷ late) (made (cond x (clash-tried g st w) (stopped OTHER-BLOCK 0)))
           go true q = inr (other-none q, clash-first (first-clash (g .body) (active-of st)) refl)
-          go false q = inl (other-some q, refl)
+          go false q = inl (other-some q, stops OTHER-BLOCK 0)
 
-  module _ (roomless : Bool) (middle : List Test) (full : roomless ≡ true → (ts : List Test) → First (middle ++ ts) ROOM)
-      (room : roomless ≡ false → (ts : List Test) (n : ℕ) → First ts n → First (middle ++ ts) n) where
-    state-first : (f : Found) → read-state (g .pauses) s ≡ f
-        → First (state-test b s ∷ names-test b s ∷ clash-test b s ∷ input-test b w ∷ (middle ++ code-test b s w ∷ [])) (told (goes-on w roomless (try-state g s w f)) .number)
-    unfolding told try-state goes-on
-    state-first not-a-state q = inl (record { block = g; is-good = e; wrong = read-wrong (g .pauses) s q }, refl)
-    state-first (state st) q = inr (right, names-first st q roomless middle full room)
+  module _ (made : Front → ℕ) (stops : (n at : ℕ) → made (stopped n at) ≡ n) (clashes : (pair : Pair) → made (clashing pair) ≡ CLASH) (late : List Test)
+      (last : (st : State) → read-state (g .pauses) s ≡ state st → First late (made (ready g st))) where
+    state-first : (f : Found) → read-state (g .pauses) s ≡ f → First (state-test b s ∷ names-test b s ∷ clash-test b s ∷ input-test b w ∷ late) (made (try-state g s w f))
+    unfolding try-state
+    state-first not-a-state q = inl (record { block = g; is-good = e; wrong = read-wrong (g .pauses) s q }, stops STATE 0)
+    state-first (state st) q = inr (right, names-first st q made stops clashes late (last st q))
       where
         right : NoState b s → ⊥
         right t =
@@ -194,19 +189,32 @@ module _ (b s : List ℕ) (w : Given) (g : Good) (e : reading b ≡ good g) wher
             let z : _≡_ {A = ℕ} 0 1 = cc in
             omega arith
 
+-- So for any call that makes these tests: a number is made of what they come to, and of a block and a state that pass it is that of the tests that come last.
+pub front-first : (b s : List ℕ) (w : Given) (made : Front → ℕ) → ((n at : ℕ) → made (stopped n at) ≡ n) → ((pair : Pair) → made (clashing pair) ≡ CLASH)
+    → (late : List Test) → ((g : Good) → reading b ≡ good g → (st : State) → read-state (g .pauses) s ≡ state st → First late (made (ready g st)))
+    → First (block-tests b ++ state-test b s ∷ names-test b s ∷ clash-test b s ∷ input-test b w ∷ late) (made (front b s w))
+unfolding front try-block
+front-first b s w made stops clashes late last = go (reading b) refl
+  where
+    all : List Test
+    all = state-test b s ∷ names-test b s ∷ clash-test b s ∷ input-test b w ∷ late
+
+    go : (x : Reading) → reading b ≡ x → First (block-tests b ++ all) (made (try-block s w x))
+    go (good g) e = past-block b g e one-to-8 all (made (try-state g s w (read-state (g .pauses) s)))
+        (state-first b s w g e made stops clashes late (λ st q. last g e st q) (read-state (g .pauses) s) refl)
+    go (turned-down n at) e = subst (First (block-tests b ++ all)) (sym (stops n at)) (of-the-block b n at e all)
+
 pub verdict-first : (b s : List ℕ) (w : Given) (roomless : Bool) (middle : List Test) → (roomless ≡ true → (ts : List Test) → First (middle ++ ts) ROOM)
     → (roomless ≡ false → (ts : List Test) (n : ℕ) → First ts n → First (middle ++ ts) n)
     → First (block-tests b ++ state-test b s ∷ names-test b s ∷ clash-test b s ∷ input-test b w ∷ (middle ++ code-test b s w ∷ [])) (told (verdict b s w roomless) .number)
-unfolding told verdict front try-block goes-on
-verdict-first b s w roomless middle full room = go (reading b) refl
+unfolding told verdict goes-on
+verdict-first b s w roomless middle full room =
+    front-first b s w (λ x. told (goes-on w roomless x) .number) (λ n at. refl) (λ pair. refl) (middle ++ code-test b s w ∷ []) (λ g e st q. go g e st q roomless refl)
   where
-    late : List Test
-    late = state-test b s ∷ names-test b s ∷ clash-test b s ∷ input-test b w ∷ (middle ++ code-test b s w ∷ [])
-
-    go : (x : Reading) → reading b ≡ x → First (block-tests b ++ late) (told (goes-on w roomless (try-block s w x)) .number)
-    go (good g) e = past-block b g e one-to-8 late (told (goes-on w roomless (try-state g s w (read-state (g .pauses) s))) .number)
-        (state-first b s w g e roomless middle full room (read-state (g .pauses) s) refl)
-    go (turned-down n at) e = of-the-block b n at e late
+    go : (g : Good) → reading b ≡ good g → (st : State) → read-state (g .pauses) s ≡ state st → (y : Bool) → roomless ≡ y
+        → First (middle ++ code-test b s w ∷ []) (told (goes-on w y (ready g st)) .number)
+    go g e st q true r = full r (code-test b s w ∷ [])
+    go g e st q false r = room r (code-test b s w ∷ []) _ (code-first b s w g e st q (react (block-of g) st (heard-of g w)) refl)
 
 -- The place, and the pair of a CLASH.
 past-tests : (b s : List ℕ) (w : Given) (roomless : Bool) (g : Good) → reading b ≡ good g

@@ -22,7 +22,7 @@ use Rattle.promises.proofs.Records.{inputs-pass, checked, held-is-legal
 use Rattle.promises.proofs.Telling.{tells}
 
 module _ (b : List ℕ) (g : Good) (e : reading b ≡ good g) (s : List ℕ) (st : State) (h : Holds g s st) (w : Inputs g) where
-  all-tests-pass : front b s (w .given) ≡ ready g st
+  pub all-tests-pass : front b s (w .given) ≡ ready g st
   unfolding front try-block try-state try-names try-clash try-inputs
   all-tests-pass =
       ap (try-block s (w .given)) e ∙ ap (try-state g s (w .given)) (h .found)

@@ -18,11 +18,15 @@ use Rattle.foldheron.specs.declared.Begun.{Begun}
 use Rattle.foldheron.specs.declared.Part.{Part}
 use Rattle.reaction.specs.declared.Instant.{Instant}
 use Rattle.foldheron.specs.declared.Logged.{Logged}
+use Rattle.reasons.specs.Taking.{asked-of}
+use Rattle.reasons.specs.declared.asked.Asked.{Asked}
+use Rattle.foldheron.specs.declared.say_why.Reason.{Reason}
+use Rattle.foldheron.specs.Reasons.{reason-values, reason-owed}
 use Rattle.shelf.specs.declared.Shelved.{Shelved}
 use Rattle.reaction.specs.Answers.{instant-told}
 use Rattle.refusals.specs.Refusals.{number}
 use Rattle.foldheron.specs.Answers.{check-values, check-owed, begun-values, begun-owed, state-owed, part-owed, part-lies}
-use Rattle.promises.specs.Calls.{_holds_, CheckCalled, FreshCalled, CalledFor, LoggedFor, with-set, with-two, PartCalled, ExcerptCalled}
+use Rattle.promises.specs.Calls.{_holds_, CheckCalled, FreshCalled, CalledFor, LoggedFor, with-set, with-two, PartCalled, ExcerptCalled, ReasonCalled}
 use Rattle.promises.specs.Calls.{InstallCalled, FetchCalled, WithdrawCalled, NumberCalled}
 
 module _ (b : List ℕ) where
@@ -69,6 +73,9 @@ module _ (b : List ℕ) where
 
     pub excerpt-place : p ≡ part-owed (reading b) n .place
     excerpt-place = c .call .learnt .1 .1
+
+  pub reason-says : {s : List ℕ} {p a : ℕ} {asked : Asked} {r : Reason} → ReasonCalled b s p a asked r → reason-values r ≡ reason-owed b s p a (asked-of asked)
+  reason-says c = c .call .learnt
 
 module _ {s : List ℕ} {party name : ℕ} where
   pub install-says : {b s′ : List ℕ} {r : Shelved} → InstallCalled s party name b r s′

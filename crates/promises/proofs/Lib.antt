@@ -10,6 +10,8 @@ pub mod RecordTests
 pub mod FirstRecord
 pub mod Tests
 pub mod FirstRefusal
+pub mod Why
+pub mod Reasons
 pub mod LoggedRuns
 pub mod Demand1
 pub mod Heard

@@ -75,14 +75,18 @@ clash-apart : (p : Stmt) (A : Numbers) (o : Option ℕ) (pair : Pair) → with-s
 clash-apart p A none pair e = let z : _≡_ {A = ℕ} 0 1 = cc in absurd (omega arith)
 clash-apart p A (some m) pair e = second-above p A m (lowest 128 (clashes p A m)) pair refl e
 
+pub second-is-above : (p : Stmt) (A : Numbers) (pair : Pair) → first-clash p A ≡ some pair → pair .first < pair .second
+unfolding first-clash
+second-is-above p A pair e = clash-apart p A (lowest 128 (λ m. some-to (clashes p A m) 127)) pair e
+
 state-apart : (g : Good) (s : List ℕ) (given : Given) (roomless : Bool) (f : Found) → Apart (goes-on given roomless (try-state g s given f))
-unfolding Apart try-state try-names try-clash goes-on first-clash
+unfolding Apart try-state try-names try-clash goes-on
 state-apart g s given roomless not-a-state = ((λ e. omega arith), (λ e. omega arith))
 state-apart g s given roomless (state st) = named (names-block (g .header .version) (g .statements) s)
   where
     go : (o : Option Pair) → first-clash (g .body) (active-of st) ≡ o → Apart (goes-on given roomless (try-clash g st given o))
     go none e = inputs-apart g st given roomless
-    go (some pair) e = clash-apart (g .body) (active-of st) (lowest 128 (λ m. some-to (clashes (g .body) (active-of st) m) 127)) pair e
+    go (some pair) e = second-is-above (g .body) (active-of st) pair e
 
     named : (x : Bool) → Apart (goes-on given roomless (cond x (clash-tried g st given) (stopped OTHER-BLOCK 0)))
     named true = go (first-clash (g .body) (active-of st)) refl

@@ -16,6 +16,8 @@ use Rattle.reaction.specs.declared.Given.{Given}
 use Rattle.reaction.specs.declared.Given.the-variants.{All, Two}
 use Rattle.reaction.specs.declared.Instant.{Instant}
 use Rattle.foldheron.specs.declared.Logged.{Logged}
+use Rattle.reasons.specs.declared.asked.Asked.{Asked}
+use Rattle.foldheron.specs.declared.say_why.Reason.{Reason}
 use Rattle.shelf.specs.declared.Shelved.{Shelved}
 use Rattle.reaction.specs.Answers.{instant-told}
 use Rattle.refusals.proofs.number_of.Reads as number_of
@@ -27,6 +29,7 @@ use Rattle.foldheron.proofs.instant.Reads as instant
 use Rattle.foldheron.proofs.instant_logged.Reads as instant_logged
 use Rattle.foldheron.proofs.instant_heard.Reads as instant_heard
 use Rattle.foldheron.proofs.instant_heard_logged.Reads as instant_heard_logged
+use Rattle.foldheron.proofs.reason.Reads as reason
 use Rattle.shelf.proofs.install.Reads as install
 use Rattle.shelf.proofs.fetch.Reads as fetch
 use Rattle.shelf.proofs.withdraw.Reads as withdraw
@@ -93,6 +96,10 @@ pub record ExcerptCalled (b : List ℕ) (n : ℕ) (part : List ℕ) (k p : ℕ) 
   pub place-before : ℕ
   pub call : Call 3 λ κs at.
       excerpt.Learnt κs (at 0 holds b, (n, (at 1 holds number-before, (at 2 holds place-before, tt)))) (at 3 holds part) (at 0 holds b, (n, (at 1 holds k, (at 2 holds p, tt))))
+
+-- `reason` on block b, state's bytes s, the inputs present and the inputs absent, and a question answers r. Nothing that is lent to it may be written.
+pub record ReasonCalled (b s : List ℕ) (p a : ℕ) (asked : Asked) (r : Reason) : Type 0 where
+  pub call : Call 2 λ κs at. reason.Learnt κs (at 0 holds b, (at 1 holds s, (p, (a, (asked, tt))))) r (at 0 holds b, (at 1 holds s, (p, (a, (asked, tt)))))
 
 -- `install` of the block b under a party's name on the lent shelf s answers r and leaves s′.
 pub record InstallCalled (s : List ℕ) (party name : ℕ) (b : List ℕ) (r : Shelved) (s′ : List ℕ) : Type 0 where

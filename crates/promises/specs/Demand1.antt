@@ -13,10 +13,12 @@ use borrow.Fn.Kinds.{PK, In, Dens}
 use Rattle.sets.specs.Numbers.{Numbers}
 use Rattle.sets.specs.Words.{bits, word}
 use Rattle.rules.specs.Statements.{Block, nothing}
-use Rattle.rules.specs.Events.{Status, event}
+use Rattle.rules.specs.Events.{Status, present, Hearing, event}
 use Rattle.rules.specs.MustCan.{must, gives}
 use Rattle.rules.specs.States.{State, active-of, compatible, step}
-use Rattle.rules.specs.Rounds.{begin, Rounds}
+use Rattle.rules.specs.Rounds.{begin, Rounds, Answer, answered, not-constructive, outputs-with, react}
+use Rattle.rules.specs.Reasons.{Asked, refused, is-present, not-executed}
+use Rattle.theorems.specs.Why.{WasNotExecuted}
 use Rattle.block.specs.Format.{BROKEN, KIND, EDITION, LIMIT, SIGNAL, EXIT, SHAPE, LOOP, Good, Reading, good, turned-down, reading}
 use Rattle.records.specs.StateRecord.{length-in, kind-in, version-in, statements-in, phase-in, state, active-in, none-active, read-state}
 use Rattle.records.specs.LogRecord.{log-record}
@@ -25,6 +27,7 @@ use Rattle.reaction.specs.Instants.{CLASH, ROOM, NOT-CONSTRUCTIVE, block-of, To
 use Rattle.reaction.specs.declared.Given.{Given}
 use Rattle.reaction.specs.declared.Given.the-variants.{All, Two}
 use Rattle.foldheron.specs.declared.Logged.{Logged}
+use Rattle.foldheron.specs.Reasons.{QUESTION}
 use Rattle.reaction.specs.Answers.{instant-told}
 use Rattle.promises.specs.Tests.{Test}
 use Rattle.promises.specs.FirstRecord.{Decides}
@@ -127,6 +130,22 @@ pub record NoStatement (b : List ℕ) (n : ℕ) : Type 0 where
   pub is-good : reading b ≡ good block
   pub at-or-above : block .statements ≤ n
 
+-- 16 QUESTION: the thing asked about is not so, of the instant of a good block from the state that its record holds. So it is, where the instant is refused with 13;
+-- of an answered one where the signal is an output and present, or where the statement is an emit that was not executed.
+abbrev pub IsSo : Asked → Block → State → Hearing → Answer → Type 0
+IsSo refused k st heard (answered vs c st′ n) = ⊥
+IsSo refused k st heard (not-constructive vs n) = Unit {0}
+IsSo (is-present x) k st heard (answered vs c st′ n) = T (outputs-with present k vs x)
+IsSo (is-present x) k st heard (not-constructive vs n) = ⊥
+IsSo (not-executed m) k st heard (answered vs c st′ n) = WasNotExecuted (k .body) st (event k heard vs) m
+IsSo (not-executed m) k st heard (not-constructive vs n) = ⊥
+
+pub record NotSo (b s : List ℕ) (w : Given) (asked : Asked) : Type 0 where
+  pub block : Good
+  pub from : State
+  pub held : HeldBy b s block from
+  pub not-so : IsSo asked (block-of block) from (heard-of block w) (react (block-of block) from (heard-of block w)) → ⊥
+
 -- The tests in the written order. Of a block, 1 to 8; of `fresh` then another size than 26 bytes; of an excerpt then 14;
 abbrev pub of-block : List ℕ → List ℕ → List Test
 of-block b [] = []
@@ -168,6 +187,13 @@ instant-tests b s w = block-tests b ++ state-test b s ∷ names-test b s ∷ cla
 
 abbrev pub logged-tests : List ℕ → List ℕ → Given → List ℕ → ℕ → List Test
 logged-tests b s w log end = block-tests b ++ state-test b s ∷ names-test b s ∷ clash-test b s ∷ input-test b w ∷ room-test log end ∷ code-test b s w ∷ []
+
+-- of a question 9, 17, 10, 11, then 16.
+abbrev pub question-test : List ℕ → List ℕ → Given → Asked → Test
+question-test b s w asked = record { number = QUESTION; Applies = NotSo b s w asked }
+
+abbrev pub reason-tests : List ℕ → List ℕ → Given → Asked → List Test
+reason-tests b s w asked = block-tests b ++ state-test b s ∷ names-test b s ∷ clash-test b s ∷ input-test b w ∷ question-test b s w asked ∷ []
 
 -- A function gets by with any arguments and returns: nothing is asked of a caller, and its own code meets its contract, which is to return with
 -- what the contract says. A function is given by its number of lifetimes, its parameters' kinds, its `Asked` and its `statement`.
@@ -211,6 +237,13 @@ number-in values = getD values 0 0
 
 abbrev pub place-in : List ℕ → ℕ
 place-in values = getD values 1 0
+
+-- The pair in a reason's values.
+abbrev pub first-in : List ℕ → ℕ
+first-in values = getD values 2 0
+
+abbrev pub second-in : List ℕ → ℕ
+second-in values = getD values 3 0
 
 -- Where an answer's place is: of 1 to 8 the one at which the block is turned down with this number, else 0.
 pub data PlacedBy (b : List ℕ) : ℕ → ℕ → Type 0 where

@@ -2,7 +2,7 @@
 use mathlib.Core.Path.{_≡_, refl, sym, _∙_, ap, ap₂, subst}
 use mathlib.Core.Bool.{Bool, true, false, true≢false}
 use mathlib.Core.List.{List}
-use Prim.Native.Nat.{ℕ, _+_, _^_, _≤_, _<_}
+use Prim.Native.Nat.{ℕ, _^_, _<_}
 use native.Mathlib.Omega.{arith}
 use lib.ListN.{getD}
 use mir.Val.{Fits}
@@ -35,7 +35,7 @@ use Rattle.reaction.specs.declared.Met.{Met}
 use Rattle.reaction.specs.declared.Met.the-variants as met
 use Rattle.reaction.specs.declared.Outcome.{Outcome}
 use Rattle.reaction.specs.Fronts.{Front, stopped, clashing, ready, front}
-use Rattle.reaction.specs.Instants.{Verdict, refused, clash, reacted, block-of, heard-in, heard-of, goes-on, verdict, told-reaction, told-refusal, told}
+use Rattle.reaction.specs.Instants.{refused, clash, reacted, block-of, heard-in, heard-of, goes-on, verdict, told-reaction, told-refusal, told}
 use Rattle.reaction.specs.Answers.{instant-told}
 use Rattle.reaction.specs.Outcomes.{Writes, Hears, case-of, case-for, Comes, Opened, Begins, Means, Meets}
 use Rattle.reaction.proofs.Fronts.{same-block}

@@ -160,7 +160,8 @@ fn past_tests(
     roomless: bool,
 ) -> Outcome
     requires { ⌜ ((g : Good) × Opened (table-of (now kinds) (now operands) (now sizes)) s g) ⌝ }
-    ensures { λ o. ⌜ ((g : Good) → Opened (table-of (now (kinds .entry)) (now (operands .entry)) (now (sizes .entry))) s g → (st : State) → Begins st phase set → Comes given (goes-on given roomless (ready g st)) o) ⌝ }
+    ensures { λ o. ⌜ ((g : Good) → Opened (table-of (now (kinds .entry)) (now (operands .entry)) (now (sizes .entry))) s g
+        → (st : State) → Begins st phase set → Comes given (goes-on given roomless (ready g st)) o) ⌝ }
 {
     if roomless {
         return no_state(Instant::Refused(Why::Room, 0));

@@ -60,7 +60,8 @@ fn at_clash(
     given: Given,
 ) -> Grounds
     requires { ⌜ ((xs : List ℕ) × (g : Good) × Opened (table-of (now kinds) xs (now sizes)) s g × ((k : ℕ) → T (set-of set k) → k < g .pauses)) ⌝ }
-    ensures { λ r. ⌜ ((xs : List ℕ) (g : Good) → Opened (table-of (now (kinds .entry)) xs (now (sizes .entry))) s g → ((k : ℕ) → T (set-of set k) → k < g .pauses) → (st : State) → Begins st phase set → Meets (fronts.clash-tried g st given) (table-of (now (kinds .entry)) xs (now (sizes .entry))) r) ⌝ }
+    ensures { λ r. ⌜ ((xs : List ℕ) (g : Good) → Opened (table-of (now (kinds .entry)) xs (now (sizes .entry))) s g
+        → ((k : ℕ) → T (set-of set k) → k < g .pauses) → (st : State) → Begins st phase set → Meets (fronts.clash-tried g st given) (table-of (now (kinds .entry)) xs (now (sizes .entry))) r) ⌝ }
 {
     let count = s.statements;
     let found = first_clash(kinds, sizes, count, s.pauses, set);
@@ -81,7 +82,9 @@ fn at_names(
     given: Given,
 ) -> Grounds
     requires { ⌜ ((xs : List ℕ) × (g : Good) × Opened (table-of (now kinds) xs (now sizes)) s g × ((k : ℕ) → T (set-of set k) → k < g .pauses)) ⌝ }
-    ensures { λ r. ⌜ ((xs : List ℕ) (g : Good) → Opened (table-of (now (kinds .entry)) xs (now (sizes .entry))) s g → ((k : ℕ) → T (set-of set k) → k < g .pauses) → (st : State) → Begins st phase set → Meets (fronts.try-names g st (now (state .entry)) given) (table-of (now (kinds .entry)) xs (now (sizes .entry))) r) ⌝ }
+    ensures { λ r. ⌜ ((xs : List ℕ) (g : Good) → Opened (table-of (now (kinds .entry)) xs (now (sizes .entry))) s g
+        → ((k : ℕ) → T (set-of set k) → k < g .pauses) → (st : State) → Begins st phase set
+        → Meets (fronts.try-names g st (now (state .entry)) given) (table-of (now (kinds .entry)) xs (now (sizes .entry))) r) ⌝ }
 {
     if names_block(state, s.version, s.statements) {
         return at_clash(kinds, sizes, s, phase, set, given);
@@ -98,7 +101,8 @@ fn at_state(
     given: Given,
 ) -> Grounds
     requires { ⌜ ((xs : List ℕ) × (g : Good) × Opened (table-of (now kinds) xs (now sizes)) s g) ⌝ }
-    ensures { λ r. ⌜ ((xs : List ℕ) (g : Good) → Opened (table-of (now (kinds .entry)) xs (now (sizes .entry))) s g → Meets (fronts.try-state g (now (state .entry)) given (read-state (g .pauses) (now (state .entry)))) (table-of (now (kinds .entry)) xs (now (sizes .entry))) r) ⌝ }
+    ensures { λ r. ⌜ ((xs : List ℕ) (g : Good) → Opened (table-of (now (kinds .entry)) xs (now (sizes .entry))) s g
+        → Meets (fronts.try-state g (now (state .entry)) given (read-state (g .pauses) (now (state .entry)))) (table-of (now (kinds .entry)) xs (now (sizes .entry))) r) ⌝ }
 {
     let held = read_state(state, s.pauses);
     let phase = held.phase;
