@@ -40,6 +40,7 @@ pub fn meaning(number: u16) -> String {
         12 => format!("fewer than {} bytes are left in the log", RECORD),
         13 => "the rules leave the code unknown: a signal waits for itself, perhaps by way of others".to_string(),
         14 => "there is no statement of that number".to_string(),
+        16 => "what is asked about is not so".to_string(),
         17 => "the state names another version, or another statement count, than this block has".to_string(),
         _ => "it was turned down".to_string(),
     }

@@ -2,6 +2,8 @@
 //! answer does not.
 
 use crate::walk::Statement;
+use std::cell::RefCell;
+use std::collections::HashMap;
 
 /// A statement of a good block: its kind's name, its signal or depth, its parts by number, and the pauses in it.
 pub struct Node {
@@ -11,7 +13,7 @@ pub struct Node {
     pauses: u128,
 }
 
-#[derive(Clone, Copy, PartialEq, Eq, Debug)]
+#[derive(Clone, Copy, PartialEq, Eq, Hash, Debug)]
 pub enum Run {
     Started,
     Resumed,
@@ -28,7 +30,7 @@ pub enum Status {
 }
 
 /// The signals that are present and those that are absent; the others are unknown.
-#[derive(Clone, Copy, PartialEq, Eq, Debug)]
+#[derive(Clone, Copy, PartialEq, Eq, Hash, Debug)]
 pub struct Event {
     pub present: u64,
     pub absent: u64,
@@ -69,7 +71,10 @@ pub struct Can {
 /// A block's tree with the pauses that are active as the instant begins.
 pub struct Meaning {
     pub nodes: Vec<Node>,
-    pub active: u128,
+    active: u128,
+    /// What is reckoned already: locals inside each other would ask the same again and again.
+    musts: RefCell<HashMap<(Part, Event), Must>>,
+    cans: RefCell<HashMap<(Part, bool, Event), Can>>,
 }
 
 impl Meaning {
@@ -86,7 +91,7 @@ impl Meaning {
             above.iter().for_each(|m| nodes[*m].pauses |= pauses(n));
             above.push(n);
         }
-        Meaning { nodes, active }
+        Meaning { nodes, active, musts: RefCell::default(), cans: RefCell::default() }
     }
 
     fn holds(&self, n: usize) -> bool {
@@ -147,6 +152,15 @@ impl Meaning {
     }
 
     fn must(&self, part: Part, e: Event) -> Must {
+        let known = self.musts.borrow().get(&(part, e)).copied();
+        known.unwrap_or_else(|| {
+            let must = self.must_anew(part, e);
+            self.musts.borrow_mut().insert((part, e), must);
+            must
+        })
+    }
+
+    fn must_anew(&self, part: Part, e: Event) -> Must {
         let (n, run) = part;
         let node = &self.nodes[n];
         let code = |code: u32| Must { signals: 0, code: Some(code) };
@@ -189,6 +203,15 @@ impl Meaning {
 
     /// What a part can do, for sure executed or not.
     pub fn can(&self, part: Part, sure: bool, e: Event) -> Can {
+        let known = self.cans.borrow().get(&(part, sure, e)).copied();
+        known.unwrap_or_else(|| {
+            let can = self.can_anew(part, sure, e);
+            self.cans.borrow_mut().insert((part, sure, e), can);
+            can
+        })
+    }
+
+    fn can_anew(&self, part: Part, sure: bool, e: Event) -> Can {
         let (n, run) = part;
         let node = &self.nodes[n];
         let code = |code: u32| Can { signals: 0, codes: 1 << code };

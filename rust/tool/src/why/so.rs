@@ -6,6 +6,7 @@ use super::words::inputs;
 use super::Question;
 use crate::labels::Sort;
 use crate::refusal;
+use crate::run::words::code;
 use crate::sets::sentence;
 use crate::status;
 use crate::trouble::Trouble;
@@ -36,7 +37,7 @@ pub fn is_so(question: &Question, number: u16) -> String {
     match (question.asked, &question.answer) {
         (Asked::Refused, Instant::Answered(r)) => {
             let present = if r.present == 0 { "no output".to_string() } else { sentence(r.present, |n| labels.output(n)) };
-            format!("the instant was answered, with {} present and code {}", present, r.code)
+            format!("the instant was answered, with {} present and code {}", present, code(r.code))
         }
         (Asked::Present(n), _) if labels.sort(n) == Some(Sort::Input) => format!("{} is an input, and no output", labels.signal(n)),
         (Asked::Present(n), _) if labels.sort(n) == Some(Sort::Local) => format!("{} is a local, and no output", labels.signal(n)),

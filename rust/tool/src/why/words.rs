@@ -119,10 +119,25 @@ fn waits(question: &Question, waiting: &Waiting, out: &mut Out) -> Outcome<()> {
         let test = waiting.reach.tests[last].statement;
         out.line(&format!("  {} tests {}, which is not heard", test, question.signal(test)))?;
     }
+    others(question, waiting, out)?;
     match (&cycle, &chain) {
         (None, None) => out.line("what it waits for could not be followed"),
         (Some(_), None) => out.line(&format!("what to do: {}", refusal::advice(13))),
         _ => out.line("what to do: run it again when more is heard; foldheron run --waits tries which input would settle it"),
+    }
+}
+
+/// The undecided tests that the named one does not wait for, a few of them.
+fn others(question: &Question, waiting: &Waiting, out: &mut Out) -> Outcome<()> {
+    let met = waiting.met();
+    let tests = &waiting.reach.tests;
+    let mut more: Vec<usize> = (0..tests.len()).filter(|n| !met.contains(n)).map(|n| tests[n].statement).collect();
+    more.dedup();
+    let words: Vec<String> = more.iter().take(4).map(|test| format!("{} of {}", test, question.signal(*test))).collect();
+    match more.len() {
+        0 => Ok(()),
+        1..=4 => out.line(&format!("other tests that are reached undecided: {}", listed(&words))),
+        n => out.line(&format!("other tests that are reached undecided: {}, and {} more", words.join(", "), n - 4)),
     }
 }
 
@@ -134,7 +149,8 @@ fn arrows(question: &Question, waiting: &Waiting, way: &[Arrow], out: &mut Out) 
         others.sort_unstable();
         others.dedup();
         let which = format!("emit {}{}", arrow.emit, or(&others));
-        out.line(&format!("  {} tests {}: {} may still come, and {} {}, which tests {}", from, question.signal(from), which, arrow.emit, stands(arrow.stands), question.signal(to)).replace("{to}", &to.to_string()))?;
+        let behind = format!("{} {}, which tests {}", arrow.emit, stands(arrow.stands, to), question.signal(to));
+        out.line(&format!("  {} tests {}: {} may still come, and {}", from, question.signal(from), which, behind))?;
     }
     Ok(())
 }
@@ -149,11 +165,11 @@ fn or(others: &[usize]) -> String {
     }
 }
 
-/// How an emit stands to a test, whose number is put in.
-fn stands(stands: Stands) -> &'static str {
+/// How an emit stands to a test.
+fn stands(stands: Stands, test: usize) -> String {
     match stands {
-        Stands::Under => "stands under {to}",
-        Stands::After => "comes after {to}",
-        Stands::Again => "comes after {to} in the loop's next turn",
+        Stands::Under => format!("stands under {}", test),
+        Stands::After => format!("comes after {}", test),
+        Stands::Again => format!("comes in the loop's next turn after {}", test),
     }
 }
