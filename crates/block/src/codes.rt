@@ -25,9 +25,6 @@ pub fn code_bit(c: Code) -> u32
 pub(crate) fn exit_codes(d: Depth) -> u32
     ensures { λ r. ⌜ (d .0 < 16 → bits r ≡ single (code (depth (d .0)))) ⌝ }
 {
-    if 16 <= d.0 {
-        return 0;
-    }
     code_bit(code_of(d))
 }
 

@@ -8,9 +8,6 @@ use Rattle.block.proofs.codes.code_bit.Tie as tie
 use Rattle.block.proofs.codes.code_bit.Reads as reads
 use Rattle.block.proofs.codes.code_bit.Lts as lts
 
-shl-result : tie.Need-shl-result
-shl-result c = search needs
-
 returns : tie.Need-returns
 returns c = λ h. is-set (is-shift 32 h)
 
@@ -18,4 +15,4 @@ returns-2 : tie.Need-returns-2
 returns-2 c = λ h. absurd (omega (arith, c .if1 .left, h))
 
 pub code-bit-spec : {M : Type 1} → statement M
-code-bit-spec = tie.close (tie.spec shl-result returns returns-2)
+code-bit-spec = tie.close (tie.spec (λ c. search needs) returns returns-2)

@@ -17,21 +17,6 @@ use Rattle.code_sets.proofs.larger.Reads as larger-reads
 use Rattle.code_sets.proofs.lowered.Reads as lowered-reads
 use Rattle.code_sets.proofs.without_zero.Reads as without-zero-reads
 
-followed-codes-requires : tie.Need-followed-codes-requires
-followed-codes-requires c κs = search needs
-
-without-zero-requires : tie.Need-without-zero-requires
-without-zero-requires c κs = search needs
-
-larger-requires : tie.Need-larger-requires
-larger-requires c κs = search needs
-
-lowered-requires : tie.Need-lowered-requires
-lowered-requires c κs = search needs
-
-exit-codes-requires : tie.Need-exit-codes-requires
-exit-codes-requires c κs = search needs
-
 returns : tie.Need-returns
 unfolding codes-for
 returns c = λ h. code-at 17 (c .before .args .operand) (bits (c .before .args .first)) (bits (c .before .args .second)) (c .match .keys1) (is-set (is-single 1))
@@ -78,11 +63,11 @@ pub codes-for-spec : {M : Type 1} → statement M
 codes-for-spec =
     tie.close
     (tie.spec
-    followed-codes-requires
-    without-zero-requires
-    larger-requires
-    lowered-requires
-    exit-codes-requires
+    (λ c κs. search needs)
+    (λ c κs. search needs)
+    (λ c κs. search needs)
+    (λ c κs. search needs)
+    (λ c κs. search needs)
     returns
     returns-2
     returns-3

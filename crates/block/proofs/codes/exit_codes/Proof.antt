@@ -1,29 +1,17 @@
 -- `codes::exit_codes` meets its contract: the depth is turned into its code, which is below 32.
 -- Assumes nothing.
 use mathlib.Core.Path.{_∙_, ap}
-use native.Mathlib.Omega.{arith}
 use Prim.Native.Nat.{ℕ}
 use Rattle.sets.specs.Numbers.{single}
 use Rattle.block.proofs.CodeLaws.{small-code}
 use borrow.Author.Needs.{needs}
 use Rattle.block.proofs.codes.exit_codes.Statement.{statement}
 use Rattle.block.proofs.codes.exit_codes.Tie as tie
-use Rattle.block.proofs.codes.exit_codes.Reads as reads
-use Rattle.block.proofs.codes.exit_codes.Lts as lts
 use Rattle.block.proofs.codes.code_bit.Reads as code-bit-reads
 use Rattle.block.proofs.kinds.code_of.Reads as code-of-reads
 
 returns : tie.Need-returns
-returns c = λ h. absurd (omega (arith, c .if1 .taken, h))
-
-code-of-requires : tie.Need-code-of-requires
-code-of-requires c κs = search needs
-
-code-bit-requires : tie.Need-code-bit-requires
-code-bit-requires c κs = search needs
-
-returns-2 : tie.Need-returns-2
-returns-2 c = λ h. c .code-bit .ensures (small-code _ _ h (c .before .code-of .ensures)) ∙ ap (λ (n : ℕ). single n) (c .before .code-of .ensures)
+returns c = λ h. c .code-bit .ensures (small-code _ _ h (c .before .code-of .ensures)) ∙ ap (λ (n : ℕ). single n) (c .before .code-of .ensures)
 
 pub exit-codes-spec : {M : Type 1} → statement M
-exit-codes-spec = tie.close (tie.spec returns code-of-requires code-bit-requires returns-2)
+exit-codes-spec = tie.close (tie.spec (λ c κs. search needs) (λ c κs. search needs) returns)

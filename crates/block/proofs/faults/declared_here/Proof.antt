@@ -9,17 +9,11 @@ use Rattle.block.proofs.faults.declared_here.Reads as reads
 use Rattle.block.proofs.faults.declared_here.Lts as lts
 use Rattle.block.proofs.faults.in_scope.Reads as in-scope-reads
 
-add-if1 : tie.Need-add-if1
-add-if1 c = search needs
-
 returns : tie.Need-returns
 returns c = sym (simp (lt-ltb _ _ (c .if1 .taken)))
-
-in-scope-requires : tie.Need-in-scope-requires
-in-scope-requires c κs = search needs
 
 returns-2 : tie.Need-returns-2
 returns-2 c = c .in-scope .ensures ∙ sym (simp (le-ltb _ _ (c .before .if1 .left)))
 
 pub declared-here-spec : {M : Type 1} → statement M
-declared-here-spec = tie.close (tie.spec add-if1 returns in-scope-requires returns-2)
+declared-here-spec = tie.close (tie.spec (λ c. search needs) returns (λ c κs. search needs) returns-2)

@@ -13,11 +13,8 @@ use Rattle.block.proofs.faults.declared_here.Reads as declared-here-rea
 returns : tie.Need-returns
 returns c = sym (simp (lt-leb _ _ (c .if1 .taken)))
 
-declared-here-requires : tie.Need-declared-here-requires
-declared-here-requires c κs = search needs
-
 returns-2 : tie.Need-returns-2
 returns-2 c = ap not (c .declared-here .ensures) ∙ sym (simp (le-leb _ _ (c .before .if1 .left)))
 
 pub emit-wrong-spec : {M : Type 1} → statement M
-emit-wrong-spec = tie.close (tie.spec returns declared-here-requires returns-2)
+emit-wrong-spec = tie.close (tie.spec returns (λ c κs. search needs) returns-2)

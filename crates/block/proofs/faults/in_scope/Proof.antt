@@ -9,9 +9,6 @@ use Rattle.block.proofs.faults.in_scope.Tie as tie
 use Rattle.block.proofs.faults.in_scope.Reads as reads
 use Rattle.block.proofs.faults.in_scope.Lts as lts
 
-shr-result : tie.Need-shr-result
-shr-result c = search needs
-
 returns : tie.Need-returns
 unfolding bits
 returns c = refl
@@ -20,4 +17,4 @@ returns-2 : tie.Need-returns-2
 returns-2 c = sym (bits-high 64 (c .before .fits .scope .fits) (c .if1 .left))
 
 pub in-scope-spec : {M : Type 1} → statement M
-in-scope-spec = tie.close (tie.spec shr-result returns returns-2)
+in-scope-spec = tie.close (tie.spec (λ c. search needs) returns returns-2)

@@ -11,14 +11,8 @@ use Rattle.block.proofs.faults.local_wrong.Lts as lts
 returns : tie.Need-returns
 returns c = sym (simp (le-ltb _ _ (c .if1 .taken)))
 
-add-result : tie.Need-add-result
-add-result c = search needs
-
-add-result-2 : tie.Need-add-result-2
-add-result-2 c = search needs
-
 returns-2 : tie.Need-returns-2
 returns-2 c = sym (simp (lt-ltb _ _ (c .before .before .if1 .left)))
 
 pub local-wrong-spec : {M : Type 1} → statement M
-local-wrong-spec = tie.close (tie.spec returns add-result add-result-2 returns-2)
+local-wrong-spec = tie.close (tie.spec returns (λ c. search needs) (λ c. search needs) returns-2)

@@ -14,15 +14,6 @@ use Rattle.block.proofs.faults.declared_here.Reads as declared-here-rea
 use Rattle.block.proofs.faults.emit_wrong.Reads as emit-wrong-reads
 use Rattle.block.proofs.faults.local_wrong.Reads as local-wrong-reads
 
-emit-wrong-requires : tie.Need-emit-wrong-requires
-emit-wrong-requires c κs = search needs
-
-local-wrong-requires : tie.Need-local-wrong-requires
-local-wrong-requires c κs = search needs
-
-declared-here-requires : tie.Need-declared-here-requires
-declared-here-requires c κs = search needs
-
 returns : tie.Need-returns
 returns c = c .emit-wrong .ensures ∙ sym (signal-emit _ _ _ _ _ (c .before .match .keys1))
 
@@ -44,9 +35,9 @@ pub signal-wrong-spec : {M : Type 1} → statement M
 signal-wrong-spec =
     tie.close
     (tie.spec
-    emit-wrong-requires
-    local-wrong-requires
-    declared-here-requires
+    (λ c κs. search needs)
+    (λ c κs. search needs)
+    (λ c κs. search needs)
     returns
     returns-2
     returns-3

@@ -32,10 +32,10 @@ within : (p : tie.Else4) → let k = at-kind (p .before .before) in
     over-limit (s .args .c .room) (around-of (s .args .c)) (sofar-of (s .args .r)) (k .two-bytes .result) ≡ false
 within p = sym (p .before .limit-passed .ensures) ∙ p .if4 .left
 
-right-signal : (p : tie.Else5) → let k = at-kind (p .before .before .before .before .before) in
+signal-is : (p : tie.After-signal-wrong) {z : Bool} → p .signal-wrong .result ≡ z → let k = at-kind (p .before .before .before .before) in
     let s = start (at-due (k .before)) in
-    wrong-signal (header-of (s .args .d)) (around-of (s .args .c)) (sofar-of (s .args .r)) (k .two-bytes .result) (p .before .before .two-bytes3 .result) ≡ false
-right-signal p = sym (p .before .signal-wrong .ensures) ∙ p .if5 .left
+    wrong-signal (header-of (s .args .d)) (around-of (s .args .c)) (sofar-of (s .args .r)) (k .two-bytes .result) (p .before .two-bytes3 .result) ≡ z
+signal-is p e = sym (p .signal-wrong .ensures) ∙ e
 
 -- The last test says which of two numbers it is.
 last : (p : tie.After-exit-wrong) (z : Bool) → p .exit-wrong .result ≡ z
@@ -48,7 +48,7 @@ last p z e =
     let at-length = at-limit .before .before in
     let k = at-kind at-length in
     fault-last _ _ _ _ _ (at-due (k .before) .if1 .left) (whole (k .before)) _ _ (k .two-bytes .ensures) (at-length .before .two-bytes2 .ensures) (right at-length) (within at-limit) _
-    (at-operand .two-bytes3 .ensures) (right-signal at-signal) z (sym e ∙ p .exit-wrong .ensures)
+    (at-operand .two-bytes3 .ensures) (signal-is (at-signal .before) (at-signal .if5 .left)) z (sym e ∙ p .exit-wrong .ensures)
 
 returns : tie.Need-returns
 returns c = sym (fault-shape _ _ _ _ _ (c .if1 .taken))
@@ -77,7 +77,7 @@ returns-5 c =
     let at-length = at-limit .before .before in
     let k = at-kind at-length in
     sym (fault-signal _ _ _ _ _ (at-due (k .before) .if1 .left) (whole (k .before)) _ _ (k .two-bytes .ensures) (at-length .before .two-bytes2 .ensures) (right at-length) (within at-limit) _
-    (at-operand .two-bytes3 .ensures) (sym (c .before .signal-wrong .ensures) ∙ c .if5 .taken))
+    (at-operand .two-bytes3 .ensures) (signal-is (c .before) (c .if5 .taken)))
 
 returns-6 : tie.Need-returns-6
 returns-6 c = sym (last (c .before) true (c .if6 .taken))

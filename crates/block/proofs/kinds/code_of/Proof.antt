@@ -6,15 +6,9 @@ use borrow.Author.Needs.{needs}
 use Rattle.block.proofs.kinds.code_of.Statement.{statement}
 use Rattle.block.proofs.kinds.code_of.Tie as tie
 
-cast-t2 : tie.Need-cast-t2
-cast-t2 c = search needs
-
-add-t3 : tie.Need-add-t3
-add-t3 c = search needs
-
 returns : tie.Need-returns
 unfolding code
 returns c = refl
 
 pub code-of-spec : {M : Type 1} → statement M
-code-of-spec = tie.close (tie.spec cast-t2 add-t3 returns)
+code-of-spec = tie.close (tie.spec (λ c. search needs) (λ c. search needs) returns)

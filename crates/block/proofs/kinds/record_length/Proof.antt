@@ -8,12 +8,6 @@ use Rattle.block.proofs.kinds.record_length.Reads as reads
 use Rattle.block.proofs.kinds.record_length.Lts as lts
 use Rattle.block.proofs.kinds.shape_of.Reads as shape-of-reads
 
-shape-of-requires : tie.Need-shape-of-requires
-shape-of-requires c κs = search needs
-
-enum-known-s : tie.Need-enum-known-s
-enum-known-s c = search needs
-
 enum-told : tie.Need-enum-told
 enum-told c = search needs
 
@@ -28,4 +22,4 @@ returns-2 c = sym (not-known _ (sym (c .before .before .shape-of .ensures) ∙ c
 
 pub record-length-spec : {M : Type 1} → statement M
 record-length-spec =
-    tie.close (tie.spec shape-of-requires enum-known-s enum-told returns returns-2)
+    tie.close (tie.spec (λ c κs. search needs) (λ c. search needs) enum-told returns returns-2)

@@ -14,24 +14,6 @@ use Rattle.block.proofs.kinds.long.Reads as long-reads
 use Rattle.block.proofs.kinds.short.Reads as short-reads
 use Rattle.block.proofs.kinds.under_signal.Reads as under-signal-reads
 
-short-requires : tie.Need-short-requires
-short-requires c κs = search needs
-
-under-signal-requires : tie.Need-under-signal-requires
-under-signal-requires c κs = search needs
-
-long-requires : tie.Need-long-requires
-long-requires c κs = search needs
-
-in-turn-requires : tie.Need-in-turn-requires
-in-turn-requires c κs = search needs
-
-short-requires-2 : tie.Need-short-requires-2
-short-requires-2 c κs = search needs
-
-long-requires-2 : tie.Need-long-requires-2
-long-requires-2 c κs = search needs
-
 returns : tie.Need-returns
 returns c = c .short .ensures ∙ ap wire-of (sym (first-range _ (omega arith) (omega arith)))
 
@@ -56,12 +38,12 @@ pub shape-of-spec : {M : Type 1} → statement M
 shape-of-spec =
     tie.close
     (tie.spec
-    short-requires
-    under-signal-requires
-    long-requires
-    in-turn-requires
-    short-requires-2
-    long-requires-2
+    (λ c κs. search needs)
+    (λ c κs. search needs)
+    (λ c κs. search needs)
+    (λ c κs. search needs)
+    (λ c κs. search needs)
+    (λ c κs. search needs)
     returns
     returns-2
     returns-3

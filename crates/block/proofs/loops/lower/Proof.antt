@@ -10,9 +10,6 @@ use Rattle.block.proofs.loops.lower.Reads as reads
 use Rattle.block.proofs.loops.lower.Lts as lts
 use Rattle.code_sets.proofs.has_code.Reads as has-code-reads
 
-has-code-requires : tie.Need-has-code-requires
-has-code-requires c κs = search needs
-
 returns : tie.Need-returns
 returns c = sym (simp (eq-eqb _ 22 (c .before .before .if1 .taken), sym (c .before .has-code .ensures (lit< tt)) ∙ c .if2 .taken))
 
@@ -23,4 +20,4 @@ returns-3 : tie.Need-returns-3
 returns-3 c = sym (simp (ne-eqb _ 22 (c .if1 .left)))
 
 pub lower-spec : {M : Type 1} → statement M
-lower-spec = tie.close (tie.spec has-code-requires returns returns-2 returns-3)
+lower-spec = tie.close (tie.spec (λ c κs. search needs) returns returns-2 returns-3)

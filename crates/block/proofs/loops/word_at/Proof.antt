@@ -9,17 +9,8 @@ use Rattle.block.proofs.loops.word_at.Tie as tie
 use Rattle.block.proofs.loops.word_at.Reads as reads
 use Rattle.block.proofs.loops.word_at.Lts as lts
 
-mul-result : tie.Need-mul-result
-mul-result c = search needs
-
-element-copy-out-result : tie.Need-element-copy-out-result
-element-copy-out-result c = search needs
-
-returns : tie.Need-returns
-returns c = search needs
-
 returns-2 : tie.Need-returns-2
 returns-2 c = sym (List·getD-eq-default (c .before .args .codes .now) 0 (omega (arith, c .if1 .left, c .before .pre)))
 
 pub word-at-spec : {M : Type 1} → statement M
-word-at-spec = tie.close (tie.spec mul-result element-copy-out-result returns returns-2)
+word-at-spec = tie.close (tie.spec (λ c. search needs) (λ c. search needs) (λ c. search needs) returns-2)

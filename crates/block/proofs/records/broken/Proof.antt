@@ -9,23 +9,11 @@ use Rattle.block.proofs.records.broken.Reads as reads
 use Rattle.block.proofs.records.broken.Lts as lts
 use Rattle.block.proofs.records.two_bytes.Reads as two-bytes-reads
 
-add-if1 : tie.Need-add-if1
-add-if1 c = search needs
-
 returns : tie.Need-returns
 returns c = sym (few-left _ _ (c .if1 .taken))
 
-two-bytes-requires : tie.Need-two-bytes-requires
-two-bytes-requires c κs = search needs
-
-cast-length : tie.Need-cast-length
-cast-length c = search needs
-
 returns-2 : tie.Need-returns-2
 returns-2 c = sym (too-short _ _ (c .before .before .if1 .left) (rw (c .before .two-bytes .ensures) at (c .if2 .taken)))
-
-sub-result : tie.Need-sub-result
-sub-result c = search needs
 
 returns-3 : tie.Need-returns-3
 returns-3 c = rw (c .before .two-bytes .ensures) (sym (long-enough _ _ (c .before .before .if1 .left) (rw (c .before .two-bytes .ensures) at (c .if2 .left))))
@@ -33,4 +21,4 @@ returns-3 c = rw (c .before .two-bytes .ensures) (sym (long-enough _ _ (c .befor
 pub broken-spec : {M : Type 1} → statement M
 broken-spec =
     tie.close
-    (tie.spec add-if1 returns two-bytes-requires cast-length returns-2 sub-result returns-3)
+    (tie.spec (λ c. search needs) returns (λ c κs. search needs) (λ c. search needs) returns-2 (λ c. search needs) returns-3)

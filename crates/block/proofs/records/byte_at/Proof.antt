@@ -9,9 +9,6 @@ use Rattle.block.proofs.records.byte_at.Tie as tie
 use Rattle.block.proofs.records.byte_at.Reads as reads
 use Rattle.block.proofs.records.byte_at.Lts as lts
 
-shared-slice-read-result : tie.Need-shared-slice-read-result
-shared-slice-read-result c = search needs
-
 cast-result : tie.Need-cast-result
 cast-result c = omega (arith, c .shared-slice-known .given (c .before .before .args .at))
 
@@ -22,4 +19,4 @@ returns-2 : tie.Need-returns-2
 returns-2 c = (sym (List·getD-eq-default (c .before .args .b .now) 0 (c .if1 .left)), search needs)
 
 pub byte-at-spec : {M : Type 1} → statement M
-byte-at-spec = tie.close (tie.spec shared-slice-read-result cast-result returns returns-2)
+byte-at-spec = tie.close (tie.spec (λ c. search needs) cast-result returns returns-2)

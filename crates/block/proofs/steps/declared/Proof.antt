@@ -8,18 +8,6 @@ use Rattle.block.proofs.steps.declared.Reads as reads
 use Rattle.block.proofs.steps.declared.Lts as lts
 use Rattle.block.proofs.records.two_bytes.Reads as two-bytes-reads
 
-two-bytes-requires : tie.Need-two-bytes-requires
-two-bytes-requires c κs = search needs
-
-two-bytes-requires-2 : tie.Need-two-bytes-requires-2
-two-bytes-requires-2 c κs = search needs
-
-two-bytes-requires-3 : tie.Need-two-bytes-requires-3
-two-bytes-requires-3 c κs = search needs
-
-two-bytes-requires-4 : tie.Need-two-bytes-requires-4
-two-bytes-requires-4 c κs = search needs
-
 returns : tie.Need-returns
 unfolding header
 returns c =
@@ -32,8 +20,8 @@ pub declared-spec : {M : Type 1} → statement M
 declared-spec =
     tie.close
     (tie.spec
-    two-bytes-requires
-    two-bytes-requires-2
-    two-bytes-requires-3
-    two-bytes-requires-4
+    (λ c κs. search needs)
+    (λ c κs. search needs)
+    (λ c κs. search needs)
+    (λ c κs. search needs)
     returns)

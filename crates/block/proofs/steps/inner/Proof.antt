@@ -11,23 +11,11 @@ use Rattle.block.proofs.steps.inner.Lts as lts
 use Rattle.block.proofs.steps.one_if.Reads as one-if-reads
 use Rattle.block.proofs.steps.with_local.Reads as with-local-reads
 
-one-if-requires : tie.Need-one-if-requires
-one-if-requires c κs = search needs
-
 add-t5 : tie.Need-add-t5
 add-t5 c = omega (arith, c .before .one-if .ensures .1)
 
-one-if-requires-2 : tie.Need-one-if-requires-2
-one-if-requires-2 c κs = search needs
-
 add-t7 : tie.Need-add-t7
 add-t7 c = omega (arith, c .before .one-if2 .ensures .1)
-
-with-local-requires : tie.Need-with-local-requires
-with-local-requires c κs = search needs
-
-sub-t9 : tie.Need-sub-t9
-sub-t9 c = search needs
 
 returns : tie.Need-returns
 unfolding inside
@@ -47,4 +35,4 @@ returns c =
 pub inner-spec : {M : Type 1} → statement M
 inner-spec =
     tie.close
-    (tie.spec one-if-requires add-t5 one-if-requires-2 add-t7 with-local-requires sub-t9 returns)
+    (tie.spec (λ c κs. search needs) add-t5 (λ c κs. search needs) add-t7 (λ c κs. search needs) (λ c. search needs) returns)

@@ -10,20 +10,8 @@ use Rattle.block.proofs.steps.passed.Reads as reads
 use Rattle.block.proofs.steps.passed.Lts as lts
 use Rattle.block.proofs.steps.one_if.Reads as one-if-reads
 
-add-t5 : tie.Need-add-t5
-add-t5 c = search needs
-
-add-t6 : tie.Need-add-t6
-add-t6 c = search needs
-
-one-if-requires : tie.Need-one-if-requires
-one-if-requires c κs = search needs
-
 add-t8 : tie.Need-add-t8
 add-t8 c = omega (arith, c .before .one-if .ensures .1)
-
-one-if-requires-2 : tie.Need-one-if-requires-2
-one-if-requires-2 c κs = search needs
 
 add-t10 : tie.Need-add-t10
 add-t10 c = omega (arith, c .before .one-if2 .ensures .1)
@@ -43,4 +31,4 @@ returns c =
 
 pub passed-spec : {M : Type 1} → statement M
 passed-spec =
-    tie.close (tie.spec add-t5 add-t6 one-if-requires add-t8 one-if-requires-2 add-t10 returns)
+    tie.close (tie.spec (λ c. search needs) (λ c. search needs) (λ c κs. search needs) add-t8 (λ c κs. search needs) add-t10 returns)

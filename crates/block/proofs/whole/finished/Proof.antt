@@ -20,12 +20,6 @@ returns-2 c =
     let at-if1 = c .before .before .before in
     λ t h. end-locals _ _ t _ (at-if1 .if1 .left) (c .if2 .taken)
 
-lowest-endless-requires : tie.Need-lowest-endless-requires
-lowest-endless-requires c κs = search needs
-
-offset-of-requires : tie.Need-offset-of-requires
-offset-of-requires c κs = search needs
-
 returns-3 : tie.Need-returns-3
 returns-3 c =
     let at-if3 = c .before in
@@ -47,4 +41,4 @@ returns-4 c =
 pub finished-spec : {M : Type 1} → statement M
 finished-spec =
     tie.close
-    (tie.spec returns returns-2 lowest-endless-requires offset-of-requires returns-3 returns-4)
+    (tie.spec returns returns-2 (λ c κs. search needs) (λ c κs. search needs) returns-3 returns-4)

@@ -30,9 +30,6 @@ element-copy-out-record-length c = omega (arith, c .before .loop .inv .within, c
 record-length-requires : tie.Need-record-length-requires Inv-loop μ-loop
 record-length-requires c κs = tt
 
-cast-at : tie.Need-cast-at Inv-loop μ-loop
-cast-at c = search needs
-
 add-at : tie.Need-add-at Inv-loop μ-loop
 add-at c =
     let p1 = c .before .before in
@@ -73,7 +70,7 @@ offset-of-spec =
     mul-record-length
     element-copy-out-record-length
     record-length-requires
-    cast-at
+    (λ c. search needs)
     add-at
     add-i
     loop-less

@@ -16,12 +16,6 @@ use Rattle.refusals.proofs.refusal.Reads as refusal-reads
 returns : tie.Need-returns
 returns c = over-size _ (c .if1 .taken) (c .before .before .pre)
 
-header-fault-requires : tie.Need-header-fault-requires
-header-fault-requires c κs = search needs
-
-refusal-requires : tie.Need-refusal-requires
-refusal-requires c κs = search needs
-
 returns-2 : tie.Need-returns-2
 returns-2 c =
     let at-if2 = c .before in
@@ -29,9 +23,6 @@ returns-2 c =
     let at-if1 = at-header-fault .before in
     let at-start = at-if1 .before .before in
     bad-header _ (at-if1 .if1 .left) _ (at-header-fault .header-fault .ensures) (at-if2 .if2 .taken) (c .refusal .ensures) (at-start .pre)
-
-declared-requires : tie.Need-declared-requires
-declared-requires c κs = search needs
 
 read-at-requires : tie.Need-read-at-requires
 read-at-requires c κs =
@@ -41,15 +32,6 @@ read-at-requires c κs =
     let at-if1 = at-header-fault .before in
     let at-start = at-if1 .before .before in
     (ready-start _ (at-if1 .if1 .left) _ (at-declared .declared .ensures) (sym (at-header-fault .header-fault .ensures) ∙ at-if2 .if2 .left), at-start .pre)
-
-enum-known-tree : tie.Need-enum-known-tree
-enum-known-tree c = search needs
-
-refusal-requires-2 : tie.Need-refusal-requires-2
-refusal-requires-2 c κs = search needs
-
-enum-known-tree-2 : tie.Need-enum-known-tree-2
-enum-known-tree-2 c = search needs
 
 finished-requires : tie.Need-finished-requires
 finished-requires c κs =
@@ -89,14 +71,14 @@ read-block-spec =
     tie.close
     (tie.spec
     returns
-    header-fault-requires
-    refusal-requires
+    (λ c κs. search needs)
+    (λ c κs. search needs)
     returns-2
-    declared-requires
+    (λ c κs. search needs)
     read-at-requires
-    enum-known-tree
-    refusal-requires-2
-    enum-known-tree-2
+    (λ c. search needs)
+    (λ c κs. search needs)
+    (λ c. search needs)
     finished-requires
     returns-3
     returns-4)
