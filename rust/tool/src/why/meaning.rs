@@ -273,5 +273,33 @@ fn down(code: u32) -> u32 {
 
 /// The greater of each two codes, one of each set.
 fn maxima(a: u32, b: u32) -> u32 {
-    (0..32).filter(|k| (a >> k & 1 == 1 && b & ((2u64 << k) - 1) as u32 != 0) || (b >> k & 1 == 1 && a & ((2u64 << k) - 1) as u32 != 0)).fold(0, |all, k| all | 1 << k)
+    let has = |set: u32, k: u32| set >> k & 1 == 1;
+    let has_up_to = |set: u32, k: u32| u64::from(set) & ((2 << k) - 1) != 0;
+    (0..32).filter(|k| has(a, *k) && has_up_to(b, *k) || has(b, *k) && has_up_to(a, *k)).fold(0, |all, k| all | 1 << k)
+}
+
+#[cfg(test)]
+mod tests {
+    use super::*;
+    use crate::walk::walk;
+
+    #[test]
+    fn codes() {
+        assert_eq!([maxima(0b01, 0b10), maxima(0b011, 0b110), maxima(0b1, 0b1), maxima(0b1000, 0b11), maxima(1 << 31, 1)], [0b10, 0b110, 0b1, 0b1000, 1 << 31]);
+        assert_eq!([0, 1, 2, 3, 17].map(down), [0, 1, 0, 2, 16]);
+    }
+
+    /// Document 01's example, resumed: suspend, on I: pause; emit O.
+    #[test]
+    fn held_and_not() {
+        let block = [14, 0, 1, 0, 1, 0, 7, 0, 1, 0, 1, 0, 0, 0, 6, 0, 20, 0, 0, 0, 4, 0, 21, 0, 4, 0, 17, 0, 6, 0, 18, 0, 1, 0];
+        let meaning = Meaning::of(&walk(&block, block.len()).statements, 1);
+        assert_eq!(meaning.nodes.iter().map(|node| node.parts.clone()).collect::<Vec<_>>(), [vec![1], vec![2, 3], vec![], vec![]]);
+        let at = |present, absent| Event { present, absent };
+        let must = |run, e| meaning.must((0, run), e);
+        assert_eq!([must(Run::Resumed, at(1, 0)).code, must(Run::Resumed, at(0, 1)).code, must(Run::Resumed, at(0, 0)).code], [Some(1), Some(0), None]);
+        assert_eq!([must(Run::Resumed, at(1, 0)).signals, must(Run::Resumed, at(0, 1)).signals, must(Run::Started, at(1, 0)).signals], [0, 2, 0]);
+        let can = meaning.can((0, Run::Resumed), true, at(0, 0));
+        assert_eq!((can.signals, can.codes), (2, 0b11));
+    }
 }

@@ -47,7 +47,7 @@ pub static COMMAND: Command = Command {
 
 const MORE: &str = "Without --present and --not-executed: why the instant is refused with 13. Named is the lowest test that is reached with its signal
 undecided. Of a present output it is the lowest emit of it that was executed, and of an emit that was not executed the topmost
-statement on the way to it that was not. That is the library's answer, and proved. Nothing is run or written.
+statement on the way to it that was not. That is the library's answer, and proved. Nothing is written.
 
 Besides, of a 13: what the named test waits for. Its signal is undecided because some emit of it may still be executed, and that emit
 stands under another undecided test, or comes after one in a sequence, or in a loop's next turn; and so on, round to the
@@ -57,7 +57,7 @@ Where the thing asked about is not so it is refused with 16, and what is so is t
 ";
 
 /// An instant that is asked about: the state in which it begins, its inputs, what it came to, and the question.
-struct Question {
+pub struct Question {
     block: Block,
     statements: Vec<Statement>,
     state: Vec<u8>,

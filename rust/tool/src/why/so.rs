@@ -76,9 +76,12 @@ pub fn kept_from(question: &Question, meaning: &Meaning, visit: &Visit, part: us
         ("parallel", _) => format!("this arm of statement {} had ended before", above),
         ("sequence", _) if node.parts[0] == part => format!("statement {} goes on in its second part, statement {}", above, node.parts[1]),
         ("sequence", _) => {
-            let first = node.parts[0];
-            let ends = meaning.code(meaning.stages(visit.part).0, visit.event).map_or("is undecided", |code| if code == 1 { "waits for the next instant" } else { "left by an exit" });
-            format!("statement {}, which comes before it, {}", first, ends)
+            let ends = match meaning.code(meaning.stages(visit.part).0, visit.event) {
+                Some(1) => "waits for the next instant",
+                Some(_) => "left by an exit",
+                None => "is undecided",
+            };
+            format!("statement {}, which comes before it, {}", node.parts[0], ends)
         }
         _ => format!("statement {} was executed without it", above),
     }

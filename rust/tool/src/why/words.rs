@@ -17,9 +17,10 @@ pub fn told(question: &Question, n: usize, reach: &Reach, waiting: Option<&Waiti
     let (what, named) = match question.asked {
         Asked::Refused => (format!("refused with {}", refusal::title(13)), "the lowest test that is reached with its signal undecided".to_string()),
         Asked::Present(signal) => (format!("answered, and {} is present", question.labels().signal(signal)), "the lowest emit of it that was executed".to_string()),
-        Asked::NotExecuted(emit) => {
-            (format!("answered, and statement {}, emit {}, was not executed", emit, question.signal(emit)), format!("the topmost on the way to it that was not executed: {}", because(question, reach, n)))
-        }
+        Asked::NotExecuted(emit) => (
+            format!("answered, and statement {}, emit {}, was not executed", emit, question.signal(emit)),
+            format!("the topmost on the way to it that was not executed: {}", because(question, reach, n)),
+        ),
     };
     out.line(&format!("instant {}, inputs {}: {}", question.number, inputs(question), what))?;
     out.line(&format!("statement {} is {}", n, named))?;
