@@ -67,9 +67,9 @@ extern "C" {
 #define FOLDHERON_TAKEN 20           /* the party has a block of that name there */
 #define FOLDHERON_QUOTA 21           /* the party would hold more than it may */
 #define FOLDHERON_ABSENT 22          /* the party has no block of that name there */
-/* Those of the calls that read text, say why, compare two blocks and draw the maze. */
+#define FOLDHERON_QUESTION 16        /* what is asked about is not so: a reason's */
+/* Those of calls that are still to come: texts, two blocks compared, the maze. No call of this version gives them. */
 #define FOLDHERON_TEXT 15            /* text outside the grammar, or a name that may not stand there */
-#define FOLDHERON_QUESTION 16        /* what is asked about is not so */
 #define FOLDHERON_INTERFACE 23       /* not as many inputs, or not as many outputs */
 #define FOLDHERON_WIDE 24            /* more than 6 inputs */
 #define FOLDHERON_PAIRS 25           /* more than 1,024 pairs of states */
@@ -156,7 +156,7 @@ uint16_t foldheron_instant_heard_logged(const uint8_t *block, size_t block_size,
 uint16_t foldheron_excerpt(const uint8_t *block, size_t block_size, size_t n, uint8_t *answer, size_t answer_size);
 
 /* Says why: names a statement that accounts for an instant. Nothing is run and no lent byte but the answer's is written: state, present and absent are those of
- * the instant that is asked about, as foldheron_instant_heard takes them. What is asked, and what about is:
+ * the instant that is asked about, as foldheron_instant_heard takes them; of one that foldheron_instant ran, absent is every other declared input. What is asked, and what about is:
  *   WHY_REFUSED        why the instant is refused with 13; about is not looked at. Named is the lowest present started, or suspend resumed, that must be
  *                      reached in the final round with its signal undecided there, an input not heard being undecided;
  *   WHY_PRESENT        why this output, a signal number, is present in the answered instant. Named is its lowest emit that was executed;
@@ -213,7 +213,7 @@ static inline uint64_t foldheron_number(const uint8_t *answer, size_t at)
     return number;
 }
 
-/* The name of a refusal's number, as the guide has it; NULL of a number that no call gives back, and of 0. */
+/* The name of a refusal's number, as the guide has it; NULL of a number that has none, and of 0. */
 static inline const char *foldheron_name(unsigned number)
 {
     switch (number) {

@@ -51,7 +51,7 @@ unfoldable pub first-with : List Why → ℕ → Why
 first-with [] n = Index
 first-with (w ∷ ws) n = cond (eqb n (number w)) w (first-with ws n)
 
--- The numbers that are given back at all, and the refusal of a number.
+-- The numbers that are there, and the refusal of a number.
 abbrev pub has-refusal : ℕ → Bool
 has-refusal n = has-number refusals n
 

@@ -28,7 +28,7 @@ pub struct Refusal {
     pub place: usize,
 }
 
-/// The name of a refusal's number; none of a number that no call gives back.
+/// The name of a refusal's number; none of a number that has none. 15 and 23 to 26 are of calls that are still to come.
 pub fn name_of(number: u16) -> Option<&'static str> {
     Some(match number {
         1 => "BROKEN",
@@ -221,7 +221,8 @@ pub fn excerpt(block: &[u8], n: usize) -> Result<&[u8], Refusal> {
 
 /// Says why, of the instant that `instant_heard` would run with the same state and inputs; nothing is run or written. Of a refused instant (13) the lowest
 /// present started, or suspend resumed, that must be reached in the final round with its signal undecided there; of a present output of an answered one its
-/// lowest emit that was executed; of an emit that was not executed the topmost statement on its path that was not, which `excerpt` shows.
+/// lowest emit that was executed; of an emit that was not executed the topmost statement on its path that was not, which `excerpt` shows. Of an instant that
+/// `instant` ran, `absent` is every other declared input.
 pub fn reason(block: &[u8], state: &[u8], present: u64, absent: u64, asked: Asked) -> Reason {
     let (kind, about) = match asked {
         Asked::Refused => (0, 0),
