@@ -12,6 +12,7 @@ mod words;
 use crate::args::{flag, with, Words};
 use crate::block::{self, Block};
 use crate::commands::Command;
+use crate::files;
 use crate::labels::Labels;
 use crate::layout::State;
 use crate::names;
@@ -73,13 +74,16 @@ fn run(words: &Words, out: &mut Out) -> Outcome<Status> {
     let form = words.at_most_one(&["--dot", "--json"])?;
     words.at_most_one(&["--present", "--not-executed"])?;
     let text = words.value("--in").ok_or_else(|| Trouble::call("--in is missing: the inputs of the instant, or of several, the last of which is asked about"))?;
+    let from = words.value("--from").map(Path::new);
+    if word == files::STDIN && from == Some(Path::new(files::STDIN)) {
+        return Err(Trouble::call("only one file can be - , standard input"));
+    }
     let block = block::load(words, word)?;
     let asked = asked(words, &block.labels)?;
     if form == Some("--dot") && asked != Asked::Refused {
         return Err(Trouble::call("--dot draws what a 13 waits for: it does not go together with --present or --not-executed"));
     }
     let sets = sets::parse(&text.to_string_lossy(), &block.labels)?;
-    let from = words.value("--from").map(Path::new);
     let state = match keep::begins(from, &block)? {
         Ok(state) => state,
         Err(down) => return keep::not_taken(from.unwrap_or_else(|| Path::new("")), &down, form == Some("--json"), out),
@@ -97,14 +101,14 @@ fn asked(words: &Words, labels: &Labels) -> Outcome<Asked> {
     if let Some(name) = words.value("--present") {
         let name = name.to_string_lossy();
         let outputs = sets::sentence(labels.all_outputs(), |n| labels.with_number(n));
-        let unknown = || Trouble::call(format!("the block has no signal '{}'", crate::files::printable(&name))).advise(format!("the block's outputs: {}", outputs));
+        let unknown = || Trouble::call(format!("the block has no signal '{}'", files::printable(&name))).advise(format!("the block's outputs: {}", outputs));
         return labels.find(&name).map(Asked::Present).ok_or_else(unknown);
     }
     match words.value("--not-executed") {
         None => Ok(Asked::Refused),
         Some(number) => {
             let text = number.to_string_lossy();
-            text.parse().map(Asked::NotExecuted).map_err(|_| Trouble::call(format!("'{}' is no statement's number", crate::files::printable(&text))))
+            text.parse().map(Asked::NotExecuted).map_err(|_| Trouble::call(format!("'{}' is no statement's number", files::printable(&text))))
         }
     }
 }

@@ -9,6 +9,7 @@ use crate::output::Out;
 use crate::status::Status;
 use crate::trouble::Outcome;
 use foldheron::{name_of, Asked};
+use std::collections::BTreeSet;
 
 /// The instant and the question.
 fn begun(question: &Question) -> Object {
@@ -39,20 +40,24 @@ pub fn told(question: &Question, n: usize, waiting: Option<&Waiting>, out: &mut 
     Ok(Status::Good)
 }
 
-/// The tests that are waited for, the emits that may still come with the tests that they wait for, and the ways by the tests on them.
+/// The tests that are waited for, the emits that may still come with the tests that they wait for, and the ways by the tests on them. What is
+/// met in two runs of a loop's body stands there once.
 fn waits(question: &Question, waiting: &Waiting, object: Object) -> Object {
     let test = |n: usize| waiting.reach.tests[n].statement;
     let way = |way: Option<Vec<Arrow>>| way.map_or(Vec::new(), |way| std::iter::once(test(waiting.named)).chain(way.iter().map(|arrow| test(arrow.to))).collect());
-    let mut met: Vec<usize> = waiting.met();
-    met.sort_unstable();
-    let tests = met.iter().map(|n| Object::new().number("statement", test(*n) as u64).text("signal", &question.signal(test(*n))));
+    let met = waiting.met();
     let emits = waiting.reach.emits.iter().filter(|emit| met.iter().any(|n| waiting.signal(*n) == emit.signal));
-    let emits = emits.map(|emit| {
-        let waits: Vec<usize> = emit.waits.clone().map(test).collect();
-        Object::new().number("statement", emit.statement as u64).text("signal", &question.signal(emit.statement)).text("stands", stands(emit.stands)).numbers("waits", &waits)
-    });
+    let emits = once(emits.map(|emit| (emit.statement, emit.stands, once(emit.waits.clone().map(test)))));
+    let about = |n: usize| Object::new().number("statement", n as u64).text("signal", &question.signal(n));
+    let tests = once(met.iter().map(|n| test(*n))).into_iter().map(about);
+    let emits = emits.iter().map(|(n, how, waits)| about(*n).text("stands", stands(*how)).numbers("waits", waits));
     let object = object.objects("tests", tests.collect()).objects("emits", emits.collect());
     object.numbers("cycle", &way(waiting.cycle())).numbers("chain", &way(waiting.chain()))
+}
+
+/// All of these in their order, each once.
+fn once<T: Ord>(all: impl Iterator<Item = T>) -> Vec<T> {
+    all.collect::<BTreeSet<T>>().into_iter().collect()
 }
 
 fn stands(stands: Stands) -> &'static str {
