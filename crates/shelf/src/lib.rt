@@ -45,10 +45,13 @@ fn admitted(shelf: &mut [u8], end: usize, party: u16, name: u16, block: &[u8]) -
     ensures { λ r. ⌜ shelved-values r ≡ shelved-owed (told (now (shelf .entry)) (install party name (now (block .entry)))) ⌝ }
     ensures { λ _. ⌜ now (shelf .exit) ≡ left (now (shelf .entry)) (install party name (now (block .entry))) ⌝ }
 {
-    if entry_of(shelf, end, party as u64, name as u64) < end {
+    let same = entry_of(shelf, end, party as u64, name as u64);
+    let held = held_of(shelf, end, party as u64);
+    let needed = held + 8 + block.len();
+    if same < end {
         return Shelved::TurnedDown(Why::Taken, 0);
     }
-    if 32768 < held_of(shelf, end, party as u64) + 8 + block.len() {
+    if 32768 < needed {
         return Shelved::TurnedDown(Why::Quota, 0);
     }
     put_entry(&mut shelf[end..], party, name, block);
@@ -60,7 +63,7 @@ pub fn install(shelf: &mut [u8], party: u16, name: u16, block: &[u8]) -> Shelved
     ensures { λ r. ⌜ shelved-values r ≡ shelved-owed (told (now (shelf .entry)) (install party name (now (block .entry)))) ⌝ }
     ensures { λ _. ⌜ now (shelf .exit) ≡ left (now (shelf .entry)) (install party name (now (block .entry))) ⌝ }
 {
-    if 1 < party {
+    if party > 1 {
         return Shelved::TurnedDown(Why::Party, 0);
     }
     let walked = walk_shelf(shelf);
@@ -118,14 +121,14 @@ fn found_at(shelf: &[u8], party: u16, name: u16) -> Found
     let Walked::InUse(end) = walked else {
         return not_found(19);
     };
-    let at = entry_of(shelf, end, party as u64, name as u64);
-    if end <= at {
+    let entry = entry_of(shelf, end, party as u64, name as u64);
+    if end <= entry {
         return not_found(22);
     }
     Found {
         number: 0,
-        offset: at + 8,
-        size: number_at(shelf, at, 2) as usize - 8,
+        offset: entry + 8,
+        size: number_at(shelf, entry, 2) as usize - 8,
     }
 }
 

@@ -38,10 +38,10 @@ fn move_down(shelf: &mut [u8], at: usize, gap: usize, count: usize)
     requires { ⌜ at + gap + count ≤ length (now shelf) ⌝ }
     ensures { λ _. ⌜ now (shelf .exit) ≡ paste (now (shelf .entry)) at (drop (at + gap) (now (shelf .entry))) count ⌝ }
 {
-    let mut i: usize = 0;
-    while i < count {
-        shelf[at + i] = shelf[at + gap + i];
-        i += 1;
+    let mut moved: usize = 0;
+    while moved < count {
+        shelf[at + moved] = shelf[at + gap + moved];
+        moved += 1;
     }
 }
 

@@ -22,34 +22,34 @@ entry-of-requires c κs =
     let at-start = c .before .before .before in
     let w = walked-to _ (at-start .pre .0) refl in (w .0, w .1 .laid)
 
+held-of-requires : tie.Need-held-of-requires
+held-of-requires c κs =
+    let at-start = c .before .before .before .before .before in
+    let w = walked-to _ (at-start .pre .0) refl in (w .0, w .1 .laid)
+
+add-needed : tie.Need-add-needed
+add-needed c =
+    let at-start = c .before .before .before .before .before .before in
+    let a = at-start .args in let w = walked-to _ (at-start .pre .0) refl in omega
+    (arith, c .held-of .ensures (w .0) (w .1 .laid), quota (a .party) (w .0) (w .1 .laid .legal))
+
+add-needed-2 : tie.Need-add-needed-2
+add-needed-2 c =
+    let at-start = c .before .before .before .before .before .before in
+    let a = at-start .args in let p = at-start .pre in let w = walked-to _ (p .0) refl in omega
+    (arith, c .held-of .ensures (w .0) (w .1 .laid), quota (a .party) (w .0) (w .1 .laid .legal), sound (now (a .block)) (p .1 .1 .0) (p .1 .1 .1) .size)
+
 same-length : tie.Need-same-length
 same-length c = search needs
 
 returns : tie.Need-returns
 unfolding number
 returns c =
-    let at-entry-of = c .before in
+    let at-entry-of = c .before .before .before in
     let at-start = at-entry-of .before .before .before .before in
     let a = at-start .args in let p = at-start .pre in let w = walked-to _ (p .0) refl in turned-down-so (now (a .shelf))
     (install (a .party) (a .name) (now (a .block))) Why.Taken
     (name-taken (w .1) (a .party) (a .name) (now (a .block)) (p .1 .0) (p .1 .1 .1) (at-entry-of .entry-of .ensures (w .0) (w .1 .laid)) (c .if1 .taken))
-
-held-of-requires : tie.Need-held-of-requires
-held-of-requires c κs =
-    let at-start = c .before .before .before .before .before .before in
-    let w = walked-to _ (at-start .pre .0) refl in (w .0, w .1 .laid)
-
-add-if2 : tie.Need-add-if2
-add-if2 c =
-    let at-start = c .before .before .before .before .before .before .before in
-    let a = at-start .args in let w = walked-to _ (at-start .pre .0) refl in omega
-    (arith, c .held-of .ensures (w .0) (w .1 .laid), quota (a .party) (w .0) (w .1 .laid .legal))
-
-add-if2-2 : tie.Need-add-if2-2
-add-if2-2 c =
-    let at-start = c .before .before .before .before .before .before .before in
-    let a = at-start .args in let p = at-start .pre in let w = walked-to _ (p .0) refl in omega
-    (arith, c .held-of .ensures (w .0) (w .1 .laid), quota (a .party) (w .0) (w .1 .laid .legal), sound (now (a .block)) (p .1 .1 .0) (p .1 .1 .1) .size)
 
 same-length-2 : tie.Need-same-length-2
 same-length-2 c = search needs
@@ -57,9 +57,9 @@ same-length-2 c = search needs
 returns-2 : tie.Need-returns-2
 unfolding number
 returns-2 c =
-    let at-held-of = c .before in
-    let at-if1 = at-held-of .before .before in
-    let at-entry-of = at-if1 .before in
+    let at-if1 = c .before in
+    let at-held-of = at-if1 .before in
+    let at-entry-of = at-held-of .before .before in
     let at-start = at-entry-of .before .before .before .before in
     let a = at-start .args in let p = at-start .pre in let w = walked-to _ (p .0) refl in turned-down-so (now (a .shelf))
     (install (a .party) (a .name) (now (a .block))) Why.Quota
@@ -82,9 +82,9 @@ part-put-entry-end c = search needs
 put-entry-requires : tie.Need-put-entry-requires
 put-entry-requires c κs =
     let at-if2 = c .before in
-    let at-held-of = at-if2 .before in
-    let at-if1 = at-held-of .before .before in
-    let at-entry-of = at-if1 .before in
+    let at-if1 = at-if2 .before in
+    let at-held-of = at-if1 .before in
+    let at-entry-of = at-held-of .before .before in
     let at-start = at-entry-of .before .before .before .before in
     let a = at-start .args in let p = at-start .pre in let w = walked-to _ (p .0) refl in let r = room-for (w .1) (a .party) (a .name) (now (a .block))
     (p .1 .0) (p .1 .1 .1) (at-entry-of .entry-of .ensures (w .0) (w .1 .laid)) (at-if1 .if1 .left) (at-held-of .held-of .ensures (w .0) (w .1 .laid))
@@ -97,9 +97,9 @@ returns-3 : tie.Need-returns-3
 returns-3 c =
     let at-put-entry = c .before .before in
     let at-if2 = at-put-entry .before .before in
-    let at-held-of = at-if2 .before in
-    let at-if1 = at-held-of .before .before in
-    let at-entry-of = at-if1 .before in
+    let at-if1 = at-if2 .before in
+    let at-held-of = at-if1 .before in
+    let at-entry-of = at-held-of .before .before in
     let at-start = at-entry-of .before .before .before .before in
     let a = at-start .args in let p = at-start .pre in let w = walked-to _ (p .0) refl in entry-on (w .1) (a .party) (a .name) (now (a .block)) (p .1 .0)
     (p .1 .1 .1) (at-entry-of .entry-of .ensures (w .0) (w .1 .laid)) (at-if1 .if1 .left) (at-held-of .held-of .ensures (w .0) (w .1 .laid)) (at-if2 .if2 .left)
@@ -110,11 +110,11 @@ admitted-spec =
     tie.close
     (tie.spec
     entry-of-requires
+    held-of-requires
+    add-needed
+    add-needed-2
     same-length
     returns
-    held-of-requires
-    add-if2
-    add-if2-2
     same-length-2
     returns-2
     sub-put-entry

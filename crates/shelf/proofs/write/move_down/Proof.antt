@@ -12,10 +12,10 @@ use Rattle.shelf.proofs.write.move_down.Reads as reads
 use Rattle.shelf.proofs.write.move_down.Lts as lts
 
 abbrev Inv-loop : tie.InvT-loop
-Inv-loop shelf₀ at gap count i₀ shelf i = (i ≤ count) × (length shelf ≡ length shelf₀) × (shelf ≡ paste shelf₀ at (drop (at + gap) shelf₀) i)
+Inv-loop shelf₀ at gap count moved₀ shelf moved = (moved ≤ count) × (length shelf ≡ length shelf₀) × (shelf ≡ paste shelf₀ at (drop (at + gap) shelf₀) moved)
 
 abbrev μ-loop : tie.MeasureT-loop
-μ-loop shelf₀ at gap count i₀ shelf i = count - i
+μ-loop shelf₀ at gap count moved₀ shelf moved = count - moved
 
 loop-holds : tie.Need-loop-holds Inv-loop μ-loop
 loop-holds c = let a = c .args in (search needs, refl, paste-zero (now (a .shelf)) (a .at) (drop (a .at + a .gap) (now (a .shelf))))
@@ -35,8 +35,8 @@ add-shelf-3 c = search needs
 slice-write-shelf : tie.Need-slice-write-shelf Inv-loop μ-loop
 slice-write-shelf c = search needs
 
-add-i : tie.Need-add-i Inv-loop μ-loop
-add-i c = search needs
+add-moved : tie.Need-add-moved Inv-loop μ-loop
+add-moved c = search needs
 
 loop-less : tie.Need-loop-less Inv-loop μ-loop
 loop-less c = search needs
@@ -47,7 +47,7 @@ loop-again c =
     let at-loop = at-loop-test .before in
     let at-start = at-loop .before in
     let a = at-start .args in let l = at-loop .loop in
-    (search needs, search needs, move-more (now (a .shelf)) (a .at) (a .gap) (a .count) (at-start .pre) (l .i) (l .inv .2) (at-loop-test .loop-test .taken))
+    (search needs, search needs, move-more (now (a .shelf)) (a .at) (a .gap) (a .count) (at-start .pre) (l .moved) (l .inv .2) (at-loop-test .loop-test .taken))
 
 same-length : tie.Need-same-length Inv-loop μ-loop
 same-length c = search needs
@@ -56,7 +56,7 @@ returns : tie.Need-returns Inv-loop μ-loop
 returns c =
     let at-loop = c .before in
     let at-start = at-loop .before in
-    let a = at-start .args in let l = at-loop .loop in all-moved (now (a .shelf)) (a .at) (a .gap) (a .count) (at-start .pre) (l .i) (l .inv .2) (l .inv .0)
+    let a = at-start .args in let l = at-loop .loop in all-moved (now (a .shelf)) (a .at) (a .gap) (a .count) (at-start .pre) (l .moved) (l .inv .2) (l .inv .0)
     (c .loop-test .left)
 
 pub move-down-spec : {M : Type 1} → statement M
@@ -71,7 +71,7 @@ move-down-spec =
     slice-read-shelf
     add-shelf-3
     slice-write-shelf
-    add-i
+    add-moved
     loop-less
     loop-again
     same-length
