@@ -24,6 +24,7 @@ pub mod Reasons
 pub mod Emits
 pub mod Executions
 pub mod Named
+pub mod Paths
 pub mod Why
 pub mod Before
 pub mod BeforeCases

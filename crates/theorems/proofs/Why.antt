@@ -41,6 +41,7 @@ use Rattle.theorems.proofs.Reasons.{Decides, has-code, has-test, starte
 use Rattle.theorems.proofs.Emits.{Emits, started-emits, resumed-emits}
 use Rattle.theorems.proofs.Executions.{started-executed, resumed-executed}
 use Rattle.theorems.proofs.Named.{taken-below, taken-fits}
+use Rattle.theorems.proofs.Paths.{executed-above}
 
 -- Of a block's tree in a state. Finished runs as nothing, which has a code and emits nothing.
 pub decides : (p : Stmt) (st : State) (E : Event) → Decides (gives must (step p st) E) (taken undecided-test p st E)
@@ -154,10 +155,12 @@ module _ (b : Block) (st : State) (heard : Hearing) where
         let executed : Numbers = taken every (b .body) st E in
         let path : Numbers = on-path (b .body) n in
         let l = lowest-some (statements (b .body)) (cut-off (b .body) n executed) e in
+        let cut : T (executed k) → ⊥ = T-not (executed k) (and-right (path k) (not (executed k)) (l .1)) in
         record {
           on-its-path = and-left (path k) (not (executed k)) (l .1);
-          without-it = T-not (executed k) (and-right (path k) (not (executed k)) (l .1));
+          without-it = cut;
           all-above = λ j h p. either-way (executed j) (λ t. l .2 j h (and-in (path j) (not (executed j)) p t));
+          none-below = λ j p t. cut (executed-above (b .body) st E j k p t);
         }
 
     -- An emit that is not executed is on its own path.

@@ -42,11 +42,12 @@ pub record NamesEmit (p : Stmt) (st : State) (E : Event) (s k : ℕ) : Type 0 wh
   pub executed : T (taken (emit-of s) p st E k)
   pub none-lower : (j : ℕ) → j < k → T (taken (emit-of s) p st E j) → ⊥
 
--- Statement k is on the path of statement n and was not executed, and all above it on the path were.
+-- Statement k is on the path of statement n and was not executed, all above it on the path were, and nothing below it was, wherever the path leads on.
 pub record NamesCut (p : Stmt) (st : State) (E : Event) (n k : ℕ) : Type 0 where
   pub on-its-path : T (on-path p n k)
   pub without-it : T (taken every p st E k) → ⊥
   pub all-above : (j : ℕ) → j < k → T (on-path p n j) → T (taken every p st E j)
+  pub none-below : (j : ℕ) → T (on-path p j k) → T (taken every p st E j) → ⊥
 
 -- Of an emit that was not executed.
 pub record WasNotExecuted (p : Stmt) (st : State) (E : Event) (n : ℕ) : Type 0 where
