@@ -48,7 +48,7 @@ any-in A (k ∷ ns) n s t = go (or-out (eqb n k) (listed ns n) t) (any-in A ns n
     go (inl e) f = or-left (A k) (any A ns) (subst (λ (x : ℕ). T (A x)) (lib.Dec.eqb→eq n k e) s)
     go (inr l) f = or-right (A k) (any A ns) (f l)
 
-any-append : (A : Numbers) (xs ys : List ℕ) → T (any A (xs ++ ys)) → T (any A xs) ⊎ T (any A ys)
+pub any-append : (A : Numbers) (xs ys : List ℕ) → T (any A (xs ++ ys)) → T (any A xs) ⊎ T (any A ys)
 unfolding any
 any-append A [] ys t = inr t
 any-append A (x ∷ xs) ys t = go (or-out (A x) (any A (xs ++ ys)) t) (any-append A xs ys)

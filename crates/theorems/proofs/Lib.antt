@@ -25,6 +25,7 @@ pub mod Emits
 pub mod Executions
 pub mod Named
 pub mod Paths
+pub mod ExecutedEmits
 pub mod Why
 pub mod Before
 pub mod BeforeCases

@@ -37,7 +37,7 @@ module _ (p : Stmt) (numbered : Numbered 0 p) where
   unfolding Numbered
   below-pause n h = subst⁻¹ (λ (xs : List ℕ). T (listed xs n)) numbered (from-in 0 (length (pauses p)) n (omega arith) (omega arith))
 
-  running-active : (A : Numbers) → Running p A → T (active A p)
+  pub running-active : (A : Numbers) → Running p A → T (active A p)
   unfolding active
   running-active A r = let s = r .some-active in any-in A (pauses p) (s .0) (s .1) (below-pause (s .0) (r .in-block (s .0) (s .1)))
 

@@ -18,7 +18,7 @@ use Rattle.rules.specs.MustCan.{must, gives}
 use Rattle.rules.specs.States.{State, fresh, running, finished, executed-as, kept-by}
 use Rattle.rules.specs.Taken.{every, itself-if, taken-started, taken-resumed, taken}
 use Rattle.rules.specs.Reasons.{on-path}
-use Rattle.rules.proofs.Preorder.{first-is, some-statement, only-child, first-child, second-child}
+use Rattle.rules.proofs.Preorder.{first-is, only-child, first-child, second-child}
 use Rattle.theorems.proofs.Named.{AllAmong, started-among, resumed-among}
 
 -- All that is below statement m of p lies in p.
