@@ -27,6 +27,7 @@ pub mod Named
 pub mod Paths
 pub mod ExecutedEmits
 pub mod Why
+pub mod LawEmits
 pub mod Before
 pub mod BeforeCases
 pub mod Traces

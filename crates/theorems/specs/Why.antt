@@ -10,6 +10,7 @@ use Rattle.rules.specs.States.{State}
 use Rattle.rules.specs.Rounds.{Answer, answered, not-constructive, outputs-with}
 use Rattle.rules.specs.Taken.{every, emit-of, undecided-test, taken}
 use Rattle.rules.specs.Reasons.{Asked, refused, is-present, not-executed, is-emit, on-path}
+use Rattle.theorems.specs.Checked.{StandsIn}
 
 -- Refused as not constructive.
 abbrev pub is-13 : Answer → Bool
@@ -53,6 +54,10 @@ pub record NamesCut (p : Stmt) (st : State) (E : Event) (n k : ℕ) : Type 0 whe
 pub record WasNotExecuted (p : Stmt) (st : State) (E : Event) (n : ℕ) : Type 0 where
   pub an-emit : T (is-emit (numbered p n))
   pub without-it : T (taken every p st E n) → ⊥
+
+-- No local of the statement declares s.
+abbrev pub NoLocal : ℕ → Stmt → Type 0
+NoLocal s p = (q : Stmt) → StandsIn (local s q) p → ⊥
 
 -- By the question, the instant's answer and the reason told: where a statement is named, the thing asked about is so and the statement is the one; where none
 -- is, the thing asked about is not so. An answered instant reaches no undecided test.
