@@ -5,7 +5,7 @@ use mathlib.Core.List.{List, [], _∷_, map}
 use mathlib.Core.Option.{Option, none, some}
 use Prim.Native.Nat.{ℕ}
 use Rattle.sets.specs.Numbers.{members, listed, some-to, maxima, down, downs, lowest}
-use Rattle.rules.specs.Statements.{depth, code, Stmt, nothing, pause, emit, present?_then_else_, suspend_on_, _⨾_, loop, _parallel_, trap, exit, statements, preorder, pauses}
+use Rattle.rules.specs.Statements.{depth, code, Stmt, nothing, pause, emit, present?_then_else_, suspend_on_, _⨾_, loop, _parallel_, trap, exit, local, statements, preorder, pauses}
 use Rattle.rules.specs.Events.{Hearing, event}
 use Rattle.rules.specs.Instant.{any, active, held, started, resumed}
 use Rattle.rules.specs.MustCan.{gives}
@@ -144,6 +144,25 @@ behind-exit = ask 1 (trap (exit (depth 0) ⨾ nothing ⨾ emit 0)) fresh (not-ex
 abbrev other-branch : Question
 other-branch = ask 2 (emit 0 ⨾ (present? 0 then emit 1 else (nothing ⨾ emit 1))) fresh (not-executed 6) (some 4)
 
+-- a statement that is started or resumed is executed, though nothing of what is asked about below it is: it is not the one that is named
+abbrev in-suspend-started : Question
+in-suspend-started = ask 1 suspend-self fresh (not-executed 3) (some 3)
+
+abbrev in-loop-started : Question
+in-loop-started = ask 1 (loop (pause 0 ⨾ emit 0)) fresh (not-executed 3) (some 3)
+
+abbrev in-local-started : Question
+in-local-started = ask 1 (local 1 (pause 0 ⨾ emit 0)) fresh (not-executed 3) (some 3)
+
+abbrev in-parallel-started : Question
+in-parallel-started = ask 1 ((pause 0 ⨾ emit 0) parallel nothing) fresh (not-executed 3) (some 3)
+
+abbrev in-trap-resumed : Question
+in-trap-resumed = ask 1 (trap (emit 0 ⨾ pause 0)) (active-on (0 ∷ [])) (not-executed 2) (some 2)
+
+abbrev in-present-resumed : Question
+in-present-resumed = ask 2 (present? 1 then (emit 0 ⨾ pause 0) else nothing) (active-on (0 ∷ [])) (not-executed 2) (some 2)
+
 -- H in its second instant: S is emitted in the run that ends, and N in the run that starts; O in neither
 abbrev H-output : Question
 H-output = of-row H-second (not-executed 4) (some 4)
@@ -182,6 +201,7 @@ table =
     C-refused ∷ C-present ∷ C-emit ∷ F-refused ∷ local-refused ∷ suspend-starts ∷ suspend-resumes ∷ suspend-no-test ∷ present-no-test ∷ loop-restarts ∷ first-unsure ∷ arm-unsure
     ∷ twice-present ∷ twice-executed ∷ twice-first ∷ twice-second ∷ twice-pause ∷ twice-beyond ∷ twice-finished ∷ twice-finished-sequence
     ∷ finished-refused ∷ finished-absent ∷ held-back ∷ idle-arm ∷ behind-exit ∷ other-branch
+    ∷ in-suspend-started ∷ in-loop-started ∷ in-local-started ∷ in-parallel-started ∷ in-trap-resumed ∷ in-present-resumed
     ∷ H-output ∷ H-local ∷ H-present ∷ H-absent ∷ H-of-a-local ∷ H-answered ∷ unheard-refused ∷ unheard-answered ∷ unheard-emit ∷ present-input ∷ []
 
 pub reasons-worked : map reason table ≡ map (λ r. r .named) table
