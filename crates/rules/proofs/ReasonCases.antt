@@ -163,6 +163,9 @@ in-trap-resumed = ask 1 (trap (emit 0 ⨾ pause 0)) (active-on (0 ∷ [])) (not-
 abbrev in-present-resumed : Question
 in-present-resumed = ask 2 (present? 1 then (emit 0 ⨾ pause 0) else nothing) (active-on (0 ∷ [])) (not-executed 2) (some 2)
 
+abbrev in-local-resumed : Question
+in-local-resumed = ask 1 (local 1 (emit 0 ⨾ pause 0)) (active-on (0 ∷ [])) (not-executed 2) (some 2)
+
 -- H in its second instant: S is emitted in the run that ends, and N in the run that starts; O in neither
 abbrev H-output : Question
 H-output = of-row H-second (not-executed 4) (some 4)
@@ -201,7 +204,7 @@ table =
     C-refused ∷ C-present ∷ C-emit ∷ F-refused ∷ local-refused ∷ suspend-starts ∷ suspend-resumes ∷ suspend-no-test ∷ present-no-test ∷ loop-restarts ∷ first-unsure ∷ arm-unsure
     ∷ twice-present ∷ twice-executed ∷ twice-first ∷ twice-second ∷ twice-pause ∷ twice-beyond ∷ twice-finished ∷ twice-finished-sequence
     ∷ finished-refused ∷ finished-absent ∷ held-back ∷ idle-arm ∷ behind-exit ∷ other-branch
-    ∷ in-suspend-started ∷ in-loop-started ∷ in-local-started ∷ in-parallel-started ∷ in-trap-resumed ∷ in-present-resumed
+    ∷ in-suspend-started ∷ in-loop-started ∷ in-local-started ∷ in-parallel-started ∷ in-trap-resumed ∷ in-present-resumed ∷ in-local-resumed
     ∷ H-output ∷ H-local ∷ H-present ∷ H-absent ∷ H-of-a-local ∷ H-answered ∷ unheard-refused ∷ unheard-answered ∷ unheard-emit ∷ present-input ∷ []
 
 pub reasons-worked : map reason table ≡ map (λ r. r .named) table

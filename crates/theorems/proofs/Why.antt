@@ -1,6 +1,6 @@
 -- Each reason told of an instant is true, and one is told exactly where the thing asked about is so: an undecided test is reached exactly where must has no code, a present
--- output is in must and so an emit of it is reached, and an emit that is not executed is itself on its path. What is told as executed is what every coherent reaction
--- executes. Assumes nothing.
+-- output is in must and so an emit of it is reached, and an emit that is not executed is itself on its path, below
+-- whose topmost that was not executed nothing was. What is told as executed is what every coherent reaction executes. Assumes nothing.
 use mathlib.Core.Path.{_≡_, refl, sym, _∙_, subst}
 use mathlib.Core.Logic.{_↔_}
 use mathlib.Core.Bool.{Bool, true, false, not, _&&_}
