@@ -1,10 +1,12 @@
-// The only file that names the library's calls and answers. Each call gives its answer as numbers, in the order of its line: a
-// refusal's number comes first, 0 where there is none, and what is not named is 0.
+// The calls on no shelf. Each gives its answer as numbers, in the order of its line: a refusal's number comes first, 0 where there is none, and what is not
+// named is 0.
+use foldheron::Asked;
 use foldheron::Begun;
 use foldheron::Checked;
 use foldheron::Doubt;
 use foldheron::Instant;
 use foldheron::Reaction;
+use foldheron::Reason;
 use foldheron::Summary;
 use foldheron::number_of;
 
@@ -29,6 +31,9 @@ const PAUSES: usize = 7;
 const FIRST: usize = 2;
 
 const SECOND: usize = 3;
+
+// Of a reason.
+const STATEMENT: usize = 4;
 
 const PRESENT: usize = 4;
 
@@ -112,6 +117,38 @@ pub fn excerpt<'a>(block: &'a [u8], n: u64, numbers: &mut [u64; 11]) -> &'a [u8]
     numbers[NUMBER] = number as u64;
     numbers[PLACE] = place as u64;
     part
+}
+
+// NUMBER to SECOND, and STATEMENT.
+pub fn reason(
+    block: &[u8],
+    state: &[u8],
+    present: u64,
+    absent: u64,
+    question: u64,
+    about: u64,
+) -> [u64; 11] {
+    let answer = foldheron::reason(block, state, present, absent, asked(question, about));
+    match answer {
+        Reason::Statement(n) => named(n),
+        Reason::Clash(first, second) => clashed(first, second, 0),
+        Reason::Refused(why, place) => refused(number_of(why), place),
+    }
+}
+
+// The questions by their numbers, and what they are about.
+fn asked(question: u64, about: u64) -> Asked {
+    match question {
+        0 => Asked::Refused,
+        1 => Asked::Present(about as usize),
+        _ => Asked::NotExecuted(about as usize),
+    }
+}
+
+fn named(statement: usize) -> [u64; 11] {
+    let mut n = [0u64; 11];
+    n[STATEMENT] = statement as u64;
+    n
 }
 
 fn numbers(answer: Instant, end: u64) -> [u64; 11] {

@@ -1,14 +1,10 @@
-// The public calls, answered from a file of cases with a line a case on standard output: every field of the answer and every
-// byte that was lent to be written, as they are after the call. reference/README.md says how cases and lines are written.
+// Answers the cases of a file, each with a line on standard output. reference/README.md says how cases and lines are written.
 //
-// Memory is constant: one case is held at a time, with a block of at most 65,536 bytes, a state of at most 64 and a log of at
-// most 512. A file that ends within a case, or holds a longer one, gets the line `cut`, and nothing after that is read.
-mod calls;
+// Memory is constant: one case is held at a time, with a block of at most 65,536 bytes, a state of at most 64, a log of at most 512 and a shelf of at most
+// 131,072. A file that ends within a case, or holds a longer one, gets the line `cut`, and nothing after that is read.
 mod head;
-mod line;
-mod text;
 
-use head::Head;
+use answering::Case;
 use libc::STDOUT_FILENO;
 
 // Answers every case of a file.
@@ -25,10 +21,9 @@ pub fn answer(path: &[u8]) {
 // A proved loop has to end, and nothing says that a file does: the cases are counted down from a number that no file reaches.
 fn answer_all(fd: i32) {
     let mut block = io::large_buffer();
-    let mut out = io::large_buffer();
     let mut left = u64::MAX;
     while left > 0 {
-        if !answer_next(fd, &mut block, &mut out) {
+        if !answer_next(fd, &mut block) {
             return;
         }
         left -= 1;
@@ -36,7 +31,7 @@ fn answer_all(fd: i32) {
 }
 
 // Reads a case, answers it, and says whether to go on.
-fn answer_next(fd: i32, block: &mut [u8], out: &mut [u8]) -> bool {
+fn answer_next(fd: i32, block: &mut [u8]) -> bool {
     let mut bytes = [0u8; 24];
     let count = io::read_full(fd, &mut bytes);
     if count == 0 {
@@ -45,15 +40,11 @@ fn answer_next(fd: i32, block: &mut [u8], out: &mut [u8]) -> bool {
     if count < 24 {
         return cut();
     }
-    let head = head::read(&bytes);
     let mut more = [0u8; 16];
-    if !read_more(fd, head.kind, &mut more) {
+    if !read_more(fd, bytes[0], &mut more) {
         return cut();
     }
-    let mut state = [0u8; 64];
-    let mut log = [0u8; 512];
-    let whole = head::with_more(head, &more);
-    answer_case(fd, whole, block, &mut state, &mut log, out)
+    answer_case(fd, head::read(&bytes, &more), block)
 }
 
 // From call 6 on a head has two numbers more; answers whether they came.
@@ -64,72 +55,87 @@ fn read_more(fd: i32, kind: u8, more: &mut [u8]) -> bool {
     io::read_full(fd, more) == more.len()
 }
 
-// Takes of the room that there is what the case says.
-fn answer_case(
-    fd: i32,
-    head: Head,
-    block: &mut [u8],
-    state: &mut [u8],
-    log: &mut [u8],
-    out: &mut [u8],
-) -> bool {
-    let b = head.block;
-    let s = head.state;
-    let l = head.log;
-    if b > block.len() {
+// Takes of the room that there is what the block has.
+fn answer_case(fd: i32, case: Case, room: &mut [u8]) -> bool {
+    let size = case.block;
+    if size > room.len() {
         return cut();
     }
+    answer_block(fd, case, &mut room[..size])
+}
+
+fn answer_block(fd: i32, case: Case, block: &mut [u8]) -> bool {
+    if io::read_full(fd, block) < block.len() {
+        return cut();
+    }
+    if is_on_shelf(case.kind) {
+        let mut shelf = [0u8; 131072];
+        return answer_on_shelf(fd, case, block, &mut shelf);
+    }
+    let mut state = [0u8; 64];
+    let mut log = [0u8; 512];
+    answer_lent(fd, case, block, &mut state, &mut log)
+}
+
+fn is_on_shelf(kind: u64) -> bool {
+    match kind {
+        9..=11 => true,
+        _ => false,
+    }
+}
+
+// Takes of the room that there is what the state and the log have.
+fn answer_lent(fd: i32, case: Case, block: &[u8], state: &mut [u8], log: &mut [u8]) -> bool {
+    let s = case.state;
+    let l = case.log;
     if s > state.len() {
         return cut();
     }
     if l > log.len() {
         return cut();
     }
-    answer_lent(
-        fd,
-        head,
-        &mut block[..b],
-        &mut state[..s],
-        &mut log[..l],
-        out,
-    )
+    answer_read(fd, case, block, &mut state[..s], &mut log[..l])
 }
 
-fn answer_lent(
-    fd: i32,
-    head: Head,
-    block: &mut [u8],
-    state: &mut [u8],
-    log: &mut [u8],
-    out: &mut [u8],
-) -> bool {
-    if !read(fd, block, state, log) {
+fn answer_read(fd: i32, case: Case, block: &[u8], state: &mut [u8], log: &mut [u8]) -> bool {
+    if io::read_full(fd, state) < state.len() {
         return cut();
     }
-    let end = line::put(out, head, block, state, log);
-    write(&out[..end])
+    if io::read_full(fd, log) < log.len() {
+        return cut();
+    }
+    is_told(answering::answer(case, block, state, log))
 }
 
-// Reads what is lent in a case, and answers whether all of it came.
-fn read(fd: i32, block: &mut [u8], state: &mut [u8], log: &mut [u8]) -> bool {
-    if io::read_full(fd, block) < block.len() {
-        return false;
+// Takes of the room that there is what the shelf has.
+fn answer_on_shelf(fd: i32, case: Case, block: &[u8], room: &mut [u8]) -> bool {
+    let size = case.third as usize;
+    let stands = case.fourth as usize;
+    if size > room.len() {
+        return cut();
     }
-    if io::read_full(fd, state) < state.len() {
-        return false;
+    answer_shelf(fd, case, block, &mut room[..size], stands)
+}
+
+// Of a shelf the zeros at its end do not stand in the file.
+fn answer_shelf(fd: i32, case: Case, block: &[u8], shelf: &mut [u8], stands: usize) -> bool {
+    if stands > shelf.len() {
+        return cut();
     }
-    io::read_full(fd, log) == log.len()
+    if io::read_full(fd, &mut shelf[..stands]) < stands {
+        return cut();
+    }
+    is_told(answering::answer_on_shelf(case, block, shelf))
 }
 
 // The line of a case that is cut short or too long for this program; nothing can come after it.
 fn cut() -> bool {
-    write(b"cut\n");
+    is_told(io::write_all(STDOUT_FILENO, b"cut\n"));
     false
 }
 
-// Writes all of the text, and answers whether that went well; else standard error says why not.
-fn write(out: &[u8]) -> bool {
-    let is_written = io::write_all(STDOUT_FILENO, out);
+// Where a line was not written, standard error says why not.
+fn is_told(is_written: bool) -> bool {
     if !is_written {
         os::fail(b"standard output");
     }

@@ -1,4 +1,4 @@
--- `comparing::answer_all` is safe and ends. The loop's invariant: the two buffers keep their lengths. The measure is how many cases may
+-- `comparing::answer_all` is safe and ends. The loop's invariant: the buffer keeps its length. The measure is how many cases may
 -- yet come. Assumes nothing.
 use mathlib.Core.Path.{_≡_}
 use lib.ListN.{length}
@@ -7,25 +7,19 @@ use Rattle.comparing.proofs.answer_all.Statement.{statement}
 use Rattle.comparing.proofs.answer_all.Tie as tie
 
 abbrev Inv-loop : tie.InvT-loop
-Inv-loop fd block₀ out₀ left₀ block out left = (65536 ≡ length block) × (65536 ≡ length out)
+Inv-loop fd block₀ left₀ block left = 65536 ≡ length block
 
 abbrev μ-loop : tie.MeasureT-loop
-μ-loop fd block₀ out₀ left₀ block out left = left
+μ-loop fd block₀ left₀ block left = left
 
 large-buffer-requires : tie.Need-large-buffer-requires Inv-loop μ-loop
 large-buffer-requires c κs = search needs
-
-large-buffer-requires-2 : tie.Need-large-buffer-requires-2 Inv-loop μ-loop
-large-buffer-requires-2 c κs = search needs
 
 loop-holds : tie.Need-loop-holds Inv-loop μ-loop
 loop-holds c = search needs
 
 slice-aggregate-answer-next : tie.Need-slice-aggregate-answer-next Inv-loop μ-loop
 slice-aggregate-answer-next c = search needs
-
-slice-aggregate-answer-next-2 : tie.Need-slice-aggregate-answer-next-2 Inv-loop μ-loop
-slice-aggregate-answer-next-2 c = search needs
 
 answer-next-requires : tie.Need-answer-next-requires Inv-loop μ-loop
 answer-next-requires c κs = search needs
@@ -52,10 +46,8 @@ answer-all-spec =
     Inv-loop
     μ-loop
     large-buffer-requires
-    large-buffer-requires-2
     loop-holds
     slice-aggregate-answer-next
-    slice-aggregate-answer-next-2
     answer-next-requires
     returns
     sub-left

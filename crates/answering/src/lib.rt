@@ -1,0 +1,137 @@
+// The public calls, each answered with a line on standard output: the name of the call, every number of its answer, and every byte that was lent to be
+// written, as it is after the call; of a part that comes back its bytes. reference/README.md says how the lines are written.
+mod calls;
+mod shelves;
+mod text;
+
+use text::put;
+use text::put_bytes;
+use text::put_numbers;
+
+// A case: which call it is, how many bytes are lent to it, and its numbers.
+pub struct Case {
+    pub kind: u64,
+    pub state: usize,
+    pub log: usize,
+    pub block: usize,
+    // Of a call on a shelf the party.
+    pub inputs: u64,
+    // The end of a log, the number of an excerpt, what a question is about, or a name on a shelf.
+    pub other: u64,
+    // The inputs absent, or the size of a shelf.
+    pub third: u64,
+    // Which question, or how many bytes of a shelf stand in the file, before the zeros.
+    pub fourth: u64,
+}
+
+// Answers a call on no shelf; tells whether the line was written.
+pub fn answer(case: Case, block: &[u8], state: &mut [u8], log: &mut [u8]) -> bool {
+    line(case, block, state, log);
+    put(b"\n")
+}
+
+fn line(case: Case, block: &[u8], state: &mut [u8], log: &mut [u8]) {
+    let kind = case.kind;
+    match kind {
+        1 => check(block),
+        2 => fresh(block, state),
+        3 => instant(block, state, case.inputs),
+        4 => logged(block, state, case.inputs, log, case.other),
+        5 => excerpt(block, case.other),
+        6 => heard(block, state, case.inputs, case.third),
+        7 => heard_logged(block, state, case.inputs, case.third, log, case.other),
+        8 => reason(
+            block,
+            state,
+            case.inputs,
+            case.third,
+            case.fourth,
+            case.other,
+        ),
+        _ => no_call(),
+    }
+}
+
+// The same for a call on a shelf.
+pub fn answer_on_shelf(case: Case, block: &[u8], shelf: &mut [u8]) -> bool {
+    line_on_shelf(case, block, shelf);
+    put(b"\n")
+}
+
+fn line_on_shelf(case: Case, block: &[u8], shelf: &mut [u8]) {
+    let kind = case.kind;
+    match kind {
+        9 => shelves::install(shelf, case.inputs, case.other, block),
+        10 => shelves::fetch(shelf, case.inputs, case.other),
+        11 => shelves::withdraw(shelf, case.inputs, case.other),
+        _ => no_call(),
+    }
+}
+
+fn no_call() {
+    put(b"no such call");
+}
+
+fn check(block: &[u8]) {
+    let numbers = calls::check(block);
+    put(b"check");
+    put_numbers(&numbers, 8);
+}
+
+fn fresh(block: &[u8], state: &mut [u8]) {
+    let numbers = calls::fresh(block, state);
+    put(b"fresh");
+    put_numbers(&numbers, 2);
+    put_bytes(state);
+}
+
+fn instant(block: &[u8], state: &mut [u8], inputs: u64) {
+    let numbers = calls::instant(block, state, inputs);
+    put(b"instant");
+    put_numbers(&numbers, 10);
+    put_bytes(state);
+}
+
+fn logged(block: &[u8], state: &mut [u8], inputs: u64, log: &mut [u8], end: u64) {
+    let numbers = calls::logged(block, state, inputs, log, end);
+    put(b"logged");
+    put_numbers(&numbers, 11);
+    put_bytes(state);
+    put_bytes(log);
+}
+
+fn excerpt(block: &[u8], n: u64) {
+    let mut numbers = [0u64; 11];
+    let part = calls::excerpt(block, n, &mut numbers);
+    put(b"excerpt");
+    put_numbers(&numbers, 2);
+    put_bytes(part);
+}
+
+fn heard(block: &[u8], state: &mut [u8], present: u64, absent: u64) {
+    let numbers = calls::heard(block, state, present, absent);
+    put(b"heard");
+    put_numbers(&numbers, 10);
+    put_bytes(state);
+}
+
+fn heard_logged(
+    block: &[u8],
+    state: &mut [u8],
+    present: u64,
+    absent: u64,
+    log: &mut [u8],
+    end: u64,
+) {
+    let numbers = calls::heard_logged(block, state, present, absent, log, end);
+    put(b"heardlogged");
+    put_numbers(&numbers, 11);
+    put_bytes(state);
+    put_bytes(log);
+}
+
+fn reason(block: &[u8], state: &[u8], present: u64, absent: u64, question: u64, about: u64) {
+    let numbers = calls::reason(block, state, present, absent, question, about);
+    put(b"reason");
+    put_numbers(&numbers, 5);
+}
