@@ -1,0 +1,4 @@
+pub mod Lists
+pub mod Standing
+pub mod Played
+pub mod Claimed
