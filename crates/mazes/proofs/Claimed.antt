@@ -16,7 +16,7 @@ use Rattle.block.specs.Good.{Scoped}
 use Rattle.mazes.specs.Mazes.{OfForm, an-emit, with-then, with-else, a-parallel, is-nothing, Room, signal, part, gate, dungeon, Corridor, visible, secret, Maze, corridors, gate-corridors, maze-of, OneOf, End, winning, losing, Ends, by-visible, by-secret, denied, Wins, Loses}
 use Rattle.mazes.proofs.Lists.{none-of, the-first, a-later, first-or-later, the-only, of-first, of-second, of-either}
 use Rattle.mazes.proofs.Standing.{Stands, at-root, itself, not-nothing}
-use Rattle.mazes.proofs.Played.{idle, part-is, then-gate, else-gate, then-stands, else-stands, first-stands, second-stands}
+use Rattle.mazes.proofs.Played.{idle, part-is, then-gate, else-gate, then-stands, else-stands, first-stands, second-stands, as-input, as-output}
 
 -- What can gives for a test with one part.
 module _ (a : ℕ) (k : Mark) where
@@ -250,21 +250,13 @@ module _ (b : Block) (given : Numbers) (E : Event) where
     input-refuted true f = absurd (f (visible dungeon) (the-first (visible dungeon) []))
     input-refuted false f = refl
 
-    as-input : (s : ℕ) → T (ltb s (b .inputs)) → maze-of b given (signal s) ≡ cond (given s) (visible dungeon ∷ []) []
-    unfolding maze-of
-    as-input s t = ap (λ (z : Bool). cond z (cond (given s) (visible dungeon ∷ []) []) (corridors s 0 (b .body))) (is-true (ltb s (b .inputs)) t)
-
-    as-output : (s : ℕ) → ltb s (b .inputs) ≡ false → maze-of b given (signal s) ≡ corridors s 0 (b .body)
-    unfolding maze-of
-    as-output s e = ap (λ (z : Bool). cond z (cond (given s) (visible dungeon ∷ []) []) (corridors s 0 (b .body))) e
-
     won-by : (r : Room) (c : Corridor) → OneOf (maze-of b given r) c → Gained c → Won r
     unfolding Won maze-of
     won-by (signal s) c k g = λ d. go d (cases (ltb s (b .inputs)))
       where
         go : T (declared s) → T (ltb s (b .inputs)) ⊎ (ltb s (b .inputs) ≡ false) → E s ≡ present
-        go d (inl t) = settled .input-known s t ∙ input-gained (given s) c (subst (λ (cs : List Corridor). OneOf cs c) (as-input s t) k)
-        go d (inr e) = settled .must-present s e d (gained-must s (body-fits .its-form) 0 body-fits c (subst (λ (cs : List Corridor). OneOf cs c) (as-output s e) k) g)
+        go d (inl t) = settled .input-known s t ∙ input-gained (given s) c (subst (λ (cs : List Corridor). OneOf cs c) (as-input b given s t) k)
+        go d (inr e) = settled .must-present s e d (gained-must s (body-fits .its-form) 0 body-fits c (subst (λ (cs : List Corridor). OneOf cs c) (as-output b given s e) k) g)
     won-by (part i a) c k g = λ t h. gained-must a (h .its-form) i h c (subst (λ (cs : List Corridor). OneOf cs c) (part-is b given a (h .stands)) k) g
     won-by (gate i a) c k g = λ s p q h. gate-won a (h .its-form) i h c k g
     won-by dungeon c k g = none-of k
@@ -274,10 +266,10 @@ module _ (b : Block) (given : Numbers) (E : Event) where
     lost-by (signal s) x = λ d. go d (cases (ltb s (b .inputs)))
       where
         go : T (declared s) → T (ltb s (b .inputs)) ⊎ (ltb s (b .inputs) ≡ false) → E s ≡ absent
-        go d (inl t) = settled .input-known s t ∙ input-refuted (given s) (subst (λ (cs : List Corridor). (c : Corridor) → OneOf cs c → Refuted c) (as-input s t) x)
+        go d (inl t) = settled .input-known s t ∙ input-refuted (given s) (subst (λ (cs : List Corridor). (c : Corridor) → OneOf cs c → Refuted c) (as-input b given s t) x)
         go d (inr e) =
             settled .cannot-absent s e d
-            (refuted-cannot s (body-fits .its-form) 0 body-fits (subst (λ (cs : List Corridor). (c : Corridor) → OneOf cs c → Refuted c) (as-output s e) x))
+            (refuted-cannot s (body-fits .its-form) 0 body-fits (subst (λ (cs : List Corridor). (c : Corridor) → OneOf cs c → Refuted c) (as-output b given s e) x))
     lost-by (part i a) x =
         λ t h. refuted-cannot a (h .its-form) i h (subst (λ (cs : List Corridor). (c : Corridor) → OneOf cs c → Refuted c) (part-is b given a (h .stands)) x)
     lost-by (gate i a) x = λ s p q h. gate-lost a (h .its-form) i h x

@@ -5,7 +5,7 @@ use mathlib.Core.Logic.{_⊎_, inl, inr}
 use mathlib.Core.Bool.{Bool, true, false, cond}
 use mathlib.Core.List.{List, [], _∷_, _++_}
 use Prim.Native.Nat.{ℕ, _+_}
-use lib.Dec.{T, eqb}
+use lib.Dec.{T, eqb, ltb}
 use Rattle.sets.specs.Numbers.{Numbers, empty, single}
 use Rattle.sets.proofs.Members.{is-true, or-out, or-left, or-right}
 use Rattle.rules.specs.Statements.{Block, Stmt, nothing, emit, present?_then_else_, _parallel_, statements, preorder, numbered}
@@ -132,6 +132,15 @@ module _ (b : Block) (given : Numbers) where
       ap (gate-corridors a i) (itself h)
       ∙ ap (λ (z : Bool). cond z (visible (signal s) ∷ visible (part (i + 1) a) ∷ []) (secret (signal s) ∷ visible (part (i + 1 + statements nothing) a) ∷ [])) (not-nothing f)
 
+  -- The room of an input, and of any other signal.
+  pub as-input : (s : ℕ) → T (ltb s (b .inputs)) → maze-of b given (signal s) ≡ cond (given s) (visible dungeon ∷ []) []
+  unfolding maze-of
+  as-input s t = ap (λ (z : Bool). cond z (cond (given s) (visible dungeon ∷ []) []) (corridors s 0 (b .body))) (is-true (ltb s (b .inputs)) t)
+
+  pub as-output : (s : ℕ) → ltb s (b .inputs) ≡ false → maze-of b given (signal s) ≡ corridors s 0 (b .body)
+  unfolding maze-of
+  as-output s e = ap (λ (z : Bool). cond z (cond (given s) (visible dungeon ∷ []) []) (corridors s 0 (b .body))) e
+
   -- The parts of a test and the arms of a parallel stand where the rules of the maze say.
   pub then-stands : {i s : ℕ} {p : Stmt} → Stands (b .body) i (present? s then p else nothing) → Stands (b .body) (i + 1) p
   unfolding preorder statements
@@ -153,11 +162,11 @@ module _ (b : Block) (given : Numbers) where
   unfolding maze-of
   no-way-out = refl
 
-  emit-gains : (z : Bool) → T z → SomeGains maze (cond z (visible dungeon ∷ []) [])
+  pub emit-gains : (z : Bool) → T z → SomeGains maze (cond z (visible dungeon ∷ []) [])
   emit-gains true t = first-gains maze (visible dungeon) [] (dungeon-loses maze no-way-out)
   emit-gains false t = absurd t
 
-  no-emit-denies : (z : Bool) → (T z → ⊥) → AllDeny maze (cond z (visible dungeon ∷ []) [])
+  pub no-emit-denies : (z : Bool) → (T z → ⊥) → AllDeny maze (cond z (visible dungeon ∷ []) [])
   no-emit-denies true f = absurd (f tt)
   no-emit-denies false f = none-denies maze
 

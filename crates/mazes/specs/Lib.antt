@@ -1,1 +1,2 @@
 pub mod Mazes
+pub mod AsRounds
