@@ -35,7 +35,7 @@ module _ (b : Block) (given : Numbers) where
   known-status false true t = refl
   known-status false false t = absurd t
 
-  input-is : (vs : List Status) (s : ℕ) → T (ltb s (b .inputs)) → event b (all-heard b given) vs s ≡ known (given s)
+  pub input-is : (vs : List Status) (s : ℕ) → T (ltb s (b .inputs)) → event b (all-heard b given) vs s ≡ known (given s)
   input-is vs s t = event-input b (all-heard b given) vs s t ∙ known-status (given s) (ltb s (b .inputs)) t
 
   -- What a status says of a signal's room.

@@ -12,6 +12,7 @@ use Rattle.sets.proofs.Members.{is-true, of-true, and-in, and-left, and-right, 
 use Rattle.rules.specs.Statements.{Stmt, nothing, pause, emit, present?_then_else_, suspend_on_, _⨾_, loop, _parallel_, trap, exit, local, statements, preorder, numbered}
 use Rattle.rules.proofs.Preorder.{first-is, some-statement, first-child, second-child}
 use Rattle.mazes.specs.Mazes.{OfForm, an-emit, with-then, with-else, a-parallel, is-nothing, of-form}
+use Rattle.mazes.specs.Fitting.{one-alone, neither, fits}
 use Rattle.mazes.proofs.Standing.{not-nothing}
 
 is-nothing-is : (p : Stmt) → T (is-nothing p) → p ≡ nothing
@@ -54,26 +55,6 @@ is-of-form (an-emit s) = tt
 is-of-form (with-then s {p} f) = or-left (of-form p && true) (is-nothing p && false) (and-in (of-form p) true (is-of-form f) tt)
 is-of-form (with-else s {q} f) = or-right (false && is-nothing q) (of-form q) (is-of-form f)
 is-of-form (a-parallel {p} {q} f g) = and-in (of-form p) (of-form q) (is-of-form f) (is-of-form g)
-
--- A statement fits its children: a present has nothing in exactly one branch, a parallel in no arm; no other statement but an emit or a nothing fits.
-abbrev pub one-alone : Bool → Bool → Bool
-one-alone x y = x && not y || not x && y
-
-abbrev pub neither : Bool → Bool → Bool
-neither x y = not x && not y
-
-unfoldable pub fits : Stmt → Bool
-fits nothing = true
-fits (pause n) = false
-fits (emit s) = true
-fits (present? s then p else q) = one-alone (is-nothing p) (is-nothing q)
-fits (suspend p on s) = false
-fits (p ⨾ q) = false
-fits (loop p) = false
-fits (p parallel q) = neither (is-nothing p) (is-nothing q)
-fits (trap p) = false
-fits (exit d) = false
-fits (local s p) = false
 
 pub record AllFit (p : Stmt) : Type 0 where
   pub at : (m : ℕ) → m < statements p → T (fits (numbered p m))

@@ -1,2 +1,3 @@
 pub mod Mazes
 pub mod AsRounds
+pub mod Fitting
