@@ -1,0 +1,40 @@
+-- `maze::view::maze` meets its contract: a block that cannot be read is turned down as its reading says, another goes on.
+-- Assumes nothing.
+use Rattle.reaction.proofs.Fronts.{block-reads}
+use Rattle.maze.proofs.ViewLaws.{block-fails, block-way}
+use borrow.Author.Needs.{needs}
+use Rattle.maze.proofs.view.maze.Statement.{statement}
+use Rattle.maze.proofs.view.maze.Tie as tie
+use Rattle.maze.proofs.view.maze.Reads as reads
+use Rattle.maze.proofs.view.maze.Lts as lts
+use Rattle.block.proofs.whole.read_block.Reads as read-block-reads
+use Rattle.maze.proofs.view.past_reading.Reads as past-reading-reads
+
+read-block-requires : tie.Need-read-block-requires
+read-block-requires c κs = search needs
+
+enum-known-checked : tie.Need-enum-known-checked
+enum-known-checked c = search needs
+
+enum-known-checked-2 : tie.Need-enum-known-checked-2
+enum-known-checked-2 c = search needs
+
+past-reading-requires : tie.Need-past-reading-requires
+past-reading-requires c κs = let r = block-reads _ (c .before .before .before .before .before .before .read-block .ensures) (c .before .before .before .before .checked2 .given .1) in (r .0, r .1)
+
+returns : tie.Need-returns
+returns c = block-fails _ _ (c .before .before .before .read-block .ensures) (c .before .checked .given .1)
+
+returns-2 : tie.Need-returns-2
+returns-2 c = let r = block-reads _ (c .before .before .before .before .before .before .before .read-block .ensures) (c .before .before .before .before .before .checked2 .given .1) in block-way _ _ (c .past-reading .result) (r .2) (c .past-reading .ensures (r .0) (r .1))
+
+pub maze-spec : {M : Type 1} → statement M
+maze-spec =
+    tie.close
+    (tie.spec
+    read-block-requires
+    enum-known-checked
+    enum-known-checked-2
+    past-reading-requires
+    returns
+    returns-2)

@@ -1,0 +1,34 @@
+-- `maze::view::past_reading` meets its contract: INPUT, FORM, then the rooms, one lemma for each way.
+-- Assumes nothing.
+use Rattle.maze.proofs.ViewLaws.{few-rows, input-way, form-way, shown-way}
+use borrow.Author.Needs.{needs}
+use Rattle.maze.proofs.view.past_reading.Statement.{statement}
+use Rattle.maze.proofs.view.past_reading.Tie as tie
+use Rattle.maze.proofs.view.past_reading.Reads as reads
+use Rattle.maze.proofs.view.past_reading.Lts as lts
+use Rattle.maze.proofs.form.in_form.Reads as in-form-reads
+use Rattle.maze.proofs.view.rooms_of.Reads as rooms-of-reads
+use Rattle.records.proofs.bits.input_over.Reads as input-over-reads
+
+input-over-requires : tie.Need-input-over-requires
+input-over-requires c κs = search needs
+
+returns : tie.Need-returns
+returns c = λ g o. input-way o (c .before .before .args .inputs) (c .before .input-over .ensures) (c .if1 .taken)
+
+in-form-requires : tie.Need-in-form-requires
+in-form-requires c κs = few-rows (c .before .before .pre .1)
+
+rooms-of-requires : tie.Need-rooms-of-requires
+rooms-of-requires c κs = search needs
+
+returns-2 : tie.Need-returns-2
+returns-2 c = λ g o. shown-way o (c .before .before .before .before .before .args .inputs) (c .before .before .before .before .input-over .ensures) (c .before .before .before .if1 .left) (c .before .before .in-form .ensures) (c .before .if2 .taken) (c .rooms-of .ensures g o)
+
+returns-3 : tie.Need-returns-3
+returns-3 c = λ g o. form-way o (c .before .before .before .before .args .inputs) (c .before .before .before .input-over .ensures) (c .before .before .if1 .left) (c .before .in-form .ensures) (c .if2 .left)
+
+pub past-reading-spec : {M : Type 1} → statement M
+past-reading-spec =
+    tie.close
+    (tie.spec input-over-requires returns in-form-requires rooms-of-requires returns-2 returns-3)
