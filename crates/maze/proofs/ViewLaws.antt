@@ -245,7 +245,8 @@ module _ {tab : Table} {s : Summary} {g : Good} (o : Opened tab s g) (given : �
       at-unheard : (n : ℕ) → bits (heard .absent) n ≡ (ltb n (g .header .inputs) && not (bits given n))
       at-unheard n = ap (λ (k : Hearing). k .heard-absent n) heard-is
 
-      won : (n : ℕ) → (bits given n || outputs-with present (block-of g) (final-of (block-of g) fresh (all-heard (block-of g) (bits given)) .statuses) n) ≡ same (final-status (block-of g) (bits given) n) present
+      won : (n : ℕ) → (bits given n || outputs-with present (block-of g) (final-of (block-of g) fresh (all-heard (block-of g) (bits given)) .statuses) n)
+          ≡ same (final-status (block-of g) (bits given) n) present
       won = present-bit (block-of g) (bits given) (declared-inputs (g .header .inputs) given u)
 
       gone : (n : ℕ)

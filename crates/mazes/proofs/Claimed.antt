@@ -13,7 +13,8 @@ use Rattle.rules.specs.Events.{Status, present, absent, unknown, Event, known}
 use Rattle.rules.specs.Instant.{started}
 use Rattle.rules.specs.MustCan.{Mark, plus, opened, must, can, choose, gives, Given}
 use Rattle.block.specs.Good.{Scoped}
-use Rattle.mazes.specs.Mazes.{OfForm, an-emit, with-then, with-else, a-parallel, is-nothing, Room, signal, part, gate, dungeon, Corridor, visible, secret, Maze, corridors, gate-corridors, maze-of, OneOf, End, winning, losing, Ends, by-visible, by-secret, denied, Wins, Loses}
+use Rattle.mazes.specs.Mazes.{OfForm, an-emit, with-then, with-else, a-parallel, Room, signal, part, gate, dungeon, Corridor, visible, secret}
+use Rattle.mazes.specs.Mazes.{corridors, maze-of, OneOf, End, winning, losing, Ends, by-visible, by-secret, denied, Wins, Loses}
 use Rattle.mazes.proofs.Lists.{none-of, the-first, a-later, first-or-later, the-only, of-first, of-second, of-either}
 use Rattle.mazes.proofs.Standing.{Stands, at-root, itself, not-nothing}
 use Rattle.mazes.proofs.Played.{idle, part-is, then-gate, else-gate, then-stands, else-stands, first-stands, second-stands, as-input, as-output}

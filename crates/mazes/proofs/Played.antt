@@ -12,7 +12,8 @@ use Rattle.rules.specs.Statements.{Block, Stmt, nothing, emit, present?_then_el
 use Rattle.rules.specs.Events.{Status, present, absent, unknown, Event}
 use Rattle.rules.specs.Instant.{started}
 use Rattle.rules.specs.MustCan.{Mark, must, can, opened, choose, gives, Given}
-use Rattle.mazes.specs.Mazes.{OfForm, an-emit, with-then, with-else, a-parallel, is-nothing, Room, signal, part, gate, dungeon, Corridor, visible, secret, Maze, corridors, gate-corridors, maze-of, nth, OneOf, Wins, by-visible, by-secret, Loses, denied}
+use Rattle.mazes.specs.Mazes.{OfForm, an-emit, with-then, with-else, a-parallel, is-nothing}
+use Rattle.mazes.specs.Mazes.{Room, signal, part, gate, dungeon, Corridor, visible, secret, Maze, corridors, gate-corridors, maze-of, nth, OneOf, Wins, by-visible, by-secret, Loses, denied}
 use Rattle.mazes.proofs.Lists.{none-of, the-first, a-later, first-or-later, the-only, of-first, of-second, of-either}
 use Rattle.mazes.proofs.Standing.{Stands, itself, of-one, of-other, not-nothing}
 

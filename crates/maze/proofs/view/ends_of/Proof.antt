@@ -15,7 +15,10 @@ below-requires : tie.Need-below-requires
 below-requires c κs = search needs
 
 returns : tie.Need-returns
-returns c = let args = c .before .before .before .args in ends-are (args .inputs) (args .outputs) (args .heard) (args .present) (args .absent) (c .before .before .below .result) (c .before .before .below .ensures)
+returns c =
+    let at-below = c .before .before in
+    let args = at-below .before .args in
+    ends-are (args .inputs) (args .outputs) (args .heard) (args .present) (args .absent) (at-below .below .result) (at-below .below .ensures)
 
 pub ends-of-spec : {M : Type 1} → statement M
 ends-of-spec = tie.close (tie.spec add-below below-requires returns)

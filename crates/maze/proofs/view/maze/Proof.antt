@@ -20,13 +20,20 @@ enum-known-checked-2 : tie.Need-enum-known-checked-2
 enum-known-checked-2 c = search needs
 
 past-reading-requires : tie.Need-past-reading-requires
-past-reading-requires c κs = let r = block-reads _ (c .before .before .before .before .before .before .read-block .ensures) (c .before .before .before .before .checked2 .given .1) in (r .0, r .1)
+past-reading-requires c κs =
+    let at-checked2 = c .before .before .before .before in
+    let at-read-block = at-checked2 .before .before in
+    let r = block-reads _ (at-read-block .read-block .ensures) (at-checked2 .checked2 .given .1) in (r .0, r .1)
 
 returns : tie.Need-returns
 returns c = block-fails _ _ (c .before .before .before .read-block .ensures) (c .before .checked .given .1)
 
 returns-2 : tie.Need-returns-2
-returns-2 c = let r = block-reads _ (c .before .before .before .before .before .before .before .read-block .ensures) (c .before .before .before .before .before .checked2 .given .1) in block-way _ _ (c .past-reading .result) (r .2) (c .past-reading .ensures (r .0) (r .1))
+returns-2 c =
+    let at-checked2 = c .before .before .before .before .before in
+    let at-read-block = at-checked2 .before .before in
+    let r = block-reads _ (at-read-block .read-block .ensures) (at-checked2 .checked2 .given .1) in
+    block-way _ _ (c .past-reading .result) (r .2) (c .past-reading .ensures (r .0) (r .1))
 
 pub maze-spec : {M : Type 1} → statement M
 maze-spec =

@@ -23,10 +23,19 @@ rooms-of-requires : tie.Need-rooms-of-requires
 rooms-of-requires c κs = search needs
 
 returns-2 : tie.Need-returns-2
-returns-2 c = λ g o. shown-way o (c .before .before .before .before .before .args .inputs) (c .before .before .before .before .input-over .ensures) (c .before .before .before .if1 .left) (c .before .before .in-form .ensures) (c .before .if2 .taken) (c .rooms-of .ensures g o)
+returns-2 c =
+    let at-in-form = c .before .before in
+    let at-if1 = at-in-form .before in
+    let at-input-over = at-if1 .before in
+    λ g o. shown-way o (at-input-over .before .args .inputs) (at-input-over .input-over .ensures) (at-if1 .if1 .left) (at-in-form .in-form .ensures) (c .before .if2 .taken)
+    (c .rooms-of .ensures g o)
 
 returns-3 : tie.Need-returns-3
-returns-3 c = λ g o. form-way o (c .before .before .before .before .args .inputs) (c .before .before .before .input-over .ensures) (c .before .before .if1 .left) (c .before .in-form .ensures) (c .if2 .left)
+returns-3 c =
+    let at-in-form = c .before in
+    let at-if1 = at-in-form .before in
+    let at-input-over = at-if1 .before in
+    λ g o. form-way o (at-input-over .before .args .inputs) (at-input-over .input-over .ensures) (at-if1 .if1 .left) (at-in-form .in-form .ensures) (c .if2 .left)
 
 pub past-reading-spec : {M : Type 1} → statement M
 past-reading-spec =

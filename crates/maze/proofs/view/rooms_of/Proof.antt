@@ -23,7 +23,11 @@ ends-of-requires c κs = few-signals (c .before .before .pre .1)
 
 returns : tie.Need-returns
 unfolding Reacts
-returns c = λ g o u f. rooms-way o (c .before .before .before .args .inputs) (c .before .react .result) (c .before .before .all-heard .ensures) (c .before .react .ensures (g .body) (placed o)) (c .ends-of .ensures) u f
+returns c =
+    let at-react = c .before in
+    let at-all-heard = at-react .before in
+    λ g o u f. rooms-way o (at-all-heard .before .args .inputs) (at-react .react .result) (at-all-heard .all-heard .ensures)
+    (at-react .react .ensures (g .body) (placed o)) (c .ends-of .ensures) u f
 
 pub rooms-of-spec : {M : Type 1} → statement M
 rooms-of-spec = tie.close (tie.spec all-heard-requires react-requires ends-of-requires returns)
