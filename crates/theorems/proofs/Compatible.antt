@@ -34,10 +34,10 @@ pub record TwoParts (r p q : Stmt) : Type 0 where
   pub none-common : (n : ℕ) → T (listed (pauses p) n) → T (listed (pauses q) n) → ⊥
 
 module _ {r p q : Stmt} (two : TwoParts r p q) where
-  in-one : (n : ℕ) → T (listed (pauses p) n) → T (listed (pauses r) n)
+  pub in-one : (n : ℕ) → T (listed (pauses p) n) → T (listed (pauses r) n)
   in-one n t = subst⁻¹ T (two .listed-is n) (or-left (listed (pauses p) n) (listed (pauses q) n) t)
 
-  in-other : (n : ℕ) → T (listed (pauses q) n) → T (listed (pauses r) n)
+  pub in-other : (n : ℕ) → T (listed (pauses q) n) → T (listed (pauses r) n)
   in-other n t = subst⁻¹ T (two .listed-is n) (or-right (listed (pauses p) n) (listed (pauses q) n) t)
 
   compatible-one : (m n : ℕ) → T (listed (pauses p) m) → T (listed (pauses p) n) → compatible r m n ≡ compatible p m n
@@ -56,7 +56,7 @@ module _ {r p q : Stmt} (two : TwoParts r p q) where
       (is-true (holds-both q m n) (and-in (listed (pauses q) m) (listed (pauses q) n) s t)))
 
   -- A pause of each part.
-  lowest-across : (m n : ℕ) → (T (listed (pauses p) m) → T (listed (pauses p) n) → ⊥) → (T (listed (pauses q) m) → T (listed (pauses q) n) → ⊥) → lowest-above r m n ≡ r
+  pub lowest-across : (m n : ℕ) → (T (listed (pauses p) m) → T (listed (pauses p) n) → ⊥) → (T (listed (pauses q) m) → T (listed (pauses q) n) → ⊥) → lowest-above r m n ≡ r
   unfolding holds-both
   lowest-across m n f g =
       two .lowest-is m n
@@ -76,12 +76,12 @@ module _ {r p q : Stmt} (two : TwoParts r p q) where
     agreeing = λ m n s t e. subst⁻¹ T (compatible-other m n (f .held-in m s) (f .held-in n t)) (f .agreeing m n s t e);
   }
 
-  agrees-one : {A : Numbers} → Agrees r A → Agrees p A
+  pub agrees-one : {A : Numbers} → Agrees r A → Agrees p A
   agrees-one a = record {
     pairwise = λ m n s t i j e. subst T (compatible-one m n i j) (a .pairwise m n s t (in-one m i) (in-one n j) e);
   }
 
-  agrees-other : {A : Numbers} → Agrees r A → Agrees q A
+  pub agrees-other : {A : Numbers} → Agrees r A → Agrees q A
   agrees-other a = record {
     pairwise = λ m n s t i j e. subst T (compatible-other m n i j) (a .pairwise m n s t (in-other m i) (in-other n j) e);
   }
@@ -164,27 +164,27 @@ keeps-other : {r p q : Stmt} {S : Step} → TwoParts r p q → KeepsIn q S → K
 keeps-other two f = record { fits = λ l W. fits-other two (f .fits l W) }
 
 -- A statement with one part: the same pauses, and the same statement above two of them.
-record OnePart (r p : Stmt) : Type 0 where
-  same-pauses : pauses r ≡ pauses p
-  same-compatible : (m n : ℕ) → compatible r m n ≡ compatible p m n
+pub record OnePart (r p : Stmt) : Type 0 where
+  pub same-pauses : pauses r ≡ pauses p
+  pub same-compatible : (m n : ℕ) → compatible r m n ≡ compatible p m n
 
-part-suspend : (p : Stmt) (s : ℕ) → OnePart (suspend p on s) p
+pub part-suspend : (p : Stmt) (s : ℕ) → OnePart (suspend p on s) p
 unfolding pauses compatible lowest-above
 part-suspend p s = record { same-pauses = refl; same-compatible = λ m n. refl }
 
-part-loop : (p : Stmt) → OnePart (loop p) p
+pub part-loop : (p : Stmt) → OnePart (loop p) p
 unfolding pauses compatible lowest-above
 part-loop p = record { same-pauses = refl; same-compatible = λ m n. refl }
 
-part-trap : (p : Stmt) → OnePart (trap p) p
+pub part-trap : (p : Stmt) → OnePart (trap p) p
 unfolding pauses compatible lowest-above
 part-trap p = record { same-pauses = refl; same-compatible = λ m n. refl }
 
-part-local : (s : ℕ) (p : Stmt) → OnePart (local s p) p
+pub part-local : (s : ℕ) (p : Stmt) → OnePart (local s p) p
 unfolding pauses compatible lowest-above
 part-local s p = record { same-pauses = refl; same-compatible = λ m n. refl }
 
-numbered-part : {r p : Stmt} (i : ℕ) → OnePart r p → Numbered i r → Numbered i p
+pub numbered-part : {r p : Stmt} (i : ℕ) → OnePart r p → Numbered i r → Numbered i p
 unfolding Numbered
 numbered-part i o h = subst (λ (xs : List ℕ). xs ≡ from i (length xs)) (o .same-pauses) h
 
@@ -198,17 +198,17 @@ keeps-part o f = record {
       };
 }
 
-agrees-part : {r p : Stmt} {A : Numbers} → OnePart r p → Agrees r A → Agrees p A
+pub agrees-part : {r p : Stmt} {A : Numbers} → OnePart r p → Agrees r A → Agrees p A
 agrees-part o a = record {
   pairwise = λ m n s t i j e.
       subst T (o .same-compatible m n) (a .pairwise m n s t (subst⁻¹ (λ (xs : List ℕ). T (listed xs m)) (o .same-pauses) i) (subst⁻¹ (λ (xs : List ℕ). T (listed xs n)) (o .same-pauses) j) e);
 }
 
 -- Numbered in preorder, a statement with two parts has two stretches.
-record Halves (i : ℕ) (r p q : Stmt) : Type 0 where
-  first : Numbered i p
-  second : Numbered (i + length (pauses p)) q
-  two : TwoParts r p q
+pub record Halves (i : ℕ) (r p q : Stmt) : Type 0 where
+  pub first : Numbered i p
+  pub second : Numbered (i + length (pauses p)) q
+  pub two : TwoParts r p q
 
 halves : (i : ℕ) (r p q : Stmt) → pauses r ≡ pauses p ++ pauses q
     → ((m n : ℕ) → lowest-above r m n ≡ cond (holds-both p m n) (lowest-above p m n) (cond (holds-both q m n) (lowest-above q m n) r))
@@ -226,15 +226,15 @@ halves i r p q e f h =
       };
     }
 
-present-halves : (i s : ℕ) (p q : Stmt) → Numbered i (present? s then p else q) → Halves i (present? s then p else q) p q
+pub present-halves : (i s : ℕ) (p q : Stmt) → Numbered i (present? s then p else q) → Halves i (present? s then p else q) p q
 unfolding pauses lowest-above
 present-halves i s p q h = halves i (present? s then p else q) p q refl (λ m n. refl) h
 
-sequence-halves : (i : ℕ) (p q : Stmt) → Numbered i (p ⨾ q) → Halves i (p ⨾ q) p q
+pub sequence-halves : (i : ℕ) (p q : Stmt) → Numbered i (p ⨾ q) → Halves i (p ⨾ q) p q
 unfolding pauses lowest-above
 sequence-halves i p q h = halves i (p ⨾ q) p q refl (λ m n. refl) h
 
-parallel-halves : (i : ℕ) (p q : Stmt) → Numbered i (p parallel q) → Halves i (p parallel q) p q
+pub parallel-halves : (i : ℕ) (p q : Stmt) → Numbered i (p parallel q) → Halves i (p parallel q) p q
 unfolding pauses lowest-above
 parallel-halves i p q h = halves i (p parallel q) p q refl (λ m n. refl) h
 

@@ -30,7 +30,7 @@ Stays (chain p q) = Stays p × Stays q
 Stays (beside p q) = Stays p × Stays q
 
 -- A member among those listed.
-any-out : (A : Numbers) (ns : List ℕ) → T (any A ns) → (n : ℕ) × T (A n) × T (listed ns n)
+pub any-out : (A : Numbers) (ns : List ℕ) → T (any A ns) → (n : ℕ) × T (A n) × T (listed ns n)
 unfolding any listed
 any-out A [] t = absurd t
 any-out A (k ∷ ns) t = go (or-out (A k) (any A ns) t) (any-out A ns)
