@@ -1,0 +1,3 @@
+pub mod Examples
+pub mod Copied
+pub mod Twins
