@@ -1,3 +1,5 @@
 pub mod Examples
 pub mod Copied
 pub mod Twins
+pub mod Made
+pub mod Runs

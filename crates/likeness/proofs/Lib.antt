@@ -1,2 +1,3 @@
 pub mod Forms
 pub mod Images
+pub mod Runs
