@@ -1,0 +1,2 @@
+pub mod NodeLaws
+pub mod SizeLaws

@@ -1,0 +1,3 @@
+// The block with each loop body in sequence with itself: its measures and its bytes.
+mod nodes;
+mod sizes;
