@@ -1,2 +1,3 @@
 pub mod Nodes
 pub mod Sizes
+pub mod Copying
