@@ -4,15 +4,13 @@ use mathlib.Core.Path.{_≡_, refl, sym, _∙_, ap, ap₂, subst, subst⁻¹}
 use mathlib.Core.Logic.{_⊎_, inl, inr}
 use mathlib.Core.Bool.{Bool, true, false, not, _&&_}
 use mathlib.Core.List.{List, _++_}
-use Prim.Native.Nat.{ℕ, suc, _+_, max}
-use native.Mathlib.Nat.{max-eq-left, le-refl}
+use Prim.Native.Nat.{ℕ, suc}
 use lib.Dec.{T, eqb, T-not, not-T}
 use Rattle.sets.specs.Numbers.{Numbers, single, union, without, only-if, maxima, downs, listed}
 use Rattle.sets.proofs.Members.{is-false, and-in, and-left, and-right, or-left, or-right, or-out, eqb-in, single-out, union-left, union-out, without-in, without-member, only-if-test, ext-T}
 use Rattle.sets.proofs.Counts.{listed-append}
 use Rattle.rules.specs.Statements.{depth, Depth, Stmt, nothing, pause, emit, present?_then_else_, suspend_on_, _⨾_, loop, _parallel_, trap, exit, local, pauses, Trapped}
 use Rattle.rules.specs.Loops.{codes-of, loops-pass}
-use Rattle.block.specs.Good.{nested-traps, nested-locals}
 use Rattle.likeness.specs.Likeness.{naming}
 
 -- D has the signals in scope and ρ their names; pause m stands for pause o m.
@@ -85,38 +83,6 @@ copy-trapped (of-parallel f g) k t = (copy-trapped f k (t .0), copy-trapped g k 
 copy-trapped (of-trap f) k t = copy-trapped f (suc k) t
 copy-trapped of-exit k t = t
 copy-trapped (of-local a b f) k t = copy-trapped f k t
-
--- Nested traps and nested locals do not grow.
-twice-max : {a b : ℕ} → b ≡ a → max a b ≡ a
-twice-max {a} e = ap (max a) e ∙ max-eq-left (le-refl a)
-
-pub copy-traps : {o : ℕ → ℕ} {D : Numbers} {ρ : ℕ → ℕ} {p p′ : Stmt} → Copy o D ρ p p′ → nested-traps p′ ≡ nested-traps p
-unfolding nested-traps
-copy-traps of-nothing = refl
-copy-traps (of-pause e) = refl
-copy-traps (of-emit d) = refl
-copy-traps (of-present d f g) = ap₂ max (copy-traps f) (copy-traps g)
-copy-traps (of-suspend d f) = copy-traps f
-copy-traps (of-sequence f g) = ap₂ max (copy-traps f) (copy-traps g)
-copy-traps (of-loop f g) = ap₂ max (copy-traps f) (copy-traps g) ∙ twice-max refl
-copy-traps (of-parallel f g) = ap₂ max (copy-traps f) (copy-traps g)
-copy-traps (of-trap f) = ap (λ (n : ℕ). 1 + n) (copy-traps f)
-copy-traps of-exit = refl
-copy-traps (of-local a b f) = copy-traps f
-
-pub copy-nested : {o : ℕ → ℕ} {D : Numbers} {ρ : ℕ → ℕ} {p p′ : Stmt} → Copy o D ρ p p′ → nested-locals p′ ≡ nested-locals p
-unfolding nested-locals
-copy-nested of-nothing = refl
-copy-nested (of-pause e) = refl
-copy-nested (of-emit d) = refl
-copy-nested (of-present d f g) = ap₂ max (copy-nested f) (copy-nested g)
-copy-nested (of-suspend d f) = copy-nested f
-copy-nested (of-sequence f g) = ap₂ max (copy-nested f) (copy-nested g)
-copy-nested (of-loop f g) = ap₂ max (copy-nested f) (copy-nested g) ∙ twice-max refl
-copy-nested (of-parallel f g) = ap₂ max (copy-nested f) (copy-nested g)
-copy-nested (of-trap f) = copy-nested f
-copy-nested of-exit = refl
-copy-nested (of-local a b f) = ap (λ (n : ℕ). 1 + n) (copy-nested f)
 
 -- Codes without 0 are those of a sequence that begins with them.
 codes-first : (a b : Numbers) → (T (a 0) → ⊥) → without 0 (union (without 0 a) (only-if (a 0) b)) ≡ without 0 a

@@ -5,8 +5,8 @@ use mathlib.Core.Path.{_≡_, refl, sym, _∙_, ap, ap₂, subst, subst⁻¹}
 use mathlib.Core.Logic.{_⊎_, inl, inr, ⊎-elim}
 use mathlib.Core.Bool.{Bool, true, false, cond, _||_}
 use mathlib.Core.List.{List, [], _∷_, _++_}
-use Prim.Native.Nat.{ℕ, suc, _+_, _≤_, _<_}
-use native.Mathlib.Nat.{add-zero, add-assoc}
+use Prim.Native.Nat.{ℕ, suc, _+_, _≤_, _<_, max}
+use native.Mathlib.Nat.{add-zero, add-assoc, max-eq-left, le-refl}
 use native.Mathlib.Numerals.{add-one}
 use native.Mathlib.Omega.{arith}
 use lib.Dec.{T, eqb, ltb, eqb→eq, eqb-refl, ltb→lt}
@@ -17,7 +17,8 @@ use Rattle.sets.specs.Numbers.{Numbers, single, union}
 use Rattle.sets.proofs.Members.{is-true, or-left, or-right, or-out, eqb-in, eqb-not}
 use Rattle.rules.specs.Statements.{Stmt, nothing, pause, emit, present?_then_else_, suspend_on_, _⨾_, loop, _parallel_, trap, exit, local, pauses, from, Numbered}
 use Rattle.theorems.proofs.Cases.{by-test}
-use Rattle.block.specs.Good.{Scoped, locals, Next, Apart}
+use Rattle.block.specs.Table.{Small}
+use Rattle.block.specs.Good.{Scoped, nested-traps, nested-locals, locals, Next, Apart}
 use Rattle.block.proofs.Nesting.{both-in-row}
 use Rattle.likeness.specs.Likeness.{naming}
 use Rattle.doubled.specs.Copies.{copies, renamed}
@@ -237,3 +238,63 @@ made-scoped (trap p) j n i u S S′ ρ s l w = made-scoped p j n i u S S′ ρ s
 made-scoped (exit d) j n i u S S′ ρ s l w = tt
 made-scoped (local x p) j n i u S S′ ρ s l w =
     (l, made-scoped p j (n + 1) i u (union (single x) S) (union (single n) S′) (naming ρ x n) (s .1) (omega arith) (named-local x n (s .0) l w))
+
+-- Nested traps and nested locals do not grow.
+twice-max : {a b n : ℕ} → a ≡ n → b ≡ n → max a b ≡ n
+twice-max {n = n} e f = ap₂ max e f ∙ max-eq-left (le-refl n)
+
+pub made-traps : (t : Stmt) (ρ : ℕ → ℕ) (n j : ℕ) → nested-traps (renamed ρ n (copies j t)) ≡ nested-traps t
+unfolding copies renamed nested-traps
+made-traps nothing ρ n j = refl
+made-traps (pause k) ρ n j = refl
+made-traps (emit s) ρ n j = refl
+made-traps (present? s then p else q) ρ n j = ap₂ max (made-traps p ρ n j) (made-traps q ρ (n + length (locals (copies j p))) (behind j p))
+made-traps (suspend p on s) ρ n j = made-traps p ρ n j
+made-traps (p ⨾ q) ρ n j = ap₂ max (made-traps p ρ n j) (made-traps q ρ (n + length (locals (copies j p))) (behind j p))
+made-traps (loop p) ρ n j = twice-max (made-traps p ρ n j) (made-traps p ρ (n + length (locals (copies j p))) (behind j p))
+made-traps (p parallel q) ρ n j = ap₂ max (made-traps p ρ n j) (made-traps q ρ (n + length (locals (copies j p))) (behind j p))
+made-traps (trap p) ρ n j = ap (λ (m : ℕ). 1 + m) (made-traps p ρ n j)
+made-traps (exit d) ρ n j = refl
+made-traps (local s p) ρ n j = made-traps p (naming ρ s n) (n + 1) j
+
+pub made-nested : (t : Stmt) (ρ : ℕ → ℕ) (n j : ℕ) → nested-locals (renamed ρ n (copies j t)) ≡ nested-locals t
+unfolding copies renamed nested-locals
+made-nested nothing ρ n j = refl
+made-nested (pause k) ρ n j = refl
+made-nested (emit s) ρ n j = refl
+made-nested (present? s then p else q) ρ n j = ap₂ max (made-nested p ρ n j) (made-nested q ρ (n + length (locals (copies j p))) (behind j p))
+made-nested (suspend p on s) ρ n j = made-nested p ρ n j
+made-nested (p ⨾ q) ρ n j = ap₂ max (made-nested p ρ n j) (made-nested q ρ (n + length (locals (copies j p))) (behind j p))
+made-nested (loop p) ρ n j = twice-max (made-nested p ρ n j) (made-nested p ρ (n + length (locals (copies j p))) (behind j p))
+made-nested (p parallel q) ρ n j = ap₂ max (made-nested p ρ n j) (made-nested q ρ (n + length (locals (copies j p))) (behind j p))
+made-nested (trap p) ρ n j = made-nested p ρ n j
+made-nested (exit d) ρ n j = refl
+made-nested (local s p) ρ n j = ap (λ (m : ℕ). 1 + m) (made-nested p (naming ρ s n) (n + 1) j)
+
+-- The names count only at the statement's own signals, which are below 64.
+named-alike : (ρ ρ′ : ℕ → ℕ) → ((s : ℕ) → s < 64 → ρ s ≡ ρ′ s) → (s n : ℕ) → (x : ℕ) → x < 64 → naming ρ s n x ≡ naming ρ′ s n x
+named-alike ρ ρ′ f s n x l = ap (λ (y : ℕ). cond (eqb x s) n y) (f x l)
+
+pub renamed-alike : (t : Stmt) (ρ ρ′ : ℕ → ℕ) (n j : ℕ) → ((s : ℕ) → s < 64 → ρ s ≡ ρ′ s) → Small t → renamed ρ n (copies j t) ≡ renamed ρ′ n (copies j t)
+unfolding copies renamed Small
+renamed-alike nothing ρ ρ′ n j f w = refl
+renamed-alike (pause k) ρ ρ′ n j f w = refl
+renamed-alike (emit s) ρ ρ′ n j f w = ap emit (f s w)
+renamed-alike (present? s then p else q) ρ ρ′ n j f w =
+    let a = f s (w .0) in
+    let x = renamed-alike p ρ ρ′ n j f (w .1) in
+    let y = renamed-alike q ρ ρ′ (n + length (locals (copies j p))) (behind j p) f (w .2) in
+    λ i. present? (a i) then (x i) else (y i)
+renamed-alike (suspend p on s) ρ ρ′ n j f w =
+    let a = f s (w .0) in
+    let x = renamed-alike p ρ ρ′ n j f (w .1) in
+    λ i. suspend (x i) on (a i)
+renamed-alike (p ⨾ q) ρ ρ′ n j f w =
+    ap₂ _⨾_ (renamed-alike p ρ ρ′ n j f (w .0)) (renamed-alike q ρ ρ′ (n + length (locals (copies j p))) (behind j p) f (w .1))
+renamed-alike (loop p) ρ ρ′ n j f w =
+    ap₂ (λ (x y : Stmt). loop (x ⨾ y)) (renamed-alike p ρ ρ′ n j f w) (renamed-alike p ρ ρ′ (n + length (locals (copies j p))) (behind j p) f w)
+renamed-alike (p parallel q) ρ ρ′ n j f w =
+    ap₂ _parallel_ (renamed-alike p ρ ρ′ n j f (w .0)) (renamed-alike q ρ ρ′ (n + length (locals (copies j p))) (behind j p) f (w .1))
+renamed-alike (trap p) ρ ρ′ n j f w = ap trap (renamed-alike p ρ ρ′ n j f w)
+renamed-alike (exit d) ρ ρ′ n j f w = refl
+renamed-alike (local s p) ρ ρ′ n j f w = ap (local n) (renamed-alike p (naming ρ s n) (naming ρ′ s n) (n + 1) j (named-alike ρ ρ′ f s n) (w .1))

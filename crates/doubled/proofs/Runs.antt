@@ -29,7 +29,7 @@ use Rattle.likeness.proofs.Images.{image-closed}
 use Rattle.likeness.proofs.Runs.{declared, with-body, heard-there, fresh-run-same}
 use Rattle.writing.specs.Written.{Writable}
 use Rattle.doubled.specs.Copies.{copies, renamed, itself, doubled, doubled-header, within-limits}
-use Rattle.doubled.proofs.Copied.{Copy, copy-into, copy-trapped, copy-traps, copy-nested, copy-passes}
+use Rattle.doubled.proofs.Copied.{Copy, copy-into, copy-trapped, copy-passes}
 use Rattle.doubled.proofs.Twins.{Stands, started-like, resumed-like}
 use Rattle.doubled.proofs.Made.{origins, Stretch, Scope, Below, made, copies-numbered, renamed-pauses, renamed-next, made-scoped, Named}
 

@@ -61,13 +61,16 @@ within-limits h t =
     leb (h .inputs + h .outputs + h .locals) 64
     && (leb (statements t) 512 && (leb (length (pauses t)) 128 && (leb (nested-traps t) 16 && (leb (nested-locals t) 6 && leb (path t) 64))))
 
--- What is to be written: 1 to 8 of the block, 4 with place 0 where the doubled block passes a limit, else its bytes.
+-- The doubled block's bytes, or 4 with place 0 where it passes a limit.
+unfoldable pub doubled-writing : Header → Stmt → Writing
+unfolding doubled doubled-header within-limits
+doubled-writing h t = cond (within-limits (doubled-header h t) (doubled h t)) (writes (block-bytes (doubled-header h t) (doubled h t))) (refuses LIMIT 0)
+
+-- What is to be written: after 1 to 8 of the block itself.
 unfoldable pub doubling-of : Reading → Writing
+unfolding doubled-writing
 doubling-of (turned-down n at) = refuses n at
-doubling-of (good g) =
-    let h = doubled-header (g .header) (g .body) in
-    let t = doubled (g .header) (g .body) in
-    cond (within-limits h t) (writes (block-bytes h t)) (refuses LIMIT 0)
+doubling-of (good g) = doubled-writing (g .header) (g .body)
 
 unfoldable pub doubling : List ℕ → Writing
 doubling b = doubling-of (reading b)
