@@ -1,0 +1,1 @@
+// Whether two blocks are told alike under every input run, or a first shortest run that tells them apart.
