@@ -1,2 +1,3 @@
 pub mod Pigeons
 pub mod Order
+pub mod Search

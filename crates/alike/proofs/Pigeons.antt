@@ -3,6 +3,7 @@ use mathlib.Core.Path.{_≡_, refl, sym, _∙_, subst}
 use mathlib.Core.Bool.{Bool, true, false, cond}
 use Prim.Native.Nat.{ℕ, zero, suc, _≤_, _<_}
 use native.Mathlib.Omega.{arith}
+use native.Mathlib.Decide.{decLe}
 use lib.Dec.{eqb}
 use borrow.Author.Tests.{eqb-true, eqb-false}
 
@@ -42,3 +43,19 @@ pigeons (suc n) f placed apart = pigeons n (moved f n) (λ i l. fits i l (how f 
     parted i j l k (was-last e m) (stayed d o) z = apart j (suc n) (omega arith) (omega arith) (sym o ∙ sym z ∙ m)
     parted i j l k (stayed e m) (was-last d o) z = apart i (suc n) (omega arith) (omega arith) (sym m ∙ z ∙ o)
     parted i j l k (stayed e m) (stayed d o) z = apart i j l (omega arith) (sym m ∙ z ∙ o)
+
+-- The same where each thing is found a place, and no two things share one.
+module _ (n : ℕ) (P : ℕ → ℕ → Type 0) (placed : (i : ℕ) → i ≤ n → (k : ℕ) × (k < n) × P i k) where
+  pick : (i : ℕ) → Dec (i ≤ n) → ℕ
+  pick i (yes h) = placed i h .0
+  pick i (no h) = 0
+
+  picked : (i : ℕ) → i ≤ n → (d : Dec (i ≤ n)) → (pick i d < n) × P i (pick i d)
+  unfolding pick
+  picked i l (yes h) = (placed i h .1, placed i h .2)
+  picked i l (no h) = absurd (h l)
+
+  pub no-places : ((i j k : ℕ) → i < j → j ≤ n → P i k → P j k → ⊥) → ⊥
+  no-places apart =
+      pigeons n (λ i. pick i (decLe i n)) (λ i l. picked i l (decLe i n) .0)
+      (λ i j l h e. apart i j _ l h (picked i (omega arith) (decLe i n) .1) (subst (P j) (sym e) (picked j h (decLe j n) .1)))
