@@ -1,3 +1,6 @@
 pub mod Pigeons
 pub mod Order
-pub mod Search
+pub mod SearchLaws
+pub mod RowLaws
+pub mod FindLaws
+pub mod StepLaws
