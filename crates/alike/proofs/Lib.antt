@@ -4,3 +4,4 @@ pub mod SearchLaws
 pub mod RowLaws
 pub mod FindLaws
 pub mod StepLaws
+pub mod Turning
