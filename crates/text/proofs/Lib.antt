@@ -1,3 +1,4 @@
 pub mod Options
 pub mod OneReading
 pub mod Forward
+pub mod Backward

@@ -173,3 +173,23 @@ unfoldable pub run : State → List Token → Option State
 unfolding step
 run s [] = some s
 run s (t ∷ ts) = go-on (step s t) λ u. run u ts
+
+-- A text may end after a statement, where every level but the outermost is closed.
+abbrev pub is-outermost : Closer → Bool
+is-outermost at-the-end = true
+is-outermost by-else = false
+is-outermost by-end = false
+is-outermost by-when = false
+is-outermost by-bracket = false
+
+unfoldable pub complete : Mode → Closer → Bool
+complete due c = false
+complete after c = is-outermost c
+complete emit-name c = false
+complete exit-name c = false
+complete present-name c = false
+complete trap-name c = false
+complete signal-name c = false
+complete when-name c = false
+complete then-due c = false
+complete in-due c = false
