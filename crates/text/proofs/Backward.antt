@@ -136,7 +136,7 @@ module _ (h : List Declaration) where
   Closes (l ∷ ls) by-bracket n k = Word CLOSED (λ u. Following (here l ls) n (λ j q. Closes ls (l .closer) j q) u) k
 
   -- What the tokens are that the machine ends well on, from its mode and its levels.
-  Rest : Mode → Level → List Level → ℕ → List Token → Type 0
+  pub Rest : Mode → Level → List Level → ℕ → List Token → Type 0
   unfolding Closes
   Rest due l ls n ts = Begun (here l ls) n (λ m r. Closes ls (l .closer) m r) ts
   Rest after l ls n ts = Following (here l ls) n (λ m r. Closes ls (l .closer) m r) ts
@@ -151,13 +151,13 @@ module _ (h : List Declaration) where
   Rest in-due l ls n ts = Word IN (λ t. Begun (here l ls) n (λ m r. Closes ls (l .closer) m r) t) ts
 
 -- The same of a state.
-abbrev Left : State → List Token → Type 0
+abbrev pub Left : State → List Token → Type 0
 Left s ts = Rest (s .header) (s .mode) (s .top) (s .below) (s .next) ts
 
 left-by : (ts : List Token) {s u : State} → some s ≡ some u → Left u ts → Left s ts
 left-by ts e g = subst (λ (v : State). Left v ts) (sym (one-value e)) g
 
-either : {A P : Type 0} (k c : ℕ) (x y : Option A) {u : A} → cond (eqb k c) x y ≡ some u → (k ≡ c → x ≡ some u → P) → (y ≡ some u → P) → P
+pub either : {A P : Type 0} (k c : ℕ) (x y : Option A) {u : A} → cond (eqb k c) x y ≡ some u → (k ≡ c → x ≡ some u → P) → (y ≡ some u → P) → P
 either {P = P} k c x y {u} e f g = go (eqb k c) refl e
   where
     go : (z : Bool) → eqb k c ≡ z → cond z x y ≡ some u → P
@@ -411,7 +411,7 @@ complete-left h when-name l ls n e = absurd (false≢true e)
 complete-left h then-due l ls n e = absurd (false≢true e)
 complete-left h in-due l ls n e = absurd (false≢true e)
 
-ended-well : (ts : List Token) (s u : State) → run s ts ≡ some u → complete (u .mode) (u .top .closer) ≡ true → Left s ts
+pub ended-well : (ts : List Token) (s u : State) → run s ts ≡ some u → complete (u .mode) (u .top .closer) ≡ true → Left s ts
 unfolding run
 ended-well [] s u e c =
     let q = one-value e in subst (λ (v : State). Left v []) (sym q) (complete-left (u .header) (u .mode) (u .top) (u .below) (u .next) c)

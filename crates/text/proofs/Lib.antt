@@ -2,3 +2,4 @@ pub mod Options
 pub mod OneReading
 pub mod Forward
 pub mod Backward
+pub mod Heads

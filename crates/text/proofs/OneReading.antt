@@ -41,7 +41,7 @@ first-name (name x ∷ ts) = x
 first-name (number v ∷ ts) = []
 first-name (no-token ∷ ts) = []
 
-abbrev first-sign : List Token → ℕ
+abbrev pub first-sign : List Token → ℕ
 first-sign [] = 100
 first-sign (sign k ∷ ts) = k
 first-sign (name x ∷ ts) = 100
@@ -161,13 +161,13 @@ one-statement p q e =
     (one-value (sym (back-arms p n [] (omega arith) there) ∙ ap (read-arms n) e ∙ back-arms q n [] (omega arith) there))
 
 -- A statement begins with none of the header's words.
-abbrev opens : ℕ → Bool
+abbrev pub opens : ℕ → Bool
 opens s = leb s SIGNAL || eqb s BRACKET
 
 mutual
   unfolding arms
 
-  arms-open : (p : Arms) (k : List Token) → T (opens (first-sign (arms p k)))
+  pub arms-open : (p : Arms) (k : List Token) → T (opens (first-sign (arms p k)))
   arms-open (only c) k = chain-open c k
   arms-open (c beside p) k = chain-open c (sign BESIDE ∷ arms p k)
 
