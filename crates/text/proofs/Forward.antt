@@ -4,10 +4,10 @@ use mathlib.Core.Path.{_≡_, refl, sym, ap, ap₂, _∙_, subst}
 use mathlib.Core.Bool.{Bool, true, false, cond}
 use mathlib.Core.List.{List, [], _∷_, _++_, append-assoc}
 use mathlib.Core.Option.{Option, none, some}
-use Prim.Native.Nat.{ℕ, zero, suc, _+_, _≤_}
+use Prim.Native.Nat.{ℕ, zero, suc, _+_, _/_, _%_}
 use native.Mathlib.Omega.{arith}
-use lib.ListN.{length, take, drop}
-use lib.Seq.{take-append-seam, drop-append-seam, drop-append-add}
+use lib.ListN.{length, set, length-append}
+use lib.Seq.{take-append-seam, drop-append-seam, append-snoc, set-at, sets}
 use Rattle.sets.specs.Numbers.{listed}
 use Rattle.block.specs.Format.{shape}
 use Rattle.records.specs.Numerals.{in-bytes}
@@ -16,23 +16,25 @@ use Rattle.text.specs.Tokens.{Token, sign, name, NOTHING, PAUSE, EMIT, P
 use Rattle.text.specs.Grammar.{Arms, only, _beside_, Chain, alone, _before_, Basic, Nothing, Pause, Emit, Exit, Present, Suspend, Loop, Trap, Signal, Bracket, arms, chain, basic}
 use Rattle.text.specs.Meaning.{Declaration, signal-named, trap-named, signal-in, depth-in, declared, go-on, if-new, Part, above, joined, arms-means, chain-means, basic-means}
 use Rattle.text.specs.Machine.{Closer, by-else, by-end, by-when, by-bracket, Level, level-at, moved, Mode, due, after, emit-name, exit-name, present-name, trap-name, signal-name, when-name, then-due, in-due}
-use Rattle.text.specs.Machine.{State, state, declared-by, inserted, replaced, popped, due-step, closed, after-step, by-sign, by-name, step, run}
+use Rattle.text.specs.Machine.{State, state, declared-by, inserted, operand-set, popped, due-step, closed, after-step, by-sign, by-name, step, run}
 use Rattle.text.proofs.Options.{went-on, was-new, one-value}
 
--- A record put in before the last part, and one put over a record of six bytes.
+-- A record put in before the last part, and the operand of a record stored.
 insert-there : (k : ℕ) (b r : List ℕ) (at : ℕ) → at ≡ length b → inserted k at (b ++ r) ≡ b ++ (record-bytes k 0 ++ r)
 insert-there k b r at e =
     ap (λ (n : ℕ). inserted k n (b ++ r)) e ∙ ap₂ (λ (u v : List ℕ). u ++ (record-bytes k 0 ++ v)) (take-append-seam b r) (drop-append-seam b r)
 
-replace-there : (k x : ℕ) (b q r : List ℕ) (at : ℕ) → at ≡ length b → length q ≡ 6 → replaced k x at ((b ++ q) ++ r) ≡ b ++ (record-bytes k x ++ r)
-replace-there k x b q r at e six =
-    ap (λ (n : ℕ). replaced k x n ((b ++ q) ++ r)) e ∙ ap (λ (l : List ℕ). replaced k x (length b) l) (append-assoc b q r)
-    ∙ ap₂ (λ (u v : List ℕ). u ++ (record-bytes k x ++ v)) (take-append-seam b (q ++ r))
-    (drop-append-add b (q ++ r) 6 ∙ ap (λ (n : ℕ). drop n (q ++ r)) (sym six) ∙ drop-append-seam q r)
+two-set : (p r : List ℕ) (y z v w n : ℕ) → length p ≡ n → sets (p ++ y ∷ z ∷ r) n (v ∷ w ∷ []) ≡ p ++ v ∷ w ∷ r
+two-set p r y z v w n e =
+    ap (λ (l : List ℕ). set l (suc n) w) (set-at p y (z ∷ r) v n e ∙ sym (append-snoc p v (z ∷ r)))
+    ∙ set-at (p ++ (v ∷ [])) z r w (suc n) (omega (arith, length-append p (v ∷ []), e)) ∙ append-snoc p v (w ∷ r)
 
-six-bytes : length (record-bytes 20 0) ≡ 6
-unfolding shaped-bytes in-bytes shape listed
-six-bytes = refl
+operand-there : (b r : List ℕ) (x at : ℕ) → at ≡ length b → operand-set x at ((b ++ record-bytes 20 0) ++ r) ≡ b ++ (record-bytes 20 x ++ r)
+unfolding operand-set shaped-bytes in-bytes shape listed
+operand-there b r x at e =
+    let front : List ℕ = 6 ∷ 0 ∷ 20 ∷ 0 ∷ [] in
+    ap (λ (l : List ℕ). operand-set x at l) (append-assoc b (record-bytes 20 0) r ∙ sym (append-assoc b front (0 ∷ 0 ∷ r)))
+    ∙ two-set (b ++ front) r 0 0 (x % 256) (x / 256 % 256) (at + 4) (omega (arith, length-append b front, e)) ∙ append-assoc b front (x % 256 ∷ x / 256 % 256 ∷ r)
 
 -- The end of a proof: the records of two parts behind a record, or a part that was told.
 ending : {A : Type 0} (b r q : List ℕ) (v w : Part) → record { records = r ++ (q ++ v .records); next = v .next } ≡ w → (f : List ℕ → ℕ → A)
@@ -117,8 +119,8 @@ module _ (h : List Declaration) where
         let v = went-on (arms-means p (here l ls) n) _ (u .2) in
         let b₁ = b ++ record-bytes 20 0 in
         let first = go-arms p (level-at by-when [] (length b₁)) (l ∷ ls) b₁ n (sign WHEN ∷ name x ∷ k) (v .0) refl refl (v .1) in
-        first .2 ∙ by-signal (λ s. state h after l ls (replaced 20 s (l .link) (b₁ ++ v .0 .records)) (v .0 .next)) k (u .1)
-        ∙ ap (λ (f : List ℕ). run (state h after l ls f (v .0 .next)) k) (replace-there 20 (u .0) b (record-bytes 20 0) (v .0 .records) (l .link) e six-bytes)
+        first .2 ∙ by-signal (λ s. state h after l ls (operand-set s (l .link) (b₁ ++ v .0 .records)) (v .0 .next)) k (u .1)
+        ∙ ap (λ (f : List ℕ). run (state h after l ls f (v .0 .next)) k) (operand-there b (v .0 .records) (u .0) (l .link) e)
         ∙ told l ls b k (one-value (v .2))
     go-basic (Loop p) l ls b n k w e m =
         let v = went-on (arms-means p (here l ls) n) _ m in

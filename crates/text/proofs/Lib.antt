@@ -3,3 +3,5 @@ pub mod OneReading
 pub mod Forward
 pub mod Backward
 pub mod Heads
+pub mod Depth
+pub mod Exactly

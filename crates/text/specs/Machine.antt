@@ -6,6 +6,8 @@ use mathlib.Core.Option.{Option, none, some}
 use Prim.Native.Nat.{ℕ, suc, _+_}
 use lib.Dec.{eqb}
 use lib.ListN.{length, take, drop}
+use lib.Seq.{sets}
+use Rattle.records.specs.Numerals.{in-bytes}
 use Rattle.writing.specs.Written.{record-bytes}
 use Rattle.text.specs.Tokens.{Token, sign, name, number, no-token, NOTHING, PAUSE, EMIT, PRESENT, THEN, ELSE, END, SUSPEND, WHEN, LOOP, TRAP, IN, EXIT, SIGNAL}
 use Rattle.text.specs.Tokens.{SEMICOLON, BRACKET, CLOSED, BESIDE}
@@ -80,12 +82,9 @@ unfoldable pub popped : List Level → State → Mode → Option State
 popped [] s m = none
 popped (l ∷ ls) s m = some (state (s .header) m l ls (s .block) (s .next))
 
--- A record put in before what begins at a place, and a record put over the six bytes there.
+-- A record put in before what begins at a place.
 abbrev pub inserted : ℕ → ℕ → List ℕ → List ℕ
 inserted k at b = take at b ++ (record-bytes k 0 ++ drop at b)
-
-abbrev pub replaced : ℕ → ℕ → ℕ → List ℕ → List ℕ
-replaced k x at b = take at b ++ (record-bytes k x ++ drop (at + 6) b)
 
 -- A sequence record goes before the last basic statement, a parallel record before the last arm.
 abbrev pub sequenced : State → State
@@ -144,9 +143,13 @@ by-sign when-name s k = none
 by-sign then-due s k = cond (eqb k THEN) (some (to s due)) none
 by-sign in-due s k = cond (eqb k IN) (some (to s due)) none
 
--- A suspend's signal comes last: its record was written with 0.
+-- A suspend's signal comes last: its record was written with 0, and its operand is stored now.
+unfoldable pub operand-set : ℕ → ℕ → List ℕ → List ℕ
+unfolding in-bytes
+operand-set x at b = sets b (at + 4) (in-bytes 2 x)
+
 abbrev pub whened : State → ℕ → State
-whened s x = state (s .header) after (s .top) (s .below) (replaced 20 x (s .top .link) (s .block)) (s .next)
+whened s x = state (s .header) after (s .top) (s .below) (operand-set x (s .top .link) (s .block)) (s .next)
 
 unfoldable pub by-name : Mode → State → List ℕ → Option State
 unfolding signal-in depth-in declared declared-by
