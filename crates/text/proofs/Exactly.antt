@@ -145,8 +145,3 @@ only-texts ts q b e f =
     let r = reads-text t (blocked t (p .means)) means in
     let same-end : q ≡ r .0 = one-value (sym e ∙ ap (read-all begun) its ∙ r .1) in
     (t, its, means ∙ sym (r .2) ∙ ap finish (sym same-end) ∙ f)
-
--- With places: a text that is read to its end stands for its block, or is over its limits.
-sparse-start : (g : Heading) → Sparse (body-start g)
-unfolding Spaced
-sparse-start g = record { in-top = no-gap refl; below-top = tt }

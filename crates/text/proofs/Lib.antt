@@ -5,3 +5,4 @@ pub mod Backward
 pub mod Heads
 pub mod Depth
 pub mod Exactly
+pub mod Places

@@ -147,11 +147,14 @@ abbrev pub at-end : ℕ → Option Blocked → Outcome
 at-end end none = outside end
 at-end end (some b) = stands b
 
+abbrev pub unless-refused : ℕ → Option Reader → (Reader → Outcome) → Outcome
+unless-refused at none f = outside at
+unless-refused at (some q) f = f q
+
 unfoldable pub read-placed : Reader → List Placed → ℕ → Outcome
 unfolding finish read-step too-deep
 read-placed r [] end = at-end end (finish r)
-read-placed r (p ∷ ps) end =
-    elim (read-step r (p .token)) [ none ↦ outside (p .place) | some q ↦ cond (too-deep q) over (read-placed q ps end) ]
+read-placed r (p ∷ ps) end = unless-refused (p .place) (read-step r (p .token)) λ q. cond (too-deep q) over (read-placed q ps end)
 
 -- At most 64 signals; then 1 to 8 on the block.
 abbrev pub checked : List ℕ → Reading → Writing
