@@ -6,3 +6,5 @@ pub mod Heads
 pub mod Depth
 pub mod Exactly
 pub mod Places
+pub mod ShownMeans
+pub mod Words

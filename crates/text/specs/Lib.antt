@@ -3,3 +3,4 @@ pub mod Grammar
 pub mod Meaning
 pub mod Machine
 pub mod Reader
+pub mod Shown
