@@ -8,3 +8,5 @@ pub mod Exactly
 pub mod Places
 pub mod ShownMeans
 pub mod Words
+pub mod Lexing
+pub mod RoundTrip
