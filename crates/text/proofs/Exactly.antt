@@ -92,11 +92,21 @@ module _ (t : Text) (ds es : List Declaration) (w : Part) (d : declaring [] 0 (t
       let r = outputs-body (t .version) (length (t .inputs)) ds es (length (t .inputs)) (t .outputs) (t .body) w second tt e o in
       (r .0, r .1, inputs-go xs x (t .version) 0 [] ds 0 (length (t .inputs)) (part OUTPUT (t .outputs) (arms (t .body) [])) d₁ count ∙ r .2, r .3, r .4, r .5)
 
-abbrev blocked : Text → Part → Blocked
+abbrev pub blocked : Text → Part → Blocked
 blocked t w =
     let i = length (t .inputs) in
     let o = length (t .outputs) in
     record { header = record { version = t .version; inputs = i; outputs = o; locals = w .next - (i + o) }; records = w .records }
+
+pub meaning-of : (t : Text) (ds es : List Declaration) (w : Part) → declaring [] 0 (t .inputs) ≡ some ds → declaring ds (length (t .inputs)) (t .outputs) ≡ some es
+    → arms-means (t .body) es (length (t .inputs) + length (t .outputs)) ≡ some w → text-means t ≡ some (blocked t w)
+unfolding text-means
+meaning-of t ds es w d e o =
+    let i = length (t .inputs) in
+    let j = length (t .inputs) + length (t .outputs) in
+    ap (λ (z : Option (List Declaration)). go-on z λ ds. go-on (declaring ds i (t .outputs)) λ es. go-on (arms-means (t .body) es j) λ w. some (blocked t w)) d
+    ∙ ap (λ (z : Option (List Declaration)). go-on z λ es. go-on (arms-means (t .body) es j) λ w. some (blocked t w)) e
+    ∙ ap (λ (z : Option Part). go-on z λ w. some (blocked t w)) o
 
 -- Every text of the grammar with its names in order is read to its end, and stands for what it means.
 pub reads-text : (t : Text) (b : Blocked) → text-means t ≡ some b → (q : Reader) × (read-all begun (spelt t) ≡ some q) × (finish q ≡ some b)
@@ -137,11 +147,7 @@ only-texts ts q b e f =
     let its : ts ≡ spelt t =
     h .1 ∙ ap (λ (l : List Token). sign VERSION ∷ l) (n .its-tokens ∙ ap (λ (l : List Token). number (n .version) ∷ sign SEMICOLON ∷ l)
     (xs .its-tokens ∙ ap (λ (l : List Token). part INPUT (xs .these) l) (ys .its-tokens ∙ ap (λ (l : List Token). part OUTPUT (ys .these) l) (p .its-tokens)))) in
-    let means =
-    ap (λ (z : Option (List Declaration)). go-on z λ ds. go-on (declaring ds (length (xs .these)) (ys .these)) λ es. go-on (arms-means (p .tree) es (length (xs .these) + length (ys .these))) λ w.
-    some (blocked t w)) (xs .ordered)
-    ∙ ap (λ (z : Option (List Declaration)). go-on z λ es. go-on (arms-means (p .tree) es (length (xs .these) + length (ys .these))) λ w. some (blocked t w)) outs
-    ∙ ap (λ (z : Option Part). go-on z λ w. some (blocked t w)) body in
+    let means = meaning-of t (xs .later) (ys .later) (p .means) (xs .ordered) outs body in
     let r = reads-text t (blocked t (p .means)) means in
     let same-end : q ≡ r .0 = one-value (sym e ∙ ap (read-all begun) its ∙ r .1) in
     (t, its, means ∙ sym (r .2) ∙ ap finish (sym same-end) ∙ f)
