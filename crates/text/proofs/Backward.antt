@@ -13,7 +13,8 @@ use Rattle.text.specs.Tokens.{SEMICOLON, BRACKET, CLOSED, BESIDE}
 use Rattle.text.specs.Grammar.{Arms, only, _beside_, Chain, alone, _before_, Basic, Nothing, Pause, Emit, Exit, Present, Suspend, Loop, Trap, Signal, Bracket, arms, chain, basic}
 use Rattle.text.specs.Meaning.{Declaration, signal-named, trap-named, signal-in, depth-in, declared, go-on, if-new, Part, above, joined, arms-means, chain-means, basic-means}
 use Rattle.text.specs.Machine.{Closer, at-the-end, by-else, by-end, by-when, by-bracket, Level, level-at, Mode, due, after, emit-name, exit-name, present-name, trap-name, signal-name, when-name}
-use Rattle.text.specs.Machine.{then-due, in-due, is-outermost, complete, State, state, declared-by, around, to, put, opened, popped, turned, sequenced, paralleled, whened, due-step, closed, after-step, by-sign, by-name, step, run}
+use Rattle.text.specs.Machine.{then-due, in-due, is-outermost, complete, State, state, declared-by, around, to, put, opened, popped}
+use Rattle.text.specs.Machine.{turned, sequenced, paralleled, whened, due-step, closed, after-step, by-sign, by-name, step, run}
 use Rattle.text.proofs.Options.{no-some, went-on, was-new, one-value}
 
 -- What may follow a basic statement inside a level: the rest of its sequence, and more arms.

@@ -18,7 +18,8 @@ use Rattle.text.specs.Tokens.{Token, sign, name, number, no-token, NOTHI
 use Rattle.text.specs.Tokens.{SEMICOLON, BRACKET, CLOSED, BESIDE}
 use Rattle.text.specs.Meaning.{Declaration, signal-in, depth-in, declared, go-on, if-new}
 use Rattle.text.specs.Machine.{Closer, at-the-end, by-else, by-end, by-when, by-bracket, Level, level-at, Mode, due, after, emit-name, exit-name, present-name, trap-name, signal-name, when-name}
-use Rattle.text.specs.Machine.{then-due, in-due, State, state, declared-by, around, to, put, opened, popped, inserted, turned, sequenced, paralleled, operand-set, whened, due-step, closed, after-step, by-sign, by-name, step}
+use Rattle.text.specs.Machine.{then-due, in-due, State, state, declared-by, around, to, put, opened, popped, inserted, turned}
+use Rattle.text.specs.Machine.{sequenced, paralleled, operand-set, whened, due-step, closed, after-step, by-sign, by-name, step}
 use Rattle.text.specs.Reader.{places}
 use Rattle.text.proofs.Options.{no-some, went-on, was-new, one-value}
 use Rattle.text.proofs.Backward.{either}

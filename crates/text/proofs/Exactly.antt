@@ -16,11 +16,12 @@ use Rattle.writing.specs.Written.{header-bytes}
 use Rattle.writing.specs.Answers.{Writing, writes, refuses}
 use Rattle.text.specs.Tokens.{Token, sign, name, number, VERSION, INPUT, OUTPUT, SEMICOLON, Placed, tokens-of, tokens-placed, tokens}
 use Rattle.text.specs.Grammar.{Arms, Text, arms, names, part, spelt}
-use Rattle.text.specs.Meaning.{Declaration, go-on, Part, Blocked, declaring, arms-means, text-means}
+use Rattle.text.specs.Meaning.{Declaration, go-on, Part, Blocked, declaring, arms-means, text-means-with}
 use Rattle.text.specs.Machine.{at-the-end, level-at, moved, Mode, due, after, State, state, declared-by, step, run, complete}
 use Rattle.text.specs.Reader.{version-due, number-due, version-closed, input-name, input-named, output-named}
-use Rattle.text.specs.Reader.{Due, inputs-due, outputs-due, body-due, output-name, Heading, heading, Reader, in-header, in-body, body-start, body-step, heading-sign, heading-number, heading-step, read-step, read-all}
-use Rattle.text.specs.Reader.{begun, finish, places, too-deep, Outcome, stands, outside, over, at-end, read-placed, checked, block-of, owed, text-read}
+use Rattle.text.specs.Reader.{Due, inputs-due, outputs-due, body-due, output-name, Heading, heading, Reader, in-header}
+use Rattle.text.specs.Reader.{in-body, body-start, body-step, heading-sign, heading-number, heading-step, read-step, read-all}
+use Rattle.text.specs.Reader.{begun-with, finish, places, too-deep, Outcome, stands, outside, over, at-end, read-placed, checked, block-of, owed, text-read}
 use Rattle.text.proofs.Options.{no-some, went-on, one-value}
 use Rattle.text.proofs.OneReading.{arms-open}
 use Rattle.text.proofs.Forward.{go-arms}
@@ -70,10 +71,10 @@ outputs-body v i ds es n (y ∷ ys) p w second f d o =
 outputs-body v i ds es n (y ∷ ys) p w third f d o = absurd f
 
 -- The text that a header and a statement make.
-module _ (t : Text) (ds es : List Declaration) (w : Part) (d : declaring [] 0 (t .inputs) ≡ some ds) (e : declaring ds (length (t .inputs)) (t .outputs) ≡ some es)
+module _ (cs : List Declaration) (t : Text) (ds es : List Declaration) (w : Part) (d : declaring cs 0 (t .inputs) ≡ some ds) (e : declaring ds (length (t .inputs)) (t .outputs) ≡ some es)
     (o : arms-means (t .body) es (length (t .inputs) + length (t .outputs)) ≡ some w) where
-  inputs-body : (xs : List (List ℕ)) → declaring [] 0 xs ≡ some ds → xs ≡ t .inputs
-      → (m : Due) × (u : State) × (read-all (in-header (heading inputs-due (t .version) 0 [] 0)) (part INPUT xs (part OUTPUT (t .outputs) (arms (t .body) [])))
+  inputs-body : (xs : List (List ℕ)) → declaring cs 0 xs ≡ some ds → xs ≡ t .inputs
+      → (m : Due) × (u : State) × (read-all (in-header (heading inputs-due (t .version) 0 cs 0)) (part INPUT xs (part OUTPUT (t .outputs) (arms (t .body) [])))
       ≡ some (in-body (heading m (t .version) (length (t .inputs)) es (length (t .inputs) + length (t .outputs))) u))
       × (u .block ≡ w .records) × (u .next ≡ w .next) × (complete (u .mode) (u .top .closer) ≡ true)
   unfolding part declaring read-all read-step heading-step heading-sign
@@ -90,7 +91,7 @@ module _ (t : Text) (ds es : List Declaration) (w : Part) (d : declaring [] 0 (t
   inputs-body (x ∷ xs) d₁ q =
       let count : length (t .inputs) ≡ suc 0 + length xs = omega (arith, ap (λ (l : List (List ℕ)). length l) q) in
       let r = outputs-body (t .version) (length (t .inputs)) ds es (length (t .inputs)) (t .outputs) (t .body) w second tt e o in
-      (r .0, r .1, inputs-go xs x (t .version) 0 [] ds 0 (length (t .inputs)) (part OUTPUT (t .outputs) (arms (t .body) [])) d₁ count ∙ r .2, r .3, r .4, r .5)
+      (r .0, r .1, inputs-go xs x (t .version) 0 cs ds 0 (length (t .inputs)) (part OUTPUT (t .outputs) (arms (t .body) [])) d₁ count ∙ r .2, r .3, r .4, r .5)
 
 abbrev pub blocked : Text → Part → Blocked
 blocked t w =
@@ -98,10 +99,10 @@ blocked t w =
     let o = length (t .outputs) in
     record { header = record { version = t .version; inputs = i; outputs = o; locals = w .next - (i + o) }; records = w .records }
 
-pub meaning-of : (t : Text) (ds es : List Declaration) (w : Part) → declaring [] 0 (t .inputs) ≡ some ds → declaring ds (length (t .inputs)) (t .outputs) ≡ some es
-    → arms-means (t .body) es (length (t .inputs) + length (t .outputs)) ≡ some w → text-means t ≡ some (blocked t w)
-unfolding text-means
-meaning-of t ds es w d e o =
+pub meaning-of : (cs : List Declaration) (t : Text) (ds es : List Declaration) (w : Part) → declaring cs 0 (t .inputs) ≡ some ds → declaring ds (length (t .inputs)) (t .outputs) ≡ some es
+    → arms-means (t .body) es (length (t .inputs) + length (t .outputs)) ≡ some w → text-means-with cs t ≡ some (blocked t w)
+unfolding text-means-with
+meaning-of cs t ds es w d e o =
     let i = length (t .inputs) in
     let j = length (t .inputs) + length (t .outputs) in
     ap (λ (z : Option (List Declaration)). go-on z λ ds. go-on (declaring ds i (t .outputs)) λ es. go-on (arms-means (t .body) es j) λ w. some (blocked t w)) d
@@ -109,15 +110,15 @@ meaning-of t ds es w d e o =
     ∙ ap (λ (z : Option Part). go-on z λ w. some (blocked t w)) o
 
 -- Every text of the grammar with its names in order is read to its end, and stands for what it means.
-pub reads-text : (t : Text) (b : Blocked) → text-means t ≡ some b → (q : Reader) × (read-all begun (spelt t) ≡ some q) × (finish q ≡ some b)
-unfolding text-means spelt read-all read-step heading-step heading-sign heading-number finish
-reads-text t b m =
+pub reads-text : (cs : List Declaration) (t : Text) (b : Blocked) → text-means-with cs t ≡ some b → (q : Reader) × (read-all (begun-with cs) (spelt t) ≡ some q) × (finish q ≡ some b)
+unfolding text-means-with spelt read-all read-step heading-step heading-sign heading-number finish
+reads-text cs t b m =
     let i = length (t .inputs) in
     let o = length (t .outputs) in
-    let ds = went-on (declaring [] 0 (t .inputs)) _ m in
+    let ds = went-on (declaring cs 0 (t .inputs)) _ m in
     let es = went-on (declaring (ds .0) i (t .outputs)) _ (ds .2) in
     let w = went-on (arms-means (t .body) (es .0) (i + o)) _ (es .2) in
-    let r = inputs-body t (ds .0) (es .0) (w .0) (ds .1) (es .1) (w .1) (t .inputs) (ds .1) refl in
+    let r = inputs-body cs t (ds .0) (es .0) (w .0) (ds .1) (es .1) (w .1) (t .inputs) (ds .1) refl in
     let u = r .1 in
     let outs : i + o - i ≡ o = omega arith in (
       in-body (heading (r .0) (t .version) i (es .0) (i + o)) u,
@@ -130,10 +131,11 @@ reads-text t b m =
     )
 
 -- And only those are.
-pub only-texts : (ts : List Token) (q : Reader) (b : Blocked) → read-all begun ts ≡ some q → finish q ≡ some b → (t : Text) × (ts ≡ spelt t) × (text-means t ≡ some b)
-unfolding text-means spelt
-only-texts ts q b e f =
-    let h = from-header ts q e f in
+pub only-texts : (cs : List Declaration) (ts : List Token) (q : Reader) (b : Blocked) → read-all (begun-with cs) ts ≡ some q → finish q ≡ some b
+    → (t : Text) × (ts ≡ spelt t) × (text-means-with cs t ≡ some b)
+unfolding spelt
+only-texts cs ts q b e f =
+    let h = from-header cs ts q e f in
     let n = h .2 in
     let xs = n .goes in
     let ys = xs .goes in
@@ -147,7 +149,7 @@ only-texts ts q b e f =
     let its : ts ≡ spelt t =
     h .1 ∙ ap (λ (l : List Token). sign VERSION ∷ l) (n .its-tokens ∙ ap (λ (l : List Token). number (n .version) ∷ sign SEMICOLON ∷ l)
     (xs .its-tokens ∙ ap (λ (l : List Token). part INPUT (xs .these) l) (ys .its-tokens ∙ ap (λ (l : List Token). part OUTPUT (ys .these) l) (p .its-tokens)))) in
-    let means = meaning-of t (xs .later) (ys .later) (p .means) (xs .ordered) outs body in
-    let r = reads-text t (blocked t (p .means)) means in
-    let same-end : q ≡ r .0 = one-value (sym e ∙ ap (read-all begun) its ∙ r .1) in
+    let means = meaning-of cs t (xs .later) (ys .later) (p .means) (xs .ordered) outs body in
+    let r = reads-text cs t (blocked t (p .means)) means in
+    let same-end : q ≡ r .0 = one-value (sym e ∙ ap (read-all (begun-with cs)) its ∙ r .1) in
     (t, its, means ∙ sym (r .2) ∙ ap finish (sym same-end) ∙ f)

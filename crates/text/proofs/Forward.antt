@@ -15,7 +15,8 @@ use Rattle.writing.specs.Written.{shaped-bytes, record-bytes}
 use Rattle.text.specs.Tokens.{Token, sign, name, NOTHING, PAUSE, EMIT, PRESENT, THEN, ELSE, END, SUSPEND, WHEN, LOOP, TRAP, IN, EXIT, SIGNAL, SEMICOLON, BRACKET, CLOSED, BESIDE}
 use Rattle.text.specs.Grammar.{Arms, only, _beside_, Chain, alone, _before_, Basic, Nothing, Pause, Emit, Exit, Present, Suspend, Loop, Trap, Signal, Bracket, arms, chain, basic}
 use Rattle.text.specs.Meaning.{Declaration, signal-named, trap-named, signal-in, depth-in, declared, go-on, if-new, Part, above, joined, arms-means, chain-means, basic-means}
-use Rattle.text.specs.Machine.{Closer, by-else, by-end, by-when, by-bracket, Level, level-at, moved, Mode, due, after, emit-name, exit-name, present-name, trap-name, signal-name, when-name, then-due, in-due}
+use Rattle.text.specs.Machine.{Closer, by-else, by-end, by-when, by-bracket, Level, level-at, moved, Mode, due}
+use Rattle.text.specs.Machine.{after, emit-name, exit-name, present-name, trap-name, signal-name, when-name, then-due, in-due}
 use Rattle.text.specs.Machine.{State, state, declared-by, inserted, operand-set, popped, due-step, closed, after-step, by-sign, by-name, step, run}
 use Rattle.text.proofs.Options.{went-on, was-new, one-value}
 

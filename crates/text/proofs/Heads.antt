@@ -14,7 +14,7 @@ use Rattle.text.specs.Grammar.{Arms, Text, arms, names, part, spelt}
 use Rattle.text.specs.Meaning.{Declaration, signal-named, declared, go-on, if-new, Part, Blocked, declaring, arms-means, text-means}
 use Rattle.text.specs.Machine.{at-the-end, level-at, Mode, due, State, state, step, run, complete}
 use Rattle.text.specs.Reader.{Due, version-due, number-due, version-closed, inputs-due, outputs-due, input-name, input-named, output-name, output-named, body-due, Heading, heading, Reader}
-use Rattle.text.specs.Reader.{in-header, in-body, body-start, body-step, heading-sign, heading-name, heading-number, heading-step, read-step, read-all, begun, finish}
+use Rattle.text.specs.Reader.{in-header, in-body, body-start, body-step, heading-sign, heading-name, heading-number, heading-step, read-step, read-all, begun-with, finish}
 use Rattle.text.proofs.Options.{no-some, went-on, was-new, one-value}
 use Rattle.text.proofs.OneReading.{first-sign, opens, arms-open}
 use Rattle.text.proofs.Backward.{either, spells-some}
@@ -120,6 +120,12 @@ record Naming (K : List Declaration → ℕ → List Token → Type 0) (ds : Lis
   is-new : declared ds its-name ≡ false
   goes : Listed K more (signal-named its-name n ∷ ds) (suc n) rest
 
+-- The names from the first on.
+all-names : (x : List ℕ) (xs : List (List ℕ)) (k : List Token) {ts r : List Token} → ts ≡ name x ∷ r → r ≡ more xs k → ts ≡ names x xs k
+unfolding names
+all-names x [] k e f = e ∙ ap (λ (l : List Token). name x ∷ l) f
+all-names x (y ∷ ys) k e f = e ∙ ap (λ (l : List Token). name x ∷ l) f
+
 -- A part with at least one name.
 part-of : (s : ℕ) (K : List Declaration → ℕ → List Token → Type 0) (ds : List Declaration) (n k : ℕ) (ts : List Token) → k ≡ s → Naming K ds n ts → Listed K (part s) ds n (sign k ∷ ts)
 unfolding part declaring names
@@ -128,15 +134,11 @@ part-of s K ds n k ts q g = record {
   later = g .goes .later;
   count = g .goes .count;
   rest = g .goes .rest;
-  its-tokens = ap₂ (λ (x : ℕ) (l : List Token). sign x ∷ l) q (all (g .goes .these) (g .goes .its-tokens));
+  its-tokens = ap₂ (λ (x : ℕ) (l : List Token). sign x ∷ l) q (all-names (g .its-name) (g .goes .these) (g .goes .rest) (g .its-tokens) (g .goes .its-tokens));
   ordered = ap (λ (z : Bool). if-new z (declaring (signal-named (g .its-name) n ∷ ds) (suc n) (g .goes .these))) (g .is-new) ∙ g .goes .ordered;
   counted = omega (arith, g .goes .counted);
   goes = g .goes .goes;
 }
-  where
-    all : (xs : List (List ℕ)) → g .rest ≡ more xs (g .goes .rest) → ts ≡ names (g .its-name) xs (g .goes .rest)
-    all [] e = g .its-tokens ∙ ap (λ (l : List Token). name (g .its-name) ∷ l) e
-    all (x ∷ xs) e = g .its-tokens ∙ ap (λ (l : List Token). name (g .its-name) ∷ l) e
 
 -- A part that is left out; a name and what follows; a comma and more names; the semicolon.
 left-out : (s : ℕ) (K : List Declaration → ℕ → List Token → Type 0) (ds : List Declaration) (n : ℕ) (ts : List Token) → K ds n ts → Listed K (part s) ds n ts
@@ -150,15 +152,11 @@ a-comma K ds n k ts q g = record {
   later = g .goes .later;
   count = g .goes .count;
   rest = g .goes .rest;
-  its-tokens = ap₂ (λ (x : ℕ) (l : List Token). sign x ∷ l) q (all (g .goes .these) (g .goes .its-tokens));
+  its-tokens = ap₂ (λ (x : ℕ) (l : List Token). sign x ∷ l) q (all-names (g .its-name) (g .goes .these) (g .goes .rest) (g .its-tokens) (g .goes .its-tokens));
   ordered = ap (λ (z : Bool). if-new z (declaring (signal-named (g .its-name) n ∷ ds) (suc n) (g .goes .these))) (g .is-new) ∙ g .goes .ordered;
   counted = omega (arith, g .goes .counted);
   goes = g .goes .goes;
 }
-  where
-    all : (xs : List (List ℕ)) → g .rest ≡ more xs (g .goes .rest) → ts ≡ names (g .its-name) xs (g .goes .rest)
-    all [] e = g .its-tokens ∙ ap (λ (l : List Token). name (g .its-name) ∷ l) e
-    all (x ∷ xs) e = g .its-tokens ∙ ap (λ (l : List Token). name (g .its-name) ∷ l) e
 
 a-semicolon : (K : List Declaration → ℕ → List Token → Type 0) (ds : List Declaration) (n k : ℕ) (ts : List Token) → k ≡ SEMICOLON → K ds n ts → Listed K more ds n (sign k ∷ ts)
 unfolding declaring
@@ -180,67 +178,67 @@ Outs ds n ts = Listed Body (part OUTPUT) ds n ts
 abbrev Ins : List Declaration → ℕ → List Token → Type 0
 Ins ds n ts = Listed Outs (part INPUT) ds n ts
 
-pub record Numbered (ts : List Token) : Type 0 where
+pub record Numbered (es : List Declaration) (ts : List Token) : Type 0 where
   pub version : ℕ
   pub rest : List Token
   pub its-tokens : ts ≡ number version ∷ sign SEMICOLON ∷ rest
-  pub goes : Ins [] 0 rest
+  pub goes : Ins es 0 rest
 
-Heads : Due → List Declaration → ℕ → List Token → Type 0
-Heads version-due ds n ts = (u : List Token) × (ts ≡ sign VERSION ∷ u) × ((ds ≡ []) × (n ≡ 0) → Numbered u)
-Heads number-due ds n ts = (ds ≡ []) × (n ≡ 0) → Numbered ts
-Heads version-closed ds n ts = (u : List Token) × (ts ≡ sign SEMICOLON ∷ u) × Ins ds n u
-Heads inputs-due ds n ts = Ins ds n ts
-Heads outputs-due ds n ts = Outs ds n ts
-Heads input-name ds n ts = Naming Outs ds n ts
-Heads input-named ds n ts = Listed Outs more ds n ts
-Heads output-name ds n ts = Naming Body ds n ts
-Heads output-named ds n ts = Listed Body more ds n ts
-Heads body-due ds n ts = Body ds n ts
+Heads : List Declaration → Due → List Declaration → ℕ → List Token → Type 0
+Heads es version-due ds n ts = (u : List Token) × (ts ≡ sign VERSION ∷ u) × ((ds ≡ es) × (n ≡ 0) → Numbered es u)
+Heads es number-due ds n ts = (ds ≡ es) × (n ≡ 0) → Numbered es ts
+Heads es version-closed ds n ts = (u : List Token) × (ts ≡ sign SEMICOLON ∷ u) × Ins ds n u
+Heads es inputs-due ds n ts = Ins ds n ts
+Heads es outputs-due ds n ts = Outs ds n ts
+Heads es input-name ds n ts = Naming Outs ds n ts
+Heads es input-named ds n ts = Listed Outs more ds n ts
+Heads es output-name ds n ts = Naming Body ds n ts
+Heads es output-named ds n ts = Listed Body more ds n ts
+Heads es body-due ds n ts = Body ds n ts
 
-abbrev Unread : Reader → List Token → Type 0
-Unread (in-header g) ts = Heads (g .awaits) (g .names) (g .next) ts
-Unread (in-body g s) ts = (u : State) × (run s ts ≡ some u) × (complete (u .mode) (u .top .closer) ≡ true)
+abbrev Unread : List Declaration → Reader → List Token → Type 0
+Unread es (in-header g) ts = Heads es (g .awaits) (g .names) (g .next) ts
+Unread es (in-body g s) ts = (u : State) × (run s ts ≡ some u) × (complete (u .mode) (u .top .closer) ≡ true)
 
-unread-by : (ts : List Token) {r q : Reader} → some r ≡ some q → Unread q ts → Unread r ts
-unread-by ts e g = subst (λ (v : Reader). Unread v ts) (sym (one-value e)) g
+unread-by : (es : List Declaration) (ts : List Token) {r q : Reader} → some r ≡ some q → Unread es q ts → Unread es r ts
+unread-by es ts e g = subst (λ (v : Reader). Unread es v ts) (sym (one-value e)) g
 
 -- The body's first token.
-body-before : (g : Heading) (q : Reader) (k : ℕ) (ts : List Token) → body-step g (body-start g) (sign k) ≡ some q → Unread q ts → Body (g .names) (g .next) (sign k ∷ ts)
+body-before : (es : List Declaration) (g : Heading) (q : Reader) (k : ℕ) (ts : List Token) → body-step g (body-start g) (sign k) ≡ some q → Unread es q ts → Body (g .names) (g .next) (sign k ∷ ts)
 unfolding body-step run
-body-before g q k ts e f =
+body-before es g q k ts e f =
     let w = went-on (step (body-start g) (sign k)) _ e in
-    let r = unread-by ts (w .2) f in
+    let r = unread-by es ts (w .2) f in
     let there : run (body-start g) (sign k ∷ ts) ≡ some (r .0) = ap (λ (o : Option State). go-on o λ u. run u ts) (w .1) ∙ r .1 in
     let t = spells-some (sign k ∷ ts) (g .names) 0 [] (g .next) (r .0) there (r .2) in
     record { tree = t .0; means = t .1; its-tokens = t .2; ordered = t .3 }
 
-module _ (g : Heading) (q : Reader) (ts : List Token) where
-  heading-before : (m : Due) (k : ℕ) → heading-sign m g k ≡ some q → Unread q ts → Heads m (g .names) (g .next) (sign k ∷ ts)
+module _ (es : List Declaration) (g : Heading) (q : Reader) (ts : List Token) where
+  heading-before : (m : Due) (k : ℕ) → heading-sign m g k ≡ some q → Unread es q ts → Heads es m (g .names) (g .next) (sign k ∷ ts)
   unfolding heading-sign Heads
   heading-before version-due k e f =
-      either k VERSION _ _ e (λ p e. (ts, ap (λ (x : ℕ). sign x ∷ ts) p, unread-by ts e f)) λ e. absurd (no-some e)
+      either k VERSION _ _ e (λ p e. (ts, ap (λ (x : ℕ). sign x ∷ ts) p, unread-by es ts e f)) λ e. absurd (no-some e)
   heading-before number-due k e f = absurd (no-some e)
   heading-before version-closed k e f =
-      either k SEMICOLON _ _ e (λ p e. (ts, ap (λ (x : ℕ). sign x ∷ ts) p, unread-by ts e f)) λ e. absurd (no-some e)
+      either k SEMICOLON _ _ e (λ p e. (ts, ap (λ (x : ℕ). sign x ∷ ts) p, unread-by es ts e f)) λ e. absurd (no-some e)
   heading-before inputs-due k e f =
-      either k INPUT _ _ e (λ p e. part-of INPUT Outs (g .names) (g .next) k ts p (unread-by ts e f)) λ e. left-out INPUT Outs (g .names) (g .next) (sign k ∷ ts)
-      (either k OUTPUT _ _ e (λ p e. part-of OUTPUT Body (g .names) (g .next) k ts p (unread-by ts e f)) λ e.
-      left-out OUTPUT Body (g .names) (g .next) (sign k ∷ ts) (body-before g q k ts e f))
+      either k INPUT _ _ e (λ p e. part-of INPUT Outs (g .names) (g .next) k ts p (unread-by es ts e f)) λ e. left-out INPUT Outs (g .names) (g .next) (sign k ∷ ts)
+      (either k OUTPUT _ _ e (λ p e. part-of OUTPUT Body (g .names) (g .next) k ts p (unread-by es ts e f)) λ e.
+      left-out OUTPUT Body (g .names) (g .next) (sign k ∷ ts) (body-before es g q k ts e f))
   heading-before outputs-due k e f =
-      either k OUTPUT _ _ e (λ p e. part-of OUTPUT Body (g .names) (g .next) k ts p (unread-by ts e f)) λ e.
-      left-out OUTPUT Body (g .names) (g .next) (sign k ∷ ts) (body-before g q k ts e f)
+      either k OUTPUT _ _ e (λ p e. part-of OUTPUT Body (g .names) (g .next) k ts p (unread-by es ts e f)) λ e.
+      left-out OUTPUT Body (g .names) (g .next) (sign k ∷ ts) (body-before es g q k ts e f)
   heading-before input-name k e f = absurd (no-some e)
   heading-before input-named k e f =
-      either k COMMA _ _ e (λ p e. a-comma Outs (g .names) (g .next) k ts p (unread-by ts e f)) λ e.
-      either k SEMICOLON _ _ e (λ p e. a-semicolon Outs (g .names) (g .next) k ts p (unread-by ts e f)) λ e. absurd (no-some e)
+      either k COMMA _ _ e (λ p e. a-comma Outs (g .names) (g .next) k ts p (unread-by es ts e f)) λ e.
+      either k SEMICOLON _ _ e (λ p e. a-semicolon Outs (g .names) (g .next) k ts p (unread-by es ts e f)) λ e. absurd (no-some e)
   heading-before output-name k e f = absurd (no-some e)
   heading-before output-named k e f =
-      either k COMMA _ _ e (λ p e. a-comma Body (g .names) (g .next) k ts p (unread-by ts e f)) λ e.
-      either k SEMICOLON _ _ e (λ p e. a-semicolon Body (g .names) (g .next) k ts p (unread-by ts e f)) λ e. absurd (no-some e)
-  heading-before body-due k e f = body-before g q k ts e f
+      either k COMMA _ _ e (λ p e. a-comma Body (g .names) (g .next) k ts p (unread-by es ts e f)) λ e.
+      either k SEMICOLON _ _ e (λ p e. a-semicolon Body (g .names) (g .next) k ts p (unread-by es ts e f)) λ e. absurd (no-some e)
+  heading-before body-due k e f = body-before es g q k ts e f
 
-  named-before : (m : Due) (x : List ℕ) → heading-name m g x ≡ some q → Unread q ts → Heads m (g .names) (g .next) (name x ∷ ts)
+  named-before : (m : Due) (x : List ℕ) → heading-name m g x ≡ some q → Unread es q ts → Heads es m (g .names) (g .next) (name x ∷ ts)
   unfolding heading-name Heads
   named-before version-due x e f = absurd (no-some e)
   named-before number-due x e f = absurd (no-some e)
@@ -248,18 +246,18 @@ module _ (g : Heading) (q : Reader) (ts : List Token) where
   named-before inputs-due x e f = absurd (no-some e)
   named-before outputs-due x e f = absurd (no-some e)
   named-before input-name x e f =
-      let w = was-new (declared (g .names) x) _ e in record { its-name = x; rest = ts; its-tokens = refl; is-new = w .0; goes = unread-by ts (w .1) f }
+      let w = was-new (declared (g .names) x) _ e in record { its-name = x; rest = ts; its-tokens = refl; is-new = w .0; goes = unread-by es ts (w .1) f }
   named-before input-named x e f = absurd (no-some e)
   named-before output-name x e f =
-      let w = was-new (declared (g .names) x) _ e in record { its-name = x; rest = ts; its-tokens = refl; is-new = w .0; goes = unread-by ts (w .1) f }
+      let w = was-new (declared (g .names) x) _ e in record { its-name = x; rest = ts; its-tokens = refl; is-new = w .0; goes = unread-by es ts (w .1) f }
   named-before output-named x e f = absurd (no-some e)
   named-before body-due x e f = absurd (no-some e)
 
-  numbered-before : (m : Due) (v : ℕ) → heading-number m g v ≡ some q → Unread q ts → Heads m (g .names) (g .next) (number v ∷ ts)
+  numbered-before : (m : Due) (v : ℕ) → heading-number m g v ≡ some q → Unread es q ts → Heads es m (g .names) (g .next) (number v ∷ ts)
   unfolding heading-number Heads
   numbered-before version-due v e f = absurd (no-some e)
   numbered-before number-due v e f =
-      let r = unread-by ts e f in
+      let r = unread-by es ts e f in
       λ z. record {
         version = v;
         rest = r .0;
@@ -275,28 +273,29 @@ module _ (g : Heading) (q : Reader) (ts : List Token) where
   numbered-before output-named v e f = absurd (no-some e)
   numbered-before body-due v e f = absurd (no-some e)
 
-step-before : (r q : Reader) (t : Token) (ts : List Token) → read-step r t ≡ some q → Unread q ts → Unread r (t ∷ ts)
+step-before : (es : List Declaration) (r q : Reader) (t : Token) (ts : List Token) → read-step r t ≡ some q → Unread es q ts → Unread es r (t ∷ ts)
 unfolding read-step heading-step body-step run
-step-before (in-header g) q (sign k) ts e f = heading-before g q ts (g .awaits) k e f
-step-before (in-header g) q (name x) ts e f = named-before g q ts (g .awaits) x e f
-step-before (in-header g) q (number v) ts e f = numbered-before g q ts (g .awaits) v e f
-step-before (in-header g) q no-token ts e f = absurd (no-some e)
-step-before (in-body g s) q t ts e f =
+step-before es (in-header g) q (sign k) ts e f = heading-before es g q ts (g .awaits) k e f
+step-before es (in-header g) q (name x) ts e f = named-before es g q ts (g .awaits) x e f
+step-before es (in-header g) q (number v) ts e f = numbered-before es g q ts (g .awaits) v e f
+step-before es (in-header g) q no-token ts e f = absurd (no-some e)
+step-before es (in-body g s) q t ts e f =
     let w = went-on (step s t) _ e in
-    let r = unread-by ts (w .2) f in
+    let r = unread-by es ts (w .2) f in
     (r .0, ap (λ (o : Option State). go-on o λ u. run u ts) (w .1) ∙ r .1, r .2)
 
 -- A text that is read to its end is unread from its beginning.
-all-before : (ts : List Token) (r q : Reader) {b : Blocked} → read-all r ts ≡ some q → finish q ≡ some b → Unread r ts
+all-before : (es : List Declaration) (ts : List Token) (r q : Reader) {b : Blocked} → read-all r ts ≡ some q → finish q ≡ some b → Unread es r ts
 unfolding read-all finish run
-all-before [] r (in-header g) e f = absurd (no-some f)
-all-before [] r (in-body g s) {b} e f = unread-by [] e (s, refl, done (complete (s .mode) (s .top .closer)) _ f)
+all-before es [] r (in-header g) e f = absurd (no-some f)
+all-before es [] r (in-body g s) {b} e f = unread-by es [] e (s, refl, done (complete (s .mode) (s .top .closer)) _ f)
   where
     done : (z : Bool) (o : Option Blocked) → cond z o none ≡ some b → z ≡ true
     done true o f = refl
     done false o f = absurd (no-some f)
-all-before (t ∷ ts) r q e f = let w = went-on (read-step r t) _ e in step-before r (w .0) t ts (w .1) (all-before ts (w .0) q (w .2) f)
+all-before es (t ∷ ts) r q e f = let w = went-on (read-step r t) _ e in step-before es r (w .0) t ts (w .1) (all-before es ts (w .0) q (w .2) f)
 
-pub from-header : (ts : List Token) (q : Reader) {b : Blocked} → read-all begun ts ≡ some q → finish q ≡ some b → (u : List Token) × (ts ≡ sign VERSION ∷ u) × Numbered u
+pub from-header : (es : List Declaration) (ts : List Token) (q : Reader) {b : Blocked} → read-all (begun-with es) ts ≡ some q → finish q ≡ some b
+    → (u : List Token) × (ts ≡ sign VERSION ∷ u) × Numbered es u
 unfolding Heads
-from-header ts q e f = let h = all-before ts begun q e f in (h .0, h .1, h .2 (refl, refl))
+from-header es ts q e f = let h = all-before es ts (begun-with es) q e f in (h .0, h .1, h .2 (refl, refl))

@@ -12,7 +12,8 @@ use lib.ListN.{length, getD, drop, replicate, length-append}
 use lib.Seq.{drop-append-seam}
 use mathlib.Core.Logic.{_⊎_, inl, inr, ⊎-elim}
 use Rattle.sets.proofs.Members.{or-out}
-use Rattle.text.specs.Tokens.{Token, sign, name, number, is-space, is-digit, is-letter, in-word, keywords, same, keyword-from, word-or, word-token, word-of, mark-token, mark-size, Placed, placed, tokens-of, tokens}
+use Rattle.text.specs.Tokens.{Token, sign, name, number, is-space, is-digit, is-letter, in-word, keywords, same, keyword-from}
+use Rattle.text.specs.Tokens.{word-or, word-token, word-of, mark-token, mark-size, Placed, placed, tokens-of, tokens}
 use Rattle.text.specs.Tokens.{NOTHING, PAUSE, EMIT, PRESENT, THEN, ELSE, END, SUSPEND, WHEN, LOOP, TRAP, IN, EXIT, SIGNAL, VERSION, INPUT, OUTPUT, COMMA, SEMICOLON, BRACKET, CLOSED, BESIDE}
 use Rattle.text.specs.Grammar.{Arms, only, _beside_, Chain, alone, _before_, Basic, Nothing, Pause, Emit, Exit, Present, Suspend, Loop, Trap, Signal, Bracket, Text, arms, chain, basic}
 use Rattle.text.specs.Grammar.{names, part, spelt}

@@ -10,3 +10,4 @@ pub mod ShownMeans
 pub mod Words
 pub mod Lexing
 pub mod RoundTrip
+pub mod Examples

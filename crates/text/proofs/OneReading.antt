@@ -116,7 +116,8 @@ mutual
   back-arms : (p : Arms) (n : ℕ) (k : List Token) → arms-size p ≤ n → Ends k → read-arms n (arms p k) ≡ got p k
   back-arms (only c) zero k l e = absurd (omega (arith, l))
   back-arms (only c) (suc n) k l e =
-      through _ (back-chain c n k (omega (arith, l)) (record { no-semicolon = e .no-more })) ∙ ap (λ (z : Bool). cond z (go-on (read-arms n (behind k)) λ p. got (c beside p .its) (p .rest)) (got (only c) k)) (e .no-arm)
+      through _ (back-chain c n k (omega (arith, l)) (record { no-semicolon = e .no-more }))
+      ∙ ap (λ (z : Bool). cond z (go-on (read-arms n (behind k)) λ p. got (c beside p .its) (p .rest)) (got (only c) k)) (e .no-arm)
   back-arms (c beside p) zero k l e = absurd (omega (arith, l))
   back-arms (c beside p) (suc n) k l e =
       through _ (back-chain c n (sign BESIDE ∷ arms p k) (omega (arith, l)) (record { no-semicolon = refl })) ∙ through _ (back-arms p n k (omega (arith, l)) e)

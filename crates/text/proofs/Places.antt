@@ -17,7 +17,8 @@ use Rattle.text.specs.Tokens.{Token, sign, name, number, no-token, VERSI
 use Rattle.text.specs.Grammar.{Text, spelt}
 use Rattle.text.specs.Meaning.{declared, go-on, Blocked, text-means}
 use Rattle.text.specs.Machine.{State, step, complete}
-use Rattle.text.specs.Reader.{Due, version-due, number-due, version-closed, inputs-due, outputs-due, input-name, input-named, output-name, output-named, body-due, Heading, Reader, in-header, in-body}
+use Rattle.text.specs.Reader.{Due, version-due, number-due, version-closed, inputs-due, outputs-due, input-name, input-named}
+use Rattle.text.specs.Reader.{output-name, output-named, body-due, Heading, Reader, in-header, in-body}
 use Rattle.text.specs.Reader.{body-start, body-step, heading-sign, heading-name, heading-number, heading-step, read-step, read-all, begun, finish, places, too-deep}
 use Rattle.text.specs.Reader.{Outcome, stands, outside, over, at-end, unless-refused, read-placed, checked, block-of, owed, text-read}
 use Rattle.text.proofs.Options.{no-some, went-on, was-new, one-value}
@@ -169,7 +170,7 @@ too-long b l = go (ltb 64 (b .header .inputs + b .header .outputs + b .header .l
 pub text-gets : (text : List ℕ) (t : Text) (b : Blocked) → tokens text ≡ spelt t → text-means t ≡ some b → text-read text ≡ block-of b
 unfolding text-read owed
 text-gets text t b e m =
-    let r = reads-text t b m in
+    let r = reads-text [] t b m in
     let i = reads-either (tokens-placed text) begun (r .0) (length text) b tt (ap (read-all begun) e ∙ r .1) (r .2) in
     ⊎-elim (λ s. ap owed s) (λ s. ap owed (s .0) ∙ sym (too-long b (s .1))) i
 
@@ -207,7 +208,7 @@ only-grammar text bs e = go (read-placed begun (tokens-placed text) (length text
     go : (o : Outcome) → read-placed begun (tokens-placed text) (length text) ≡ o → owed o ≡ writes bs → Of-grammar text bs
     go (stands b) q e =
         let r = stands-read (tokens-placed text) begun (length text) b q in
-        let t = only-texts (tokens text) (r .0) b (r .1) (r .2) in
+        let t = only-texts [] (tokens text) (r .0) b (r .1) (r .2) in
         record { its-text = t .0; its-block = b; its-tokens = t .1; its-meaning = t .2; its-bytes = e }
     go (outside at) q e = let z : _≡_ {A = ℕ} 0 1 = cc in absurd (omega arith)
     go over q e = let z : _≡_ {A = ℕ} 0 1 = cc in absurd (omega arith)
@@ -215,7 +216,7 @@ only-grammar text bs e = go (read-placed begun (tokens-placed text) (length text
 -- A text that is found outside is no text of the grammar with its names in order.
 pub outside-none : (text : List ℕ) (at : ℕ) → read-placed begun (tokens-placed text) (length text) ≡ outside at → (t : Text) (b : Blocked) → tokens text ≡ spelt t → text-means t ≡ some b → ⊥
 outside-none text at e t b s m =
-    let r = reads-text t b m in
+    let r = reads-text [] t b m in
     let i = reads-either (tokens-placed text) begun (r .0) (length text) b tt (ap (read-all begun) s ∙ r .1) (r .2) in
     ⊎-elim (λ (q : _). not-both (sym e ∙ q)) (λ (q : _). not-over (sym e ∙ q .0)) i
   where

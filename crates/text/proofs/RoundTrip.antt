@@ -121,8 +121,11 @@ module _ (i o : ℕ) where
   declares zero n ds a = (ds, refl, subst (λ (k : ℕ). Counted k ds) (sym (add-zero n)) a)
   declares (suc m) n ds a =
       let r = declares m (suc n) (signal-named (f n) n ∷ ds) (one-more a) in
-      let count : suc n + m ≡ n + suc m = omega arith in
-      (r .0, ap (λ (z : Bool). if-new z (declaring (signal-named (f n) n ∷ ds) (suc n) (map f (from (suc n) m)))) (a .new-signals n (omega arith)) ∙ r .1, subst (λ (k : ℕ). Counted k (r .0)) count (r .2))
+      let count : suc n + m ≡ n + suc m = omega arith in (
+        r .0,
+        ap (λ (z : Bool). if-new z (declaring (signal-named (f n) n ∷ ds) (suc n) (map f (from (suc n) m)))) (a .new-signals n (omega arith)) ∙ r .1,
+        subst (λ (k : ℕ). Counted k (r .0)) count (r .2),
+      )
 
   around-start : {es : List Declaration} → Counted (i + o) es → Around f trap-word (names-apart i o) i o empty 0 (i + o) es
   around-start a = record {
@@ -157,14 +160,15 @@ module _ (h : Header) (p : Stmt) (w : Writable h p) where
       let outs : declaring (a .0) (length (map f (from 0 i))) (map f (from i o)) ≡ some (b .0) = ap (λ (k : ℕ). declaring (a .0) k (map f (from i o))) li ∙ b .1 in
       let body = shown-means f trap-word (names-apart i o) i o p empty 0 (i + o) (b .0) (around-start i o (b .2)) (w .trapped) (w .scoped) (w .locals-next) in
       let part : Part = record { records = records (preorder p); next = i + o + length (locals p) } in
-      let means = meaning-of t (a .0) (b .0) part (a .1) outs (ap (λ (k : ℕ). arms-means (t .body) (b .0) k) both ∙ body) in
+      let means = meaning-of [] t (a .0) (b .0) part (a .1) outs (ap (λ (k : ℕ). arms-means (t .body) (b .0) k) both ∙ body) in
       let counted : i + o + length (locals p) - (length (map f (from 0 i)) + length (map f (from i o))) ≡ h .locals = omega (arith, both, w .locals-counted) in
       means ∙ (λ c. some (record { header = record { version = h .version; inputs = li c; outputs = lo c; locals = counted c }; records = records (preorder p) }))
 
   text-tokens : Small p → tokens (text-bytes (shown h p)) ≡ spelt (shown h p)
   unfolding shown
   text-tokens s =
-      text-lex t (w .version-fits) (header-named (h .inputs) (h .outputs) (h .inputs) 0 (omega (arith, w .signals))) (header-named (h .inputs) (h .outputs) (h .outputs) (h .inputs) (omega (arith, w .signals)))
+      text-lex t (w .version-fits) (header-named (h .inputs) (h .outputs) (h .inputs) 0 (omega (arith, w .signals)))
+      (header-named (h .inputs) (h .outputs) (h .outputs) (h .inputs) (omega (arith, w .signals)))
       (shown-named (h .inputs) (h .outputs) p 0 s (w .trapped) (omega (arith, w .traps-nested)))
 
 -- The round trip.
@@ -174,7 +178,8 @@ round-trip b g s e =
     let h = g .header in
     let w = good-writable b s g e in
     let back : header-bytes h ++ records (preorder (g .body)) ≡ b = same-bytes b s g e in
-    text-gets (text-bytes (shown h (g .body))) (shown h (g .body)) (record { header = h; records = records (preorder (g .body)) }) (text-tokens h (g .body) w (sound b g e .small)) (text-stands h (g .body) w)
+    text-gets (text-bytes (shown h (g .body))) (shown h (g .body)) (record { header = h; records = records (preorder (g .body)) })
+    (text-tokens h (g .body) w (sound b g e .small)) (text-stands h (g .body) w)
     ∙ ap (λ (z : Bool). cond z (refuses 4 0) (checked (header-bytes h ++ records (preorder (g .body))) (reading (header-bytes h ++ records (preorder (g .body))))))
     (le-ltb 64 (h .inputs + h .outputs + h .locals) (w .signals))
     ∙ ap (λ (l : List ℕ). checked l (reading l)) back ∙ ap (checked b) e

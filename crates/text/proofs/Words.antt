@@ -12,7 +12,8 @@ use borrow.Author.Tests.{le-leb, ne-eqb, lt-ltb, le-ltb}
 use lib.Dec.{T, eqb, eqb→eq, ltb, ltb→lt, leb, leb→le, nltb→le}
 use lib.ListN.{length, getD}
 use Rattle.sets.proofs.Members.{or-out, or-left, or-right}
-use Rattle.text.specs.Tokens.{Token, sign, name, number, no-token, is-space, is-digit, is-letter, in-word, keywords, same, keyword-from, all-digits, value-from, is-name, is-number, no-keyword, word-or, word-token}
+use Rattle.text.specs.Tokens.{Token, sign, name, number, no-token, is-space, is-digit, is-letter, in-word, keywords}
+use Rattle.text.specs.Tokens.{same, keyword-from, all-digits, value-from, is-name, is-number, no-keyword, word-or, word-token}
 use Rattle.text.specs.Shown.{decimal-in, decimal, letter, signal-word, trap-word}
 use Rattle.text.proofs.ShownMeans.{Naming}
 

@@ -102,11 +102,14 @@ pub record Blocked : Type 0 where
   pub header : Header
   pub records : List ℕ
 
--- Inputs from 0, then outputs, then locals. The block has as many of each as are declared.
-unfoldable pub text-means : Text → Option Blocked
+-- Inputs from 0, then outputs, then locals. The block has as many of each as are declared. Nothing is declared around the text.
+unfoldable pub text-means-with : List Declaration → Text → Option Blocked
 unfolding declaring arms-means
-text-means t =
+text-means-with ds t =
     let i = length (t .inputs) in
     let o = length (t .outputs) in
-    go-on (declaring [] 0 (t .inputs)) λ ds. go-on (declaring ds i (t .outputs)) λ es. go-on (arms-means (t .body) es (i + o)) λ p.
+    go-on (declaring ds 0 (t .inputs)) λ ds. go-on (declaring ds i (t .outputs)) λ es. go-on (arms-means (t .body) es (i + o)) λ p.
     some (record { header = record { version = t .version; inputs = i; outputs = o; locals = p .next - (i + o) }; records = p .records })
+
+abbrev pub text-means : Text → Option Blocked
+text-means t = text-means-with [] t

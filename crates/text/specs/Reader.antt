@@ -115,8 +115,11 @@ unfolding read-step
 read-all r [] = some r
 read-all r (t ∷ ts) = go-on (read-step r t) λ q. read-all q ts
 
+abbrev pub begun-with : List Declaration → Reader
+begun-with ds = in-header (heading version-due 0 0 ds 0)
+
 abbrev pub begun : Reader
-begun = in-header (heading version-due 0 0 [] 0)
+begun = begun-with []
 
 -- The block that a text stands for, where it may end here.
 unfoldable pub finish : Reader → Option Blocked
