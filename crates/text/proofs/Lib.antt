@@ -11,3 +11,6 @@ pub mod Words
 pub mod Lexing
 pub mod RoundTrip
 pub mod Examples
+pub mod Extended
+pub mod GoingOn
+pub mod FaultPlace

@@ -4,3 +4,4 @@ pub mod Meaning
 pub mod Machine
 pub mod Reader
 pub mod Shown
+pub mod Faults
