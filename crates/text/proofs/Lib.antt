@@ -14,3 +14,4 @@ pub mod Examples
 pub mod Extended
 pub mod GoingOn
 pub mod FaultPlace
+pub mod ByteTests

@@ -130,8 +130,8 @@ decimal-some (suc f) n r e = go (ltb n 10) (λ h. decimal-some f (n / 10) ((48 +
     go true ih e = let z : _≡_ {A = ℕ} 0 1 = cc in omega arith
     go false ih e = ih e
 
-above-digits : (a c : ℕ) → c < a → leb a c ≡ false
-above-digits a c l = go (leb a c) refl
+pub below-leb : (a c : ℕ) → c < a → leb a c ≡ false
+below-leb a c l = go (leb a c) refl
   where
     go : (z : Bool) → leb a c ≡ z → leb a c ≡ false
     go true e = let h = leb→le a c (so-true e) in absurd (omega (arith, h, l))
@@ -235,7 +235,7 @@ version-token v l = go (decimal v) (decimal-digits (suc v) v [] tt) (decimal-bac
         let b = both-so (leb 48 c) (leb c 57) (d .0) in
         let high = leb→le c 57 (b .1) in
         let no-letter : is-letter c ≡ false =
-        ap₂ (λ (y z : Bool). y && leb c 90 || z && leb c 122) (above-digits 65 c (omega (arith, high))) (above-digits 97 c (omega (arith, high))) in
+        ap₂ (λ (y z : Bool). y && leb c 90 || z && leb c 122) (below-leb 65 c (omega (arith, high))) (below-leb 97 c (omega (arith, high))) in
         let fits : leb (value-from 0 (c ∷ w)) 65535 ≡ true = le-leb (value-from 0 (c ∷ w)) 65535 (omega (arith, e, l)) in
         ap (λ (o : Option ℕ). word-or (c ∷ w) o) (not-keyword 0 keywords c w tt (omega (arith, high)))
         ∙ ap (λ (z : Bool). cond (z && leb (length (c ∷ w)) 16) (name (c ∷ w)) (cond (is-number (c ∷ w)) (number (value-from 0 (c ∷ w))) no-token)) no-letter

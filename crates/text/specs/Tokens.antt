@@ -202,3 +202,8 @@ tokens-placed text = placed (length text) 0 text
 
 abbrev pub tokens : List ℕ → List Token
 tokens text = tokens-of (tokens-placed text)
+
+-- How many spaces stand at the front.
+unfoldable pub spaces-of : List ℕ → ℕ
+spaces-of [] = 0
+spaces-of (b ∷ bs) = cond (is-space b) (suc (spaces-of bs)) 0

@@ -1,0 +1,2 @@
+// Blocks as text: the tokens of a text, its reading and its writing.
+pub mod bytes;
