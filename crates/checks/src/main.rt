@@ -1,68 +1,22 @@
-// Checks blocks, fresh states, states of other blocks, inputs, logs, excerpts and a shelf at the boundaries of each refusal, with the numbers written by hand, and says
-// of each case what came and whether it is what was expected. The blocks stand in the file stdin, a line for each: the name of the case, a
-// bar, the number and the place expected, and how the block is made (see pages::block).
-mod lines;
-mod pages;
-mod shelves;
-
+// Checks blocks, fresh states, states of other blocks, inputs, logs and excerpts at the boundaries of each refusal, with the numbers written by hand, and says of each
+// case what came and whether it is what was expected. The blocks stand in the file stdin, a line for each: the name of the case, a
+// bar, the number and the place expected, and how the block is made (see checking::pages::block).
+use checking::byte;
+use checking::changed;
+use checking::lines::bar_after;
+use checking::lines::between;
+use checking::lines::numbers;
+use checking::lines::part;
+use checking::lines::word;
+use checking::number;
+use checking::pages::block;
+use checking::pages::state_of;
+use checking::pages::tested;
+use checking::say;
 use foldheron::Begun;
 use foldheron::Checked;
 use foldheron::Instant;
-use foldheron::Why;
 use libc::STDIN_FILENO;
-use libc::STDOUT_FILENO;
-use lines::bar_after;
-use lines::between;
-use lines::numbers;
-use lines::part;
-use lines::word;
-use pages::block;
-
-pub(crate) fn number(w: Why) -> u64 {
-    match w {
-        Why::Broken => 1,
-        Why::Kind => 2,
-        Why::Edition => 3,
-        Why::Limit => 4,
-        Why::Signal => 5,
-        Why::Exit => 6,
-        Why::Shape => 7,
-        Why::Loop => 8,
-        Why::State => 9,
-        Why::Clash => 10,
-        Why::Input => 11,
-        Why::Room => 12,
-        Why::NotConstructive => 13,
-        Why::Index => 14,
-        Why::Text => 15,
-        Why::Question => 16,
-        Why::OtherBlock => 17,
-        Why::Party => 18,
-        Why::Shelf => 19,
-        Why::Taken => 20,
-        Why::Quota => 21,
-        Why::Absent => 22,
-        Why::Interface => 23,
-        Why::Wide => 24,
-        Why::Pairs => 25,
-        Why::Form => 26,
-    }
-}
-
-// A line: what came, and whether it was expected.
-pub(crate) fn say(name: &[u8], came: u64, place: usize, number: u64, at: usize) {
-    io::write_all(STDOUT_FILENO, name);
-    io::print_decimal(STDOUT_FILENO, came);
-    io::write_all(STDOUT_FILENO, b" ");
-    io::print_decimal(STDOUT_FILENO, place as u64);
-    if came == number {
-        if place == at {
-            io::write_all(STDOUT_FILENO, b" as expected\n");
-            return;
-        }
-    }
-    io::write_all(STDOUT_FILENO, b" NOT AS EXPECTED\n");
-}
 
 // The check of a block.
 fn checked(name: &[u8], bytes: &[u8], expected: u64, at: usize) {
@@ -119,14 +73,6 @@ fn begun(name: &[u8], bytes: &[u8], state: &mut [u8], len: usize, expected: u64,
     }
 }
 
-fn wide(x: u8) -> u64 {
-    x as u64
-}
-
-pub(crate) fn byte(bytes: &[u8], i: usize) -> u64 {
-    if i < bytes.len() { wide(bytes[i]) } else { 256 }
-}
-
 // A block of one nothing, of version 5.
 fn nothing() -> [u8; 18] {
     [14, 0, 1, 0, 1, 0, 5, 0, 0, 0, 0, 0, 0, 0, 4, 0, 16, 0]
@@ -160,13 +106,6 @@ fn fresh_states() {
     turned_down(&good, &mut state);
     written(&good, &mut state);
     names(&state);
-}
-
-// Another byte at a place.
-pub(crate) fn changed(bytes: &mut [u8], at: usize, other: u8) {
-    if at < bytes.len() {
-        bytes[at] = other;
-    }
 }
 
 // The number of an instant.
@@ -230,54 +169,6 @@ fn other_states() {
         &mut other,
         17,
     );
-}
-
-// A state record by its version, statement count, phase and the lowest byte of its pauses.
-fn state_of(version: u8, statements: u8, phase: u8, pauses: u8) -> [u8; 26] {
-    let mut state = [0u8; 26];
-    state[0] = 26;
-    state[2] = 2;
-    state[4] = version;
-    state[6] = statements;
-    state[8] = phase;
-    state[10] = pauses;
-    state
-}
-
-// A block with an input 0 and an output 1: present 0 then emit 1 else nothing.
-fn tested() -> [u8; 30] {
-    [
-        14,
-        0,
-        1,
-        0,
-        1,
-        0,
-        5,
-        0,
-        1,
-        0,
-        1,
-        0,
-        0,
-        0,
-        6,
-        0,
-        19,
-        0,
-        0,
-        0,
-        6,
-        0,
-        18,
-        0,
-        1,
-        0,
-        4,
-        0,
-        16,
-        0,
-    ]
 }
 
 // An instant from a fresh state with the inputs present and the inputs absent.
@@ -350,5 +241,4 @@ fn main() {
     heard_inputs();
     rooms();
     excerpts();
-    shelves::all();
 }

@@ -7,8 +7,8 @@ use Rattle.checks.proofs.begun.Statement.{statement}
 use Rattle.checks.proofs.begun.Tie as tie
 use Rattle.checks.proofs.begun.Reads as reads
 use Rattle.checks.proofs.begun.Lts as lts
-use Rattle.checks.proofs.number.Reads as number-reads
-use Rattle.checks.proofs.say.Reads as say-reads
+use Rattle.checking.proofs.number.Reads as number-reads
+use Rattle.checking.proofs.say.Reads as say-reads
 use Rattle.foldheron.proofs.fresh.Reads as fresh-reads
 
 returns : tie.Need-returns

@@ -1,4 +1,4 @@
-// Blocks written for the cases: a page of bytes, filled from its front.
+// Blocks and states written for the cases: a page of bytes, filled from its front, and some as they are.
 use crate::lines::word;
 use block::Declared;
 use writing::put_header;
@@ -95,4 +95,52 @@ pub fn chain(page: &mut [u8], suspends: usize, two: bool) -> usize {
         i += 1;
     }
     inside(page, at, two)
+}
+
+// A state record by its version, statement count, phase and the lowest byte of its pauses.
+pub fn state_of(version: u8, statements: u8, phase: u8, pauses: u8) -> [u8; 26] {
+    let mut state = [0u8; 26];
+    state[0] = 26;
+    state[2] = 2;
+    state[4] = version;
+    state[6] = statements;
+    state[8] = phase;
+    state[10] = pauses;
+    state
+}
+
+// A block with an input 0 and an output 1: present 0 then emit 1 else nothing.
+pub fn tested() -> [u8; 30] {
+    [
+        14,
+        0,
+        1,
+        0,
+        1,
+        0,
+        5,
+        0,
+        1,
+        0,
+        1,
+        0,
+        0,
+        0,
+        6,
+        0,
+        19,
+        0,
+        0,
+        0,
+        6,
+        0,
+        18,
+        0,
+        1,
+        0,
+        4,
+        0,
+        16,
+        0,
+    ]
 }

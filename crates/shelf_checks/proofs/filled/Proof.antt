@@ -1,12 +1,12 @@
--- `shelves::filled` is safe and ends: the shelf keeps its length, and the measure is how many names are left. Assumes nothing.
+-- `filled` is safe and ends: the shelf keeps its length, and the measure is how many names are left. Assumes nothing.
 use mathlib.Core.Path.{_≡_, refl}
 use Prim.Native.Nat.{_-_}
 use lib.ListN.{length}
 use borrow.Author.Needs.{needs}
-use Rattle.checks.proofs.shelves.filled.Statement.{statement}
-use Rattle.checks.proofs.shelves.filled.Tie as tie
-use Rattle.checks.proofs.shelves.filled.Reads as reads
-use Rattle.checks.proofs.shelves.filled.Lts as lts
+use Rattle.shelf_checks.proofs.filled.Statement.{statement}
+use Rattle.shelf_checks.proofs.filled.Tie as tie
+use Rattle.shelf_checks.proofs.filled.Reads as reads
+use Rattle.shelf_checks.proofs.filled.Lts as lts
 use Rattle.shelf.proofs.install.Reads as install-reads
 
 abbrev Inv-loop : tie.InvT-loop

@@ -4,13 +4,13 @@ use mathlib.Core.Path.{_≡_, refl, _∙_}
 use Prim.Native.Nat.{_-_}
 use native.Mathlib.Omega.{arith}
 use lib.ListN.{length}
-use Rattle.checks.proofs.pages.records.Statement.{statement}
-use Rattle.checks.proofs.pages.records.Tie as tie
-use Rattle.checks.proofs.pages.records.Reads as reads
-use Rattle.checks.proofs.pages.records.Lts as lts
-use Rattle.checks.proofs.lines.word.Reads as word-reads
-use Rattle.checks.proofs.pages.header.Reads as header-reads
-use Rattle.checks.proofs.pages.statement.Reads as statement-reads
+use Rattle.checking.proofs.pages.records.Statement.{statement}
+use Rattle.checking.proofs.pages.records.Tie as tie
+use Rattle.checking.proofs.pages.records.Reads as reads
+use Rattle.checking.proofs.pages.records.Lts as lts
+use Rattle.checking.proofs.lines.word.Reads as word-reads
+use Rattle.checking.proofs.pages.header.Reads as header-reads
+use Rattle.checking.proofs.pages.statement.Reads as statement-reads
 
 abbrev Inv-loop : tie.InvT-loop
 Inv-loop page₀ given count at₀ i₀ page at i = length page ≡ length page₀

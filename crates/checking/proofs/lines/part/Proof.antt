@@ -3,10 +3,10 @@
 use mathlib.Core.Path.{sym}
 use lib.Seq.{length-take-le}
 use borrow.Author.Needs.{needs}
-use Rattle.checks.proofs.lines.part.Statement.{statement}
-use Rattle.checks.proofs.lines.part.Tie as tie
-use Rattle.checks.proofs.lines.part.Reads as reads
-use Rattle.checks.proofs.lines.part.Lts as lts
+use Rattle.checking.proofs.lines.part.Statement.{statement}
+use Rattle.checking.proofs.lines.part.Tie as tie
+use Rattle.checking.proofs.lines.part.Reads as reads
+use Rattle.checking.proofs.lines.part.Lts as lts
 
 slice-aggregate-result : tie.Need-slice-aggregate-result
 slice-aggregate-result c = sym (length-take-le _ _ (c .before .if1 .taken))

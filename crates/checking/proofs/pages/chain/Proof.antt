@@ -3,13 +3,13 @@ use mathlib.Core.Path.{_≡_, refl}
 use Prim.Native.Nat.{_-_}
 use lib.ListN.{length}
 use borrow.Author.Needs.{needs}
-use Rattle.checks.proofs.pages.chain.Statement.{statement}
-use Rattle.checks.proofs.pages.chain.Tie as tie
-use Rattle.checks.proofs.pages.chain.Reads as reads
-use Rattle.checks.proofs.pages.chain.Lts as lts
-use Rattle.checks.proofs.pages.header.Reads as header-reads
-use Rattle.checks.proofs.pages.inside.Reads as inside-reads
-use Rattle.checks.proofs.pages.statement.Reads as statement-reads
+use Rattle.checking.proofs.pages.chain.Statement.{statement}
+use Rattle.checking.proofs.pages.chain.Tie as tie
+use Rattle.checking.proofs.pages.chain.Reads as reads
+use Rattle.checking.proofs.pages.chain.Lts as lts
+use Rattle.checking.proofs.pages.header.Reads as header-reads
+use Rattle.checking.proofs.pages.inside.Reads as inside-reads
+use Rattle.checking.proofs.pages.statement.Reads as statement-reads
 
 abbrev Inv-loop : tie.InvT-loop
 Inv-loop page₀ suspends two at₀ i₀ page at i = length page ≡ length page₀

@@ -2,10 +2,10 @@
 use native.Mathlib.Omega.{arith}
 use Rattle.block.proofs.Offsets.{length-small}
 use borrow.Author.Needs.{needs}
-use Rattle.checks.proofs.pages.statement.Statement.{statement}
-use Rattle.checks.proofs.pages.statement.Tie as tie
-use Rattle.checks.proofs.pages.statement.Reads as reads
-use Rattle.checks.proofs.pages.statement.Lts as lts
+use Rattle.checking.proofs.pages.statement.Statement.{statement}
+use Rattle.checking.proofs.pages.statement.Tie as tie
+use Rattle.checking.proofs.pages.statement.Reads as reads
+use Rattle.checking.proofs.pages.statement.Lts as lts
 use Rattle.writing.proofs.put_record.Reads as put-record-reads
 
 returns : tie.Need-returns

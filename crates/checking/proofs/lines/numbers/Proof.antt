@@ -5,12 +5,12 @@ use mathlib.Core.Path.{_≡_, refl, _∙_}
 use Prim.Native.Nat.{_-_, _<_}
 use native.Mathlib.Omega.{arith}
 use lib.ListN.{length}
-use Rattle.checks.proofs.lines.numbers.Statement.{statement}
-use Rattle.checks.proofs.lines.numbers.Tie as tie
-use Rattle.checks.proofs.lines.numbers.Reads as reads
-use Rattle.checks.proofs.lines.numbers.Lts as lts
-use Rattle.checks.proofs.lines.digit.Reads as digit-reads
-use Rattle.checks.proofs.lines.store.Reads as store-reads
+use Rattle.checking.proofs.lines.numbers.Statement.{statement}
+use Rattle.checking.proofs.lines.numbers.Tie as tie
+use Rattle.checking.proofs.lines.numbers.Reads as reads
+use Rattle.checking.proofs.lines.numbers.Lts as lts
+use Rattle.checking.proofs.lines.digit.Reads as digit-reads
+use Rattle.checking.proofs.lines.store.Reads as store-reads
 
 abbrev Inv-loop : tie.InvT-loop
 Inv-loop text from given₀ at₀ count₀ x₀ given at count x = (x < 65536) × (length given ≡ length given₀)

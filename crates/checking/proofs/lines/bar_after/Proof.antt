@@ -3,10 +3,10 @@
 use Prim.Native.Nat.{_-_}
 use native.Mathlib.Omega.{arith}
 use lib.ListN.{length}
-use Rattle.checks.proofs.lines.bar_after.Statement.{statement}
-use Rattle.checks.proofs.lines.bar_after.Tie as tie
-use Rattle.checks.proofs.lines.bar_after.Reads as reads
-use Rattle.checks.proofs.lines.bar_after.Lts as lts
+use Rattle.checking.proofs.lines.bar_after.Statement.{statement}
+use Rattle.checking.proofs.lines.bar_after.Tie as tie
+use Rattle.checking.proofs.lines.bar_after.Reads as reads
+use Rattle.checking.proofs.lines.bar_after.Lts as lts
 
 abbrev Inv-loop : tie.InvT-loop
 Inv-loop text from at₀ at = Unit {0}

@@ -1,10 +1,11 @@
-// The calls on a shelf at the boundary of each refusal, with the numbers of the request written by hand.
-use crate::byte;
-use crate::changed;
-use crate::lines::part;
-use crate::number;
-use crate::pages::chain;
-use crate::say;
+// Checks the calls on a shelf at the boundary of each refusal, with the numbers of the request written by hand, and says of each case what came and whether it is what
+// was expected.
+use checking::byte;
+use checking::changed;
+use checking::lines::part;
+use checking::number;
+use checking::pages::chain;
+use checking::say;
 use foldheron::Shelved;
 
 // An answer without a part.
@@ -197,7 +198,7 @@ fn sizes(shelf: &mut [u8], small: &[u8]) {
     got(b"fetch from no byte ", part(shelf, 0), 0, 7, 19, 0);
 }
 
-pub fn all() {
+fn main() {
     let mut shelf = io::large_buffer();
     let mut page = [0u8; 32];
     let len = chain(&mut page, 0, false);

@@ -5,12 +5,12 @@ use mathlib.Core.Path.{_≡_, refl, _∙_}
 use Prim.Native.Nat.{_-_}
 use native.Mathlib.Omega.{arith}
 use lib.ListN.{length}
-use Rattle.checks.proofs.pages.bytes.Statement.{statement}
-use Rattle.checks.proofs.pages.bytes.Tie as tie
-use Rattle.checks.proofs.pages.bytes.Reads as reads
-use Rattle.checks.proofs.pages.bytes.Lts as lts
-use Rattle.checks.proofs.lines.word.Reads as word-reads
-use Rattle.checks.proofs.pages.put.Reads as put-reads
+use Rattle.checking.proofs.pages.bytes.Statement.{statement}
+use Rattle.checking.proofs.pages.bytes.Tie as tie
+use Rattle.checking.proofs.pages.bytes.Reads as reads
+use Rattle.checking.proofs.pages.bytes.Lts as lts
+use Rattle.checking.proofs.lines.word.Reads as word-reads
+use Rattle.checking.proofs.pages.put.Reads as put-reads
 
 abbrev Inv-loop : tie.InvT-loop
 Inv-loop page₀ given count at₀ i₀ page at i = length page ≡ length page₀
