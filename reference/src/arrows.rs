@@ -54,6 +54,8 @@ fn bytes_of(digits: &str) -> Vec<u8> {
 struct Followed {
     named: usize,
     tests: Vec<usize>,
+    /// Those of the tests that are said not to be reached yet.
+    unreached: Vec<usize>,
     emits: Vec<(usize, String, Vec<usize>)>,
     cycle: Vec<usize>,
     chain: Vec<usize>,
@@ -72,6 +74,7 @@ impl Followed {
         Some(Followed {
             named: number(head, "statement")?,
             tests: tests.split('{').skip(1).filter_map(|part| number(part, "statement")).collect(),
+            unreached: tests.split('{').filter(|part| part.contains("\"reached\":false")).filter_map(|part| number(part, "statement")).collect(),
             emits: emits.split('{').skip(1).map(emit).collect::<Option<_>>()?,
             cycle: numbers(text, "cycle")?,
             chain: numbers(text, "chain")?,
@@ -135,11 +138,15 @@ impl<'a> Judge<'a> {
         if lowest != Some(told.named) || !told.tests.contains(&told.named) {
             return Err(format!("named is {}, the lowest is {lowest:?}", told.named));
         }
-        if let Some(test) = told.tests.iter().find(|test| !self.reached.undecided.contains(test)) {
-            return Err(format!("{test} is no undecided test that is reached"));
+        if let Some(test) = told.tests.iter().find(|test| !self.reached.undecided.contains(test) && self.may_wait(**test) == Some(false)) {
+            return Err(format!("{test} is no undecided test that is reached or may be"));
+        }
+        if let Some(test) = told.tests.iter().find(|test| !told.unreached.contains(test) && !self.reached.undecided.contains(test)) {
+            return Err(format!("{test} is not reached for sure"));
         }
         for (emit, stands, waits) in &told.emits {
             self.emit(told, *emit, stands, waits)?;
+            self.no_test_missing(told, *emit)?;
         }
         self.none_missing(told)?;
         self.ways(told)
@@ -190,19 +197,44 @@ impl<'a> Judge<'a> {
 
     /// Whether an emit can be executed and is not for sure: a signal that nothing else has is emitted with it. None where all 64 are taken.
     fn may_come(&self, emit: usize) -> Option<bool> {
-        let header = self.block.header;
-        if header.inputs + header.outputs + header.locals > 63 {
-            return None;
-        }
         let mut root = self.block.root.clone();
         beside(&mut root, emit, 63);
-        let run = match self.phase {
-            Phase::Fresh => Run::Started,
-            Phase::Running(active) => Run::Resumed(active),
-            Phase::Finished => return Some(false),
-        };
+        let run = self.run()?;
         let e = self.event();
-        Some(RULES.can((&root, run), Mark::Plus, e).has(63) && RULES.must((&root, run), e).signals & signal_bit(63) == 0)
+        self.is_free(1).then(|| RULES.can((&root, run), Mark::Plus, e).has(63) && RULES.must((&root, run), e).signals & signal_bit(63) == 0)
+    }
+
+    fn run(&self) -> Option<Run> {
+        match self.phase {
+            Phase::Fresh => Some(Run::Started),
+            Phase::Running(active) => Some(Run::Resumed(active)),
+            Phase::Finished => None,
+        }
+    }
+
+    /// Whether so many signals, from 63 down, are not the block's.
+    fn is_free(&self, count: u16) -> bool {
+        let header = self.block.header;
+        header.inputs + header.outputs + header.locals <= 64 - count
+    }
+
+    /// Whether both branches of a test can be begun: each gets an emit of a signal of its own before it. None of a suspend, and where all 64 are taken.
+    fn may_wait(&self, test: usize) -> Option<bool> {
+        let is_present = self.block.root.find(test)?.form == Form::Present;
+        let mut root = self.block.root.clone();
+        before_branches(&mut root, test, [63, 62]);
+        let can = RULES.can((&root, self.run()?), Mark::Plus, self.event());
+        (is_present && self.is_free(2)).then(|| can.has(63) && can.has(62))
+    }
+
+    /// Every undecided test above an emit that is told is told with it. In a loop that is resumed the two may belong to two runs of its body.
+    fn no_test_missing(&self, told: &Followed, emit: usize) -> Result<(), String> {
+        let mut above = Vec::new();
+        common(&self.block.root, emit, emit, &mut above);
+        let once = above.iter().take_while(|p| !(p.form == Form::Loop && self.is_resumed(p)));
+        let is_told = |test: usize| told.emits.iter().any(|(n, stands, waits)| *n == emit && stands == "under" && waits.contains(&test));
+        let missing = once.filter(|p| p.form == Form::Present && self.may_wait(p.number) == Some(true)).find(|p| !is_told(p.number));
+        missing.map_or(Ok(()), |p| Err(format!("{emit} stands under {} too", p.number)))
     }
 
     /// Every emit of a tested output that may still come is told.
@@ -250,4 +282,16 @@ fn beside(p: &mut Statement, emit: usize, signal: u16) {
         return;
     }
     p.parts.iter_mut().for_each(|part| beside(part, emit, signal));
+}
+
+/// Puts an emit of a signal of its own before each branch of a test.
+fn before_branches(p: &mut Statement, test: usize, signals: [u16; 2]) {
+    if p.number == test && p.form == Form::Present {
+        for (part, signal) in p.parts.iter_mut().zip(signals) {
+            let emit = Statement { number: usize::MAX, form: Form::Emit, operand: signal, parts: Vec::new(), ..part.clone() };
+            *part = Statement { number: usize::MAX, form: Form::Sequence, operand: 0, parts: vec![emit, part.clone()], ..part.clone() };
+        }
+        return;
+    }
+    p.parts.iter_mut().for_each(|part| before_branches(part, test, signals));
 }

@@ -2,9 +2,11 @@
 
 use crate::args::Words;
 use crate::cause::{likely, Cause};
+use crate::commands::check::refused;
 use crate::files;
 use crate::labels::Labels;
 use crate::names;
+use crate::output::Out;
 use crate::refusal;
 use crate::status::Status;
 use crate::trouble::{Outcome, Trouble};
@@ -25,6 +27,16 @@ pub fn load(words: &Words, word: &OsStr) -> Outcome<Block> {
     let path = files::block_path(word);
     let bytes = files::block(&path)?;
     checked(words, path, bytes)
+}
+
+/// The same, with an object of check in the place of the words on a refused block where objects are asked for; there is no block then.
+pub fn load_or_tell(words: &Words, word: &OsStr, out: &mut Out) -> Outcome<Option<Block>> {
+    let path = files::block_path(word);
+    let bytes = files::block(&path)?;
+    match check(&bytes) {
+        Err(why) if words.has("--json") => out.line(&refused(&Report::of(&path, &bytes, why)).done()).map(|_| None),
+        _ => checked(words, path, bytes).map(Some),
+    }
 }
 
 /// The same of a block that is read already.

@@ -1,8 +1,10 @@
 //! A log: records one after the other. Read one at a time, or appended to.
 
 use crate::files::{self, shown};
+use crate::labels::Labels;
 use crate::layout::{begins_state, record_length, Header, LogRecord, HEAD, LOG_KIND, OLD_STATE, RECORD, STATE};
 use crate::replace::flush_folder;
+use crate::sets::sentence;
 use crate::status::Status;
 use crate::trouble::{reason, Outcome, Trouble};
 use crate::walk::{counted, grouped};
@@ -25,15 +27,15 @@ pub struct Log {
 }
 
 impl Log {
-    /// Opens a log, or begins one. What is there has to be a log of whole records.
-    pub fn open(path: &Path) -> Outcome<Log> {
+    /// Opens a log, or begins one. What is there has to be a log of whole records, and nothing in it may show that it is another block's.
+    pub fn open(path: &Path, labels: &Labels) -> Outcome<Log> {
         let failed = |why: io::Error| unwritten(path, &why);
         let is_new = std::fs::symlink_metadata(path).is_err();
         let mut file = OpenOptions::new().read(true).append(true).create(true).open(path).map_err(failed)?;
         let about = file.metadata().map_err(failed)?;
         let before = Some(about.len()).filter(|_| about.is_file());
         if let Some(length) = before {
-            look_at(path, &mut file, length)?;
+            look_at(path, &mut file, length, labels)?;
         }
         Ok(Log { path: path.to_path_buf(), file, before, is_new, kept: Vec::with_capacity(KEPT * RECORD) })
     }
@@ -85,20 +87,63 @@ fn unwritten(path: &Path, why: &io::Error) -> Trouble {
     Trouble::new(Status::File, format!("the log {} could not be written: {}", shown(path), reason(why)))
 }
 
-/// That a file which is appended to is a log of whole records. One of new records alone is told by its first and its last; any other is read
-/// from the front, for its records have two lengths.
-fn look_at(path: &Path, file: &mut File, length: u64) -> Outcome<()> {
+/// Why a record cannot be one of a block with these signals; none where it can, which is no proof that it is.
+pub fn cannot_be(record: &LogRecord, labels: &Labels) -> Option<String> {
+    let (inputs, outputs) = (labels.all_inputs(), labels.all_outputs());
+    let told = record.inputs | record.absent.unwrap_or(0);
+    let both = record.inputs & record.absent.unwrap_or(0);
+    let has = || format!("the block has {} and {}", counted(labels.inputs().len() as u64, "input"), counted(labels.outputs().len() as u64, "output"));
+    if told & !inputs != 0 {
+        Some(format!("it has {} among its inputs, and {}", sentence(told & !inputs, |n| format!("signal {}", n)), has()))
+    } else if record.outputs & !outputs != 0 {
+        Some(format!("it has {} among its outputs, and {}", sentence(record.outputs & !outputs, |n| format!("signal {}", n)), has()))
+    } else if both != 0 {
+        Some(format!("it has {} as present and as absent", sentence(both, |n| labels.input(n))))
+    } else if record.code > 1 {
+        Some(format!("it has the code {}, and a block gives 0 or 1", record.code))
+    } else {
+        None
+    }
+}
+
+/// A log that is not appended to, for one of its records is another block's.
+fn foreign(path: &Path, number: u64, why: &str) -> Trouble {
+    Trouble::new(Status::Refused, format!("{} is left as it is: record {} cannot be this block's: {}", shown(path), grouped(number), why))
+        .advise("a log does not name its block: name this block's log, or another file, which begins a new one")
+}
+
+/// That the first and the last records of a log of new records alone may be the block's.
+fn ends_may_be(path: &Path, file: &mut File, length: u64, labels: &Labels) -> Outcome<()> {
+    let most = (KEPT * RECORD) as u64;
+    for start in [0, length.saturating_sub(most)] {
+        file.seek(SeekFrom::Start(start)).map_err(|why| files::unread(path, &why))?;
+        let mut records = Records::new(BufReader::new(&mut *file).take(most), path);
+        while let Next::Record(record) = records.next()? {
+            if let Some(why) = cannot_be(&record, labels) {
+                return Err(foreign(path, start / RECORD as u64 + records.number, &why));
+            }
+        }
+    }
+    Ok(())
+}
+
+/// That a file which is appended to is a log of whole records, none of them another block's as far as it shows. One of new records alone is told by
+/// its ends; any other is read from the front, for its records have two lengths.
+fn look_at(path: &Path, file: &mut File, length: u64, labels: &Labels) -> Outcome<()> {
     let failed = |why: io::Error| files::unread(path, &why);
     let none = |why: String| Trouble::new(Status::Refused, format!("{} is left as it is: {}", shown(path), why));
     let is_told = length == 0 || length % RECORD as u64 == 0 && has_new_ends(file, length).map_err(failed)?;
     if is_told {
-        return Ok(());
+        return ends_may_be(path, file, length, labels);
     }
     file.seek(SeekFrom::Start(0)).map_err(failed)?;
     let mut records = Records::new(BufReader::new(file), path);
     loop {
         match records.next()? {
-            Next::Record(_) => {}
+            Next::Record(record) => match cannot_be(&record, labels) {
+                Some(why) => return Err(foreign(path, records.number, &why)),
+                None => {}
+            },
             Next::End => return Ok(()),
             Next::Strange(_) if records.number == 0 => return Err(none("it is no log".to_string())),
             Next::Strange(_) => return Err(none(format!("record {}, at offset {}, is no log record", grouped(records.number + 1), grouped(records.at)))),

@@ -15,7 +15,7 @@ use std::path::{Path, PathBuf};
 /// The first line, with the edition of the file's form.
 pub const FIRST: &str = "foldheron names 1";
 /// A names file is read up to here; 64 names take less.
-const MOST: usize = 1 << 14;
+pub const MOST: usize = 1 << 14;
 
 /// The names file of a block: of `pump.bin` it is `pump.names`.
 pub fn beside(block: &Path) -> PathBuf {

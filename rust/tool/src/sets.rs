@@ -68,10 +68,19 @@ pub fn pauses(numbers: &[usize]) -> String {
     format!("pause{} {}", if words.len() == 1 { "" } else { "s" }, listed(&words))
 }
 
-/// The input sets of a text: names between semicolons, `?` before one that is not heard, `-` for a set without an input, `?` for one of which no
+/// A text with a semicolon for each line's end; empty lines, and a semicolon at a line's end, are no sets.
+fn in_one_line(text: &str) -> String {
+    let lines: Vec<&str> = text.lines().map(str::trim).filter(|line| !line.is_empty()).collect();
+    match lines.split_last() {
+        Some((last, before)) => before.iter().map(|line| line.strip_suffix(';').unwrap_or(line)).chain(Some(*last)).collect::<Vec<_>>().join(";"),
+        None => String::new(),
+    }
+}
+
+/// The input sets of a text: names between semicolons or on lines of their own, `?` before one that is not heard, `-` for a set without an input, `?` for one of which no
 /// input is heard.
 pub fn parse(text: &str, labels: &Labels) -> Outcome<Vec<Given>> {
-    text.split(';').enumerate().map(|(n, part)| set(part, labels).map_err(|trouble| placed(trouble, n))).collect()
+    in_one_line(text).split(';').enumerate().map(|(n, part)| set(part, labels).map_err(|trouble| placed(trouble, n))).collect()
 }
 
 fn placed(mut trouble: Trouble, n: usize) -> Trouble {
@@ -86,6 +95,7 @@ fn set(part: &str, labels: &Labels) -> Outcome<Given> {
         [NONE] => Ok(Given::default()),
         [UNHEARD] => Ok(Given { present: 0, unheard: labels.all_inputs() }),
         _ if words.contains(&UNHEARD) => Err(lone_mark(&words, labels)),
+        _ if words.contains(&NONE) => Err(Trouble::call("- stands alone, for a set without an input").advise("what is not named is absent: leave the - out")),
         _ => words.iter().try_fold(Given::default(), |given, word| with_input(given, word, labels)),
     }
 }
@@ -128,8 +138,9 @@ fn input(word: &str, labels: &Labels) -> Outcome<usize> {
         (Some(signal), _) if labels.sort(signal) == Some(Sort::Input) => Ok(signal),
         (Some(signal), _) => Err(no_input(format!("{} is no input but {} {}", word, article(labels, signal), "of the block"), labels)),
         (None, Some(('i', number))) if number < 64 => Ok(number),
+        (None, Some(('i', _))) => Err(no_input(format!("the block has no input '{}', and no block has: i63 is the highest", word), labels)),
         (None, _) => {
-            let near = near(word, labels).map(|name| format!("is {} meant?", name));
+            let near = near(word, labels, labels.inputs()).map(|name| format!("is {} meant?", name));
             let mut trouble = no_input(format!("the block has no input '{}'", word), labels);
             trouble.lines.splice(1..1, near);
             Err(trouble)
@@ -141,9 +152,9 @@ fn no_input(why: String, labels: &Labels) -> Trouble {
     Trouble::call(why).advise(format!("the block's inputs: {}", sentence(labels.all_inputs(), |n| labels.with_number(n))))
 }
 
-/// The input that is called so in other letters, small for capital, or nearly so.
-fn near(word: &str, labels: &Labels) -> Option<String> {
-    let names: Vec<String> = labels.inputs().map(|n| labels.signal(n)).collect();
+/// The signal of these that is called so in other letters, small for capital, or nearly so.
+pub fn near(word: &str, labels: &Labels, signals: std::ops::Range<usize>) -> Option<String> {
+    let names: Vec<String> = signals.map(|n| labels.signal(n)).collect();
     let same = names.iter().find(|name| name.eq_ignore_ascii_case(word)).map(String::as_str);
     same.or_else(|| nearest(word, names.iter().map(String::as_str))).map(str::to_string)
 }
@@ -169,7 +180,8 @@ mod tests {
     #[test]
     fn parsed() {
         assert_eq!(parse("DEMAND; i0 i1,;-; i63", &labels()).unwrap(), [1, 3, 0, 1 << 63].map(Given::heard));
-        for text in ["", "DEMAND;", "A", "o2", "s3", "i64", "- DEMAND", "demand"] {
+        assert_eq!(parse("DEMAND\n i1;\n\n-\n", &labels()).unwrap(), [1, 2, 0].map(Given::heard));
+        for text in ["", "\n", "DEMAND;", "DEMAND;\n", "DEMAND;;\n-", "A", "o2", "s3", "i64", "- DEMAND", "demand"] {
             assert!(parse(text, &labels()).is_err(), "{}", text);
         }
     }

@@ -83,7 +83,7 @@ fn good(object: Object, summary: &Summary, bytes: &[u8]) -> Object {
         .text("sha256", &sha256(bytes))
 }
 
-/// A refused block, here and in a run.
+/// A refused block, here and wherever objects are asked for.
 pub fn refused(report: &Report) -> Object {
     let why = report.refusal;
     let object = Object::new().text("file", &report.path.to_string_lossy()).flag("good", false).number("refusal", why.number).text("name", name_of(why.number).unwrap_or(""));

@@ -25,7 +25,10 @@ pub static COMMAND: Command = Command {
 fn run(words: &Words, out: &mut Out) -> Outcome<Status> {
     let [file, number] = words.exactly(["a block's file", "a statement's number"])?;
     let n: usize = number.to_str().and_then(|text| text.parse().ok()).ok_or_else(|| Trouble::call(format!("'{}' is no statement's number", number.to_string_lossy())))?;
-    let block = block::load(words, file)?;
+    let block = match block::load_or_tell(words, file, out)? {
+        Some(block) => block,
+        None => return Ok(Status::BlockRefused),
+    };
     let part = match foldheron::excerpt(&block.bytes, n) {
         Ok(part) => part,
         Err(why) => return turned_down(&block, n, why, words, out),

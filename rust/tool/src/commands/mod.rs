@@ -45,7 +45,8 @@ pub fn find(name: &str) -> Outcome<&'static Command> {
 
 pub fn unknown(name: &str) -> Trouble {
     let trouble = Trouble::call(format!("there is no subcommand '{}'", name));
-    match nearest(name, COMMANDS.iter().map(|command| command.name)) {
+    let same = COMMANDS.iter().map(|command| command.name).find(|other| other.eq_ignore_ascii_case(name));
+    match same.or_else(|| nearest(name, COMMANDS.iter().map(|command| command.name))) {
         Some(near) => trouble.advise(format!("is '{}' meant?", near)),
         None => trouble.advise(help::one_line()),
     }

@@ -1,12 +1,13 @@
 //! foldheron names: writes the names file of a block, or shows what its signals are called.
 
 use super::Command;
-use crate::args::{with, Words};
-use crate::block;
+use crate::args::{flag, with, Words};
+use crate::block::{self, Block};
 use crate::files;
 use crate::names;
 use crate::output::Out;
 use crate::replace::replace;
+use crate::sets::listed;
 use crate::status::Status;
 use crate::trouble::{Outcome, Trouble};
 use crate::walk::counted;
@@ -16,12 +17,16 @@ use std::path::{Path, PathBuf};
 pub static COMMAND: Command = Command {
     name: "names",
     does: "writes the names file of a block, or shows its signals' names",
-    call: "[--to FILE] FILE [NAME..]",
-    options: &[with("--to", "FILE", "write the names into FILE, not beside the block")],
+    call: "[--to FILE] [--over] FILE [NAME..]",
+    options: &[
+        with("--to", "FILE", "write the names into FILE, not beside the block"),
+        flag("--over", "write them although signals that have a name there would lose it"),
+    ],
     more: "The names stand in the order of the signals: the inputs, the outputs, the locals; - leaves one without a name, and so do\n\
            names that are not given. A name is letters, digits and _, a letter first, 32 at most. The names of block.bin are\n\
            kept beside it in block.names, with the block's version, its statement count and the SHA-256 of its bytes: with\n\
-           another block they are not used. Without a NAME the command prints what each signal is called.\n",
+           another block they are not used. Where a signal that has a name there would be without one, nothing is written but with\n\
+           --over. Without a NAME the command prints what each signal is called.\n",
     run,
 };
 
@@ -36,14 +41,32 @@ fn run(words: &Words, out: &mut Out) -> Outcome<Status> {
         block.labels.give(signal, &name.to_string_lossy()).map_err(|why| Trouble::call(format!("name {}: {}", signal + 1, why)))?;
     }
     let to = place(words, &path)?;
+    if !words.has("--over") {
+        look_for_dropped(&to, &block)?;
+    }
     replace(&to, names::written(&block.bytes, &block.summary, &block.labels).as_bytes())?;
     out.line(&format!("{}: {} written", files::shown(&to), counted(given.iter().filter(|name| *name != "-").count() as u64, "name")))?;
     Ok(Status::Good)
 }
 
+/// That no signal loses the name that it has in the file that is written over.
+fn look_for_dropped(to: &Path, block: &Block) -> Outcome<()> {
+    let text = String::from_utf8_lossy(&files::first(to, names::MOST).unwrap_or_default()).into_owned();
+    let before = match names::read(&text, &block.bytes, &block.summary) {
+        Ok(before) => before,
+        Err(_) => return Ok(()),
+    };
+    let dropped: Vec<String> = (0..before.signals()).filter(|n| block.labels.name(*n).is_none()).filter_map(|n| before.name(n).map(str::to_string)).collect();
+    if dropped.is_empty() {
+        return Ok(());
+    }
+    let said = format!("{} has {} that would be dropped: {}", files::shown(to), counted(dropped.len() as u64, "name"), listed(&dropped));
+    Err(Trouble::call(said).advise("give every signal its name, in their order, or say --over; nothing is written"))
+}
+
 fn print(words: &Words, file: &OsStr, out: &mut Out) -> Outcome<Status> {
-    if words.has("--to") {
-        return Err(Trouble::call("--to wants names to write"));
+    if let Some(option) = ["--to", "--over"].iter().find(|option| words.has(option)) {
+        return Err(Trouble::call(format!("{} wants names to write", option)));
     }
     let block = block::load(words, file)?;
     for signal in 0..block.labels.signals() {

@@ -18,7 +18,7 @@ use std::path::Path;
 pub static COMMAND: Command = Command {
     name: "state",
     does: "prints a saved state",
-    call: "[--block FILE] FILE",
+    call: "[--block FILE [--names FILE | --no-names]] FILE",
     options: &[with("--block", "FILE", "the block that it is a state of: where it waits, and whether the block takes it"), names::OPTION, names::NO_OPTION],
     more: "A state names its block by version and statement count: where one of them differs the block refuses it with 17. Two blocks\n\
            with the same version and as many statements are not told apart, so keep the block's file beside the state. A state\n\

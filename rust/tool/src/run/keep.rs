@@ -28,7 +28,7 @@ impl Kept {
         if let Some(to) = &asked.to {
             may_be_replaced(to, block, asked.over)?;
         }
-        let log = asked.log.as_deref().map(Log::open).transpose()?;
+        let log = asked.log.as_deref().map(|path| Log::open(path, &block.labels)).transpose()?;
         Ok(Kept { state, to: asked.to.clone(), log })
     }
 
@@ -123,7 +123,7 @@ fn may_be_replaced(path: &Path, block: &Block, over: bool) -> Outcome<()> {
     let bytes = files::state(path)?;
     let left = |what: String| Trouble::call(format!("{} is there and is {}: it is left as it is", files::shown(path), what));
     if !begins_state(&bytes, length) {
-        return Err(left("no state".to_string()));
+        return Err(left("no state".to_string()).advise("remove it where it is not wanted any more, or name another file"));
     }
     let ours = named(block.summary.version, block.summary.statements);
     match State::of(&bytes) {

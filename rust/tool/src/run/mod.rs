@@ -51,9 +51,10 @@ pub static COMMAND: Command = Command {
     run,
 };
 
-const IN_HELP: &str = "the sets in words, as \"DEMAND; DEMAND FAULT; -\": semicolons between sets, - for a set without an
-input; an input is called by its name, or by its number as i0; ?NAME is an input that is not heard,
-and ? a set of which no input is heard; without a ? what is not named is absent";
+const IN_HELP: &str = "the sets in words, as \"DEMAND; DEMAND FAULT; -\": semicolons, or ends of lines, between sets,
+spaces or commas between inputs, - for a set without an input; an input is called by its name, or by
+its number as i0; ?NAME is an input that is not heard, and ? a set of which no input is heard; without
+a ? what is not named is absent";
 
 const MORE: &str = "In the table + marks what came and - what went: of inputs since the instant before, of outputs since the last answered one.
 In the first instant after --from what was before is not known, and nothing is marked; nor is an input that was not heard then.
@@ -69,6 +70,10 @@ the two, the log has this run's records and STATE the old state: the log is ahea
 inputs again; their records then stand in the log twice. A record that was cut off by a kill is told by the next run with
 --log, which writes nothing. A run that ends with 5 leaves STATE as it was, and the log as long as it was. Two runs at once on
 one STATE or one log are not kept apart.
+
+A log does not name its block. A log whose records cannot be this block's (they tell of signals that it does not have so) is left as it
+is, with status 8; its first and its last 1,024 records are looked at. One that passes may be another block's even so: keep a log
+for each block.
 ";
 
 fn run(words: &Words, out: &mut Out) -> Outcome<Status> {

@@ -76,9 +76,9 @@ impl Waits {
                     [one] => format!("; heard as {}, {} does", status, name(one)),
                     more => format!("; heard as {}, any one of {} does", status, all(more)),
                 };
-                format!("no input, nor two, settle it in every case{}{}", told("present", with), told("absent", without))
+                format!("no one input and no two settle it in every case{}{}", told("present", with), told("absent", without))
             }
-            Waits::NotFound => return "tried and not found: no input that is not heard settles it, nor do two of them".to_string(),
+            Waits::NotFound => "no one input and no two settle it in every case; some statuses, or more inputs, may".to_string(),
         };
         format!("found by trying: {}", told)
     }

@@ -23,8 +23,8 @@ pub fn told(question: &Question, waiting: Option<&Waiting>, out: &mut Out) -> Ou
         for n in from {
             out.line(&format!("  t{} -> e{} [label=\"waits for\"];", n, k))?;
         }
-        for to in emit.waits.clone() {
-            out.line(&format!("  e{} -> t{} [label=\"{}\"];", k, to, stands(emit.stands)))?;
+        for (how, to) in emit.waits() {
+            out.line(&format!("  e{} -> t{} [label=\"{}\"];", k, to, stands(how)))?;
         }
     }
     out.line("}")?;

@@ -51,10 +51,10 @@ undecided. Of a present output it is the lowest emit of it that was executed, an
 statement on the way to it that was not. That is the library's answer, and proved. Nothing is written.
 
 Besides, of a 13: what the named test waits for. Its signal is undecided because some emit of it may still be executed, and that emit
-stands under another undecided test, or comes after one in a sequence, or in a loop's next turn; and so on, round to the
-named test or to an input that is not heard. That is followed in the block by this program: it is tested, and not proved.
+waits for every undecided test that it stands under, or comes after in a sequence, or in a loop's next turn; and so on, round to the
+named test or to an input that is not heard. A test that is not reached yet, for another stands above it, is marked so. That is followed in the block by this program: it is tested, and not proved.
 
-Where the thing asked about is not so it is refused with 16, and what is so is told.
+Where the thing asked about is not so it is refused with 16, and what is so is told. Status 0 means that the question was answered.
 ";
 
 /// An instant that is asked about: the state in which it begins, its inputs, what it came to, and the question.
@@ -67,6 +67,8 @@ pub struct Question {
     given: Given,
     answer: Instant,
     asked: Asked,
+    /// Those before it that were refused, by their numbers: the state is as if they had not been.
+    refused: Vec<usize>,
 }
 
 fn run(words: &Words, out: &mut Out) -> Outcome<Status> {
@@ -78,7 +80,10 @@ fn run(words: &Words, out: &mut Out) -> Outcome<Status> {
     if word == files::STDIN && from == Some(Path::new(files::STDIN)) {
         return Err(Trouble::call("only one file can be - , standard input"));
     }
-    let block = block::load(words, word)?;
+    let block = match block::load_or_tell(words, word, out)? {
+        Some(block) => block,
+        None => return Ok(Status::BlockRefused),
+    };
     let asked = asked(words, &block.labels)?;
     if form == Some("--dot") && asked != Asked::Refused {
         return Err(Trouble::call("--dot draws what a 13 waits for: it does not go together with --present or --not-executed"));
@@ -101,7 +106,11 @@ fn asked(words: &Words, labels: &Labels) -> Outcome<Asked> {
     if let Some(name) = words.value("--present") {
         let name = name.to_string_lossy();
         let outputs = sets::sentence(labels.all_outputs(), |n| labels.with_number(n));
-        let unknown = || Trouble::call(format!("the block has no signal '{}'", files::printable(&name))).advise(format!("the block's outputs: {}", outputs));
+        let unknown = || {
+            let mut trouble = Trouble::call(format!("the block has no signal '{}'", files::printable(&name)));
+            trouble.lines.extend(sets::near(&name, labels, labels.outputs()).map(|near| format!("is {} meant?", near)));
+            trouble.advise(format!("the block's outputs: {}", outputs))
+        };
         return labels.find(&name).map(Asked::Present).ok_or_else(unknown);
     }
     match words.value("--not-executed") {
@@ -117,12 +126,15 @@ impl Question {
     /// Runs every set but the last, and the last one on a copy of the state.
     fn of(block: Block, mut state: Vec<u8>, sets: &[Given], asked: Asked) -> Question {
         let (given, before) = sets.split_last().map_or((Given::default(), sets), |(last, before)| (*last, before));
-        for set in before {
-            keep::one(&block, &mut state, *set);
+        let mut refused = Vec::new();
+        for (n, set) in before.iter().enumerate() {
+            if keep::one(&block, &mut state, *set).number() != 0 {
+                refused.push(n + 1);
+            }
         }
         let answer = keep::one(&block, &mut state.clone(), given);
         let statements = walk(&block.bytes, block.bytes.len()).statements;
-        Question { block, statements, state, number: sets.len(), given, answer, asked }
+        Question { block, statements, state, number: sets.len(), given, answer, asked, refused }
     }
 
     fn labels(&self) -> &Labels {

@@ -23,7 +23,7 @@ pub struct Waiting<'a> {
 impl<'a> Waiting<'a> {
     /// None where the statement is not among the undecided tests that were found.
     pub fn of(reach: &'a Reach<'a>, statement: usize, inputs: u16) -> Option<Waiting<'a>> {
-        let named = reach.tests.iter().position(|test| test.statement == statement)?;
+        let named = reach.tests.iter().position(|test| test.statement == statement && test.is_reached)?;
         Some(Waiting { reach, named, inputs })
     }
 
@@ -42,8 +42,8 @@ impl<'a> Waiting<'a> {
 
     /// The arrows from a test, those of its lowest emit first.
     fn arrows(&self, test: usize) -> Vec<Arrow> {
-        let arrow = |emit: &Emit, to: usize| Arrow { from: test, emit: emit.statement, stands: emit.stands, to };
-        let mut all: Vec<Arrow> = self.emits(self.signal(test)).flat_map(|emit| emit.waits.clone().map(move |to| arrow(emit, to))).collect();
+        let arrow = |emit: &Emit, stands: Stands, to: usize| Arrow { from: test, emit: emit.statement, stands, to };
+        let mut all: Vec<Arrow> = self.emits(self.signal(test)).flat_map(|emit| emit.waits().map(move |(stands, to)| arrow(emit, stands, to))).collect();
         all.sort_unstable();
         all.dedup();
         all
@@ -62,7 +62,7 @@ impl<'a> Waiting<'a> {
                 continue;
             }
             asked.push(signal);
-            for test in self.emits(signal).flat_map(|emit| emit.waits.clone()) {
+            for (_, test) in self.reach.emits.iter().filter(|emit| emit.signal == signal).flat_map(Emit::waits) {
                 if !is_met[test] {
                     is_met[test] = true;
                     met.push(test);

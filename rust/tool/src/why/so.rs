@@ -2,12 +2,12 @@
 
 use super::meaning::{Meaning, Run, Status};
 use super::reach::Visit;
-use super::words::inputs;
+use super::words::{inputs, refused_before};
 use super::Question;
 use crate::labels::Sort;
 use crate::refusal;
 use crate::run::words::code;
-use crate::sets::sentence;
+use crate::sets::{listed, sentence};
 use crate::status;
 use crate::trouble::Trouble;
 use crate::walk::counted;
@@ -16,12 +16,27 @@ use foldheron::{Asked, Instant};
 /// A refused question, in words.
 pub fn instead(question: &Question, number: u16) -> Trouble {
     let head = format!("instant {}, inputs {}: refused with {}", question.number, inputs(question), refusal::title(number));
-    let trouble = Trouble::new(status::Status::of(number), format!("{}: {}", head, is_so(question, number)));
+    let mut trouble = Trouble::new(status::Status::of(number), format!("{}: {}", head, is_so(question, number)));
+    trouble.lines.extend(refused_before(question));
     match (number, question.asked, &question.answer) {
         (16, Asked::Present(_) | Asked::NotExecuted(_), Instant::NotConstructive(_)) => trouble.advise("without --present and --not-executed it is told why"),
         (16, Asked::Refused, _) => trouble.advise("--present NAME asks why an output is present, --not-executed N why an emit was not executed"),
+        (16, Asked::Present(n), _) => its_emits(question, n).into_iter().fold(trouble, Trouble::advise),
         (16, _, _) => trouble,
         _ => trouble.advise(refusal::advice(number)),
+    }
+}
+
+/// Of an output that was absent, the emits that can be asked about.
+fn its_emits(question: &Question, signal: usize) -> Option<String> {
+    let is_output = question.labels().sort(signal) == Some(Sort::Output);
+    let emits = question.statements.iter().filter(|s| s.kind.name == "emit" && s.operand.map(usize::from) == Some(signal));
+    let numbers: Vec<String> = emits.map(|s| s.number.to_string()).collect();
+    match numbers.as_slice() {
+        _ if !is_output => None,
+        [] => Some("the block has no emit of it".to_string()),
+        [one] => Some(format!("its emit is statement {}: --not-executed {} says why it was not executed", one, one)),
+        [first, ..] => Some(format!("its emits are statements {}: --not-executed {} says why the first was not executed", listed(&numbers), first)),
     }
 }
 

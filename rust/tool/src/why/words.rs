@@ -1,7 +1,7 @@
 //! The answer for a person: the named statement with the way to it and all below it, and what it waits for.
 
 use super::meaning::{Run, Status};
-use super::reach::{Reach, Stands};
+use super::reach::{Reach, Stands, Test};
 use super::route::{Arrow, Waiting};
 use super::{so, Question};
 use crate::output::Out;
@@ -23,6 +23,9 @@ pub fn told(question: &Question, n: usize, reach: &Reach, waiting: Option<&Waiti
         ),
     };
     out.line(&format!("instant {}, inputs {}: {}", question.number, inputs(question), what))?;
+    if let Some(line) = refused_before(question) {
+        out.line(&line)?;
+    }
     out.line(&format!("statement {} is {}", n, named))?;
     out.line(tree::HEAD)?;
     for row in shown(question, n, reach) {
@@ -34,6 +37,17 @@ pub fn told(question: &Question, n: usize, reach: &Reach, waiting: Option<&Waiti
         None => {}
     }
     Ok(status::Status::Good)
+}
+
+/// Which instants before the one asked about were refused.
+pub fn refused_before(question: &Question) -> Option<String> {
+    let numbers: Vec<String> = question.refused.iter().map(usize::to_string).collect();
+    match numbers.len() {
+        0 => None,
+        1 => Some(format!("instant {} before it was refused and changed nothing", numbers[0])),
+        2..=8 => Some(format!("instants {} before it were refused and changed nothing", listed(&numbers))),
+        n => Some(format!("{} instants before it were refused and changed nothing", n)),
+    }
 }
 
 /// The inputs of the instant, as a run has them.
@@ -132,7 +146,7 @@ fn waits(question: &Question, waiting: &Waiting, out: &mut Out) -> Outcome<()> {
 fn others(question: &Question, waiting: &Waiting, out: &mut Out) -> Outcome<()> {
     let met = waiting.met();
     let tests = &waiting.reach.tests;
-    let mut more: Vec<usize> = (0..tests.len()).filter(|n| !met.contains(n)).map(|n| tests[n].statement).collect();
+    let mut more: Vec<usize> = (0..tests.len()).filter(|n| tests[*n].is_reached && !met.contains(n)).map(|n| tests[n].statement).collect();
     more.dedup();
     let words: Vec<String> = more.iter().take(4).map(|test| format!("{} of {}", test, question.signal(*test))).collect();
     match more.len() {
@@ -150,10 +164,19 @@ fn arrows(question: &Question, waiting: &Waiting, way: &[Arrow], out: &mut Out) 
         others.sort_unstable();
         others.dedup();
         let which = format!("emit {}{}", arrow.emit, or(&others));
-        let behind = format!("{} {}, which tests {}", arrow.emit, stands(arrow.stands, to), question.signal(to));
+        let behind = format!("{} {}, which tests {}{}", arrow.emit, stands(arrow.stands, to), question.signal(to), only_then(&tests[arrow.to]));
         out.line(&format!("  {} tests {}: {} may still come, and {}", from, question.signal(from), which, behind))?;
     }
     Ok(())
+}
+
+/// What is said of a test that is not reached for sure.
+fn only_then(test: &Test) -> &'static str {
+    match (test.is_reached, test.is_known) {
+        (true, _) => "",
+        (false, true) => " (not reached yet)",
+        (false, false) => " (not reached yet, and whether this local is settled once it is reached cannot be told)",
+    }
 }
 
 /// The other emits that may come, a few of them.
