@@ -12,6 +12,7 @@ use crate::tree;
 use crate::trouble::Outcome;
 use crate::walk::Statement;
 use foldheron::Asked;
+use std::collections::BTreeSet;
 
 pub fn told(question: &Question, n: usize, reach: &Reach, waiting: Option<&Waiting>, out: &mut Out) -> Outcome<status::Status> {
     let (what, named) = match question.asked {
@@ -28,7 +29,8 @@ pub fn told(question: &Question, n: usize, reach: &Reach, waiting: Option<&Waiti
     }
     out.line(&format!("statement {} is {}", n, named))?;
     out.line(tree::HEAD)?;
-    for row in shown(question, n, reach) {
+    let spoken_of = waiting.map_or(Vec::new(), spoken_of);
+    for row in shown(question, n, &spoken_of, reach) {
         out.line(&row)?;
     }
     match waiting {
@@ -55,16 +57,24 @@ pub fn inputs(question: &Question) -> String {
     changed_inputs(question.given, None, |n| question.labels().input(n))
 }
 
-/// The way to a statement, and all below it, as a tree.
-fn shown(question: &Question, n: usize, reach: &Reach) -> Vec<String> {
-    let way = question.way(n);
+/// The tests and the emits of the ways that are told.
+fn spoken_of(waiting: &Waiting) -> Vec<usize> {
+    let test = |n: usize| waiting.reach.tests[n].statement;
+    let ways = waiting.cycle().into_iter().chain(waiting.chain()).flatten();
+    ways.flat_map(|arrow| vec![test(arrow.from), arrow.emit, test(arrow.to)]).collect()
+}
+
+/// The way to a statement, all below it, and what else is spoken of with the way to it, as a tree.
+fn shown(question: &Question, n: usize, spoken_of: &[usize], reach: &Reach) -> Vec<String> {
+    let way: Vec<usize> = spoken_of.iter().flat_map(|m| question.way(*m)).chain(question.way(n)).collect();
     let level = question.statements[n].level;
-    let below = question.statements[n + 1..].iter().take_while(|s| s.level > level);
-    let rows: Vec<Statement> = way.iter().map(|m| question.statements[*m].clone()).chain(below.cloned()).collect();
+    let below = question.statements[n + 1..].iter().take_while(|s| s.level > level).map(|s| s.number);
+    let numbers: BTreeSet<usize> = way.iter().copied().chain(below).collect();
+    let rows: Vec<Statement> = numbers.iter().map(|m| question.statements[*m].clone()).collect();
     tree::rows(&rows, question.labels(), |s| mark(question, s, n, &way, reach))
 }
 
-/// What is said behind a statement: what its tests found, and which one is named.
+/// What is said behind a statement on the way or spoken of: what its tests found, and which one is named.
 fn mark(question: &Question, s: &Statement, named: usize, way: &[usize], reach: &Reach) -> Option<String> {
     let is_asked = question.asked == Asked::NotExecuted(s.number);
     let words = match question.asked {
