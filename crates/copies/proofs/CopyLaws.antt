@@ -10,7 +10,7 @@ use native.Mathlib.Nat.{add-zero}
 use native.Mathlib.Omega.{arith}
 use lib.Dec.{eqb}
 use lib.ListN.{length, getD, set, length-append}
-use lib.Seq.{sets, length-sets, getD-set-same, getD-set-other}
+use lib.Seq.{sets, getD-set-same, getD-set-other}
 use borrow.Author.Tests.{eq-eqb, ne-eqb}
 use Rattle.sets.specs.Numbers.{listed}
 use Rattle.rules.specs.Statements.{depth, Stmt, nothing, pause, emit, present?_then_else_, suspend_on_, _⨾_, loop, _parallel_, trap, exit, local, pauses}
@@ -428,10 +428,6 @@ module _ {ks xs ns : List ℕ} {at : ℕ} {spot : Spot} {lent k to lent′ : ℕ
     room = omega (arith, w .room, body-bytes h, c .ends, made-bytes ρ (spot .next) 0 0 (h .child));
     few = omega (arith, w .few, body-locals h, c .counted);
   }
-
--- Writing keeps the length.
-pub stored-length : (a : List ℕ) (i : ℕ) (vs : List ℕ) {b : List ℕ} → b ≡ sets a i vs → length b ≡ length a
-stored-length a i vs e = ap (λ (l : List ℕ). length l) e ∙ length-sets a i vs
 
 -- The names of an array with one set anew.
 pub names-set : (names : List ℕ) (x n : ℕ) → x < length names → names-of (set names x n) ≡ naming (names-of names) x n

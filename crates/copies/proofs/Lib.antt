@@ -1,3 +1,4 @@
 pub mod NodeLaws
 pub mod SizeLaws
 pub mod CopyLaws
+pub mod DoublingLaws

@@ -1,3 +1,4 @@
 pub mod Nodes
 pub mod Sizes
 pub mod Copying
+pub mod Doubling

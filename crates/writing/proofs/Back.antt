@@ -218,7 +218,7 @@ module _ (b : List ℕ) (h : Header) (fits : h .inputs + h .outputs + h .locals 
       whole-above a-local p (back room p) a r x rest s l e (operand-there b (r .place) 26 x _ refl small d) f
 
 -- A whole block. Its header is read back, no size or count is passed, and nothing is left after the tree.
-bytes-most : (ps : List Stmt) → bytes ps ≤ 6 * length ps
+pub bytes-most : (ps : List Stmt) → bytes ps ≤ 6 * length ps
 unfolding bytes
 bytes-most [] = omega arith
 bytes-most (p ∷ ps) = omega (arith, bytes-most ps, length-small (kind-of p))
