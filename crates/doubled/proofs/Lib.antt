@@ -3,3 +3,4 @@ pub mod Copied
 pub mod Twins
 pub mod Made
 pub mod Runs
+pub mod OnBytes
