@@ -12,7 +12,8 @@ use Rattle.writing.specs.Written.{record-bytes}
 use Rattle.text.specs.Tokens.{Token, sign, name, number, no-token, is-letter, same, NOTHING, PAUSE, EMIT, PRESENT, THEN, ELSE, END, SUSPEND, WHEN, LOOP, TRAP, IN, EXIT, SIGNAL}
 use Rattle.text.specs.Tokens.{VERSION, INPUT, OUTPUT, COMMA, SEMICOLON, BRACKET, CLOSED, BESIDE}
 use Rattle.text.specs.Meaning.{Declaration, signal-named, trap-named, its-name, its-signal, its-depth, passed-over, signal-in, depth-in, declared, go-on, if-new}
-use Rattle.text.specs.Machine.{Closer, at-the-end, by-else, by-end, by-when, by-bracket, Level, level-at, moved, Mode, due, after, emit-name, exit-name, present-name, trap-name, signal-name, when-name}
+use Rattle.text.specs.Machine.{Closer, at-the-end, by-else, by-end, by-when, by-bracket, Level, level-at, moved}
+use Rattle.text.specs.Machine.{Mode, due, after, emit-name, exit-name, present-name, trap-name, signal-name, when-name}
 use Rattle.text.specs.Machine.{then-due, in-due, is-outermost, complete, State, state, declared-by, around, to, put, opened, popped, turned, sequenced, paralleled, operand-set, whened}
 use Rattle.text.specs.Machine.{due-step, closed, after-step, by-sign, by-name, step, run}
 use Rattle.text.specs.Faults.{unwritten}

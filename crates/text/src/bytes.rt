@@ -1,6 +1,6 @@
 // The bytes of a text: spaces, letters and digits, and where a run of them ends.
 ghost use mathlib.Core.Path.{_≡_};
-ghost use Prim.Native.Nat.{_+_, _≤_};
+ghost use Prim.Native.Nat.{_+_};
 ghost use lib.ListN.{length, drop};
 ghost use Rattle.text.specs.Tokens.{is-space, is-digit, is-letter, in-word, spaces-of, word-of};
 
@@ -56,9 +56,8 @@ pub fn word_byte(b: u8) -> bool
     digit(b)
 }
 
-// The first place from here on that has no space; the end where there is none.
+// The first place from here on that has no space; the end where there is none, and the place itself where it is past the end.
 pub fn past_spaces(text: &[u8], at: usize) -> usize
-    requires { ⌜ at ≤ length (now text) ⌝ }
     ensures { λ r. ⌜ r ≡ at + spaces-of (drop at (now (text .entry))) ⌝ }
 {
     let mut i = at;
@@ -72,9 +71,8 @@ pub fn past_spaces(text: &[u8], at: usize) -> usize
     i
 }
 
-// The end of the word that begins here.
+// The end of the word that begins here; the place itself where none does.
 pub fn word_end(text: &[u8], at: usize) -> usize
-    requires { ⌜ at ≤ length (now text) ⌝ }
     ensures { λ r. ⌜ r ≡ at + length (word-of (drop at (now (text .entry)))) ⌝ }
 {
     let mut i = at;

@@ -14,13 +14,13 @@ use Rattle.text.proofs.bytes.past_spaces.Reads as reads
 use Rattle.text.proofs.bytes.past_spaces.Lts as lts
 
 abbrev Inv-loop : tie.InvT-loop
-Inv-loop text at i₀ i = (at ≤ i) × (i ≤ length text) × (at + spaces-of (drop at text) ≡ i + spaces-of (drop i text))
+Inv-loop text at i₀ i = (at ≤ i) × (at + spaces-of (drop at text) ≡ i + spaces-of (drop i text))
 
 abbrev μ-loop : tie.MeasureT-loop
 μ-loop text at i₀ i = length text - i
 
 loop-holds : tie.Need-loop-holds Inv-loop μ-loop
-loop-holds c = (search needs, search needs, refl)
+loop-holds c = (search needs, refl)
 
 shared-slice-read-space : tie.Need-shared-slice-read-space Inv-loop μ-loop
 shared-slice-read-space c = search needs
@@ -41,7 +41,7 @@ loop-again c =
     let at-loop = at-loop-test .before in
     let a = at-loop .before .before .args in
     let more = one-space (now (a .text)) (at-loop .loop .i) (at-loop-test .loop-test .taken) (at-call .space .ensures) (c .if1 .taken) in
-    (omega (arith, at-loop .loop .inv .0), omega (arith, at-loop-test .loop-test .taken), omega (arith, at-loop .loop .inv .2, more))
+    (omega (arith, at-loop .loop .inv .0), omega (arith, at-loop .loop .inv .1, more))
 
 returns : tie.Need-returns Inv-loop μ-loop
 returns c =
@@ -50,10 +50,10 @@ returns c =
     let at-loop = at-loop-test .before in
     let a = at-loop .before .before .args in
     let none = no-space (now (a .text)) (at-loop .loop .i) (at-loop-test .loop-test .taken) (at-call .space .ensures) (c .if1 .left) in
-    omega (arith, at-loop .loop .inv .2, none)
+    omega (arith, at-loop .loop .inv .1, none)
 
 returns-2 : tie.Need-returns-2 Inv-loop μ-loop
-returns-2 c = let none = no-bytes (now (c .before .before .before .args .text)) (c .before .loop .i) (c .loop-test .left) in omega (arith, c .before .loop .inv .2, none)
+returns-2 c = let none = no-bytes (now (c .before .before .before .args .text)) (c .before .loop .i) (c .loop-test .left) in omega (arith, c .before .loop .inv .1, none)
 
 pub past-spaces-spec : {M : Type 1} → statement M
 past-spaces-spec = tie.close (tie.spec

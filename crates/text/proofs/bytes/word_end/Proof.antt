@@ -14,13 +14,13 @@ use Rattle.text.proofs.bytes.word_end.Reads as reads
 use Rattle.text.proofs.bytes.word_end.Lts as lts
 
 abbrev Inv-loop : tie.InvT-loop
-Inv-loop text at i₀ i = (at ≤ i) × (i ≤ length text) × (at + length (word-of (drop at text)) ≡ i + length (word-of (drop i text)))
+Inv-loop text at i₀ i = (at ≤ i) × (at + length (word-of (drop at text)) ≡ i + length (word-of (drop i text)))
 
 abbrev μ-loop : tie.MeasureT-loop
 μ-loop text at i₀ i = length text - i
 
 loop-holds : tie.Need-loop-holds Inv-loop μ-loop
-loop-holds c = (search needs, search needs, refl)
+loop-holds c = (search needs, refl)
 
 shared-slice-read-word-byte : tie.Need-shared-slice-read-word-byte Inv-loop μ-loop
 shared-slice-read-word-byte c = search needs
@@ -41,7 +41,7 @@ loop-again c =
     let at-loop = at-loop-test .before in
     let a = at-loop .before .before .args in
     let more = one-byte (now (a .text)) (at-loop .loop .i) (at-loop-test .loop-test .taken) (at-call .word-byte .ensures) (c .if1 .taken) in
-    (omega (arith, at-loop .loop .inv .0), omega (arith, at-loop-test .loop-test .taken), omega (arith, at-loop .loop .inv .2, more))
+    (omega (arith, at-loop .loop .inv .0), omega (arith, at-loop .loop .inv .1, more))
 
 returns : tie.Need-returns Inv-loop μ-loop
 returns c =
@@ -50,10 +50,10 @@ returns c =
     let at-loop = at-loop-test .before in
     let a = at-loop .before .before .args in
     let none = no-byte (now (a .text)) (at-loop .loop .i) (at-loop-test .loop-test .taken) (at-call .word-byte .ensures) (c .if1 .left) in
-    omega (arith, at-loop .loop .inv .2, none)
+    omega (arith, at-loop .loop .inv .1, none)
 
 returns-2 : tie.Need-returns-2 Inv-loop μ-loop
-returns-2 c = let none = no-word (now (c .before .before .before .args .text)) (c .before .loop .i) (c .loop-test .left) in omega (arith, c .before .loop .inv .2, none)
+returns-2 c = let none = no-word (now (c .before .before .before .args .text)) (c .before .loop .i) (c .loop-test .left) in omega (arith, c .before .loop .inv .1, none)
 
 pub word-end-spec : {M : Type 1} → statement M
 word-end-spec = tie.close (tie.spec
