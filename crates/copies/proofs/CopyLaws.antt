@@ -18,7 +18,7 @@ use Rattle.block.specs.Table.{Table, kind-of, operand-of, Small}
 use Rattle.block.specs.Told.{table-of}
 use Rattle.block.specs.Format.{shape, length-of, preorder, bytes}
 use Rattle.block.specs.Good.{locals}
-use Rattle.block.proofs.Rows.{row}
+use Rattle.block.proofs.Rows.{has-row}
 use Rattle.block.proofs.Built.{bytes-append}
 use Rattle.records.specs.Numerals.{in-bytes}
 use Rattle.records.proofs.Bytes.{sets-append}
@@ -264,7 +264,7 @@ module _ {tab : Table} {at k x : ℕ} {t : Stmt} {ρ : ℕ → ℕ} {spot : Spot
   kind-is = b .k-is ∙ its-kind (b .lies)
 
   operand-is : x ≡ operand-of t
-  operand-is = b .x-is ∙ row t (b .lies .has) .its-operand
+  operand-is = b .x-is ∙ has-row t (b .lies .has) .its-operand
 
   begun-stored : (j : ℕ) → now ≡ sets before (spot .to) (records (renamed ρ (spot .next) (copies j t) ∷ []))
   begun-stored j =
@@ -465,4 +465,4 @@ operand-kept k x n ρ a b c d = sym (simp (ne-eqb k 26 a, ne-eqb k 18 b, ne-eqb 
 
 -- A local's number is below 64.
 pub local-small : {tab : Table} {at k x : ℕ} {t : Stmt} → Lies tab at t → k ≡ getD (tab .kinds) at 0 → x ≡ getD (tab .operands) at 0 → k ≡ 26 → x < 64
-local-small {t = t} l e f g = subst⁻¹ (λ (n : ℕ). n < 64) (f ∙ row t (l .has) .its-operand) (small-local t (l .small) (sym (e ∙ its-kind l) ∙ g))
+local-small {t = t} l e f g = subst⁻¹ (λ (n : ℕ). n < 64) (f ∙ has-row t (l .has) .its-operand) (small-local t (l .small) (sym (e ∙ its-kind l) ∙ g))

@@ -12,17 +12,17 @@ use Rattle.sets.proofs.Members.{eqb-in, or-left, or-right, or-out}
 use Rattle.rules.specs.Statements.{Stmt, nothing, pause, emit, present?_then_else_, suspend_on_, _⨾_, loop, _parallel_, trap, exit, local}
 use Rattle.block.specs.Table.{Table, kind-of, statements, Has, Small}
 use Rattle.block.specs.Told.{table-of}
-use Rattle.block.proofs.Rows.{row, statements-pos}
+use Rattle.block.proofs.Rows.{has-row, some-statement}
 use Rattle.copies.specs.Nodes.{Lies, Somewhere, NoChild, a-nothing, a-pause, an-emit, an-exit, OneChild, a-suspend, a-trap, a-local, TwoChildren, a-present, a-sequence, a-parallel, Has-one, Has-body, Has-two, Parts}
 use Rattle.copies.specs.declared.nodes.Node.{Node}
 use Rattle.copies.specs.declared.nodes.Node.the-variants.{Leaf, Over, Twice, Joins}
 
 module _ {tab : Table} {at : ℕ} {t : Stmt} (l : Lies tab at t) where
   pub in-table : at < 512
-  in-table = omega (arith, l .room, statements-pos t)
+  in-table = omega (arith, l .room, some-statement t)
 
   pub its-kind : getD (tab .kinds) at 0 ≡ kind-of t
-  its-kind = row t (l .has) .its-kind
+  its-kind = has-row t (l .has) .its-kind
 
   only-child : {p : Stmt} → OneChild t p → Has tab (at + 1) p → statements t ≡ 1 + statements p → Small p → Has-one tab at (at + 1) t
   only-child {p} o h e s = record { child = p; its = o; lies = record { has = h; room = omega (arith, l .room, e); small = s }; behind = omega arith }
@@ -30,7 +30,7 @@ module _ {tab : Table} {at : ℕ} {t : Stmt} (l : Lies tab at t) where
   both-children : {p q : Stmt} → TwoChildren t p q → Has tab (at + 1) p → Has tab (at + 1 + statements p) q → statements t ≡ 1 + statements p + statements q → Small p → Small q
       → (k : ℕ) → k ≡ at + 1 + getD (tab .sizes) (at + 1) 0 → Has-two tab at (at + 1) k t
   both-children {p} {q} o h i e s u k ek =
-      let place : k ≡ at + 1 + statements p = ek ∙ ap (λ (n : ℕ). at + 1 + n) (row p h .its-size) in
+      let place : k ≡ at + 1 + statements p = ek ∙ ap (λ (n : ℕ). at + 1 + n) (has-row p h .its-size) in
       record {
         first = p;
         second = q;
@@ -140,7 +140,7 @@ module _ {tab : Table} {at : ℕ} {t : Stmt} (l : Lies tab at t) where
   unfolding Parts
   joins-parts e i f =
       let x = subst (λ (n : ℕ). T (listed joins n)) (its-kind l) (of-three 19 21 23 k e) in
-      let w = has-two t l x _ refl in has-two t l x i (f (omega (arith, w .first-lies .room, statements-pos (w .first))))
+      let w = has-two t l x _ refl in has-two t l x i (f (omega (arith, w .first-lies .room, some-statement (w .first))))
 
   pub over-parts : (k ≡ 20) ⊎ ((k ≡ 24) ⊎ (k ≡ 26)) → Parts tab at t (Over (at + 1))
   unfolding Parts
@@ -177,4 +177,4 @@ module _ {tab : Table} {at : ℕ} {t : Stmt} {r : Node} (w : Parts tab at t r) w
 
 -- A child may be asked for: less of the table is left.
 pub child-called : {ks xs ns : List ℕ} {at i n : ℕ} {p : Stmt} → 512 - at ≡ n → at < i → Lies (table-of ks xs ns) i p → (512 - i < n) × Somewhere ks ns i
-child-called {xs = xs} {p = p} e l h = (omega (arith, h .room, statements-pos p), record { operands = xs; tree = p; lies = h })
+child-called {xs = xs} {p = p} e l h = (omega (arith, h .room, some-statement p), record { operands = xs; tree = p; lies = h })
