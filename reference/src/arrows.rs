@@ -288,7 +288,7 @@ fn beside(p: &mut Statement, emit: usize, signal: u16) {
 fn before_branches(p: &mut Statement, test: usize, signals: [u16; 2]) {
     if p.number == test && p.form == Form::Present {
         for (part, signal) in p.parts.iter_mut().zip(signals) {
-            let emit = Statement { number: usize::MAX, form: Form::Emit, operand: signal, parts: Vec::new(), ..part.clone() };
+            let emit = Statement { number: usize::MAX, form: Form::Emit, operand: signal, parts: Vec::new(), pauses: 0, ..part.clone() };
             *part = Statement { number: usize::MAX, form: Form::Sequence, operand: 0, parts: vec![emit, part.clone()], ..part.clone() };
         }
         return;
