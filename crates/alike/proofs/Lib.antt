@@ -5,3 +5,7 @@ pub mod RowLaws
 pub mod FindLaws
 pub mod StepLaws
 pub mod Turning
+pub mod WrittenLaws
+pub mod CallLaws
+pub mod OneAnswer
+pub mod Examples

@@ -33,10 +33,16 @@ loop-less : tie.Need-loop-less Inv-loop μ-loop
 loop-less c = omega (arith, c .before .before .loop-test .taken)
 
 loop-again : tie.Need-loop-again Inv-loop μ-loop
-loop-again c = (
-  omega (arith, c .before .before .loop-test .taken),
-  one-passed (rows-of (c .before .before .before .before .args .lows .now) (c .before .before .before .before .args .highs .now) (c .before .before .before .before .args .lows2 .now) (c .before .before .before .before .args .highs2 .now) (c .before .before .before .before .args .phases .now)) (row-of (c .before .before .before .before .args .p)) (c .before .before .before .loop .k) (c .before .before .before .loop .inv .1) (c .before .is-row .ensures .1 (c .if1 .left)),
-)
+loop-again c =
+    let at-is-row = c .before in
+    let at-loop-test = at-is-row .before in
+    let at-loop = at-loop-test .before in
+    let at-start = at-loop .before in (
+      omega (arith, at-loop-test .loop-test .taken),
+      one-passed (rows-of (at-start .args .lows .now) (at-start .args .highs .now) (at-start .args .lows2 .now)
+          (at-start .args .highs2 .now) (at-start .args .phases .now)) (row-of (at-start .args .p)) (at-loop .loop .k) (at-loop .loop .inv .1)
+          (at-is-row .is-row .ensures .1 (c .if1 .left)),
+    )
 
 returns-2 : tie.Need-returns-2 Inv-loop μ-loop
 returns-2 c = none-found _ _ _ _ (c .before .loop .inv .0) (c .loop-test .left) (c .before .loop .inv .1)

@@ -48,10 +48,15 @@ same-set-requires-2 : tie.Need-same-set-requires-2
 same-set-requires-2 c κs = search needs
 
 returns-2 : tie.Need-returns-2
-returns-2 c = (
-  λ t. row-ext (sym (c .before .before .before .before .before .same-set .ensures .0 (c .before .before .before .before .if2 .taken) .0)) (sym (c .before .before .before .before .before .same-set .ensures .0 (c .before .before .before .before .if2 .taken) .1)) (sym (c .same-set2 .ensures .0 t .0)) (sym (c .same-set2 .ensures .0 t .1)) (c .before .before .before .before .before .before .before .before .before .if1 .left),
-  λ f e. c .same-set2 .ensures .1 f (sym (ap (λ (x : Row). x .low2) e)) (sym (ap (λ (x : Row). x .high2) e)),
-)
+returns-2 c =
+    let at-if2 = c .before .before .before .before in
+    let at-same-set = at-if2 .before in
+    let at-if1 = at-same-set .before .before .before .before in (
+      λ t. row-ext (sym (at-same-set .same-set .ensures .0 (at-if2 .if2 .taken) .0)) (sym (at-same-set .same-set .ensures .0 (at-if2 .if2 .taken) .1)) (sym
+          (c .same-set2 .ensures .0 t .0)) (sym (c .same-set2 .ensures .0 t .1)) (at-if1 .if1 .left),
+      λ f e. c .same-set2 .ensures .1 f (sym (ap (λ (x : Row). x .low2) e))
+          (sym (ap (λ (x : Row). x .high2) e)),
+    )
 
 returns-3 : tie.Need-returns-3
 returns-3 c = (

@@ -35,7 +35,16 @@ add-t25 : tie.Need-add-t25
 add-t25 c = omega (arith, c .before .before .before .before .before .before .before .if2 .left)
 
 returns-3 : tie.Need-returns-3
-returns-3 c = stored (λ k h. c .before .before .before .before .before .before .before .before .before .find .ensures .none-before k (omega (arith, h, c .before .before .before .before .before .before .before .before .if1 .left))) (c .before .before .before .before .before .before .before .if2 .left) (c .before .add .ensures) (record { new-parents = refl; new-sets = refl }) refl
+returns-3 c =
+    let at-add = c .before in
+    let at-if2 = at-add .before .before .before .before .before .before in
+    let at-if1 = at-if2 .before in
+    let at-find = at-if1 .before in
+    stored (λ k h. at-find .find .ensures .none-before k (omega (arith, h, at-if1 .if1 .left))) (at-if2 .if2 .left) (at-add .add .ensures) (record {
+      new-parents =
+          refl;
+      new-sets = refl;
+    }) refl
 
 pub keep-spec : {M : Type 1} → statement M
 keep-spec =

@@ -32,7 +32,12 @@ add-t10 : tie.Need-add-t10
 add-t10 c = search needs
 
 returns-4 : tie.Need-returns-4
-returns-4 c = next-level (c .before .before .before .before .before .before .before .if1 .left) (c .before .before .before .before .if2 .left) (c .before .before .before .if3 .left) (c .before .if4 .taken) refl
+returns-4 c =
+    let at-if4 = c .before in
+    let at-if3 = at-if4 .before .before in
+    let at-if2 = at-if3 .before in
+    let at-if1 = at-if2 .before .before .before in
+    next-level (at-if1 .if1 .left) (at-if2 .if2 .left) (at-if3 .if3 .left) (at-if4 .if4 .taken) refl
 
 returns-5 : tie.Need-returns-5
 returns-5 c = ends-same (c .before .before .before .before .before .before .if1 .left) (c .before .before .before .if2 .left) (c .before .before .if3 .left) (c .if4 .left) refl

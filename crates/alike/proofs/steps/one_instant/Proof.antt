@@ -34,8 +34,17 @@ next-pair-requires : tie.Need-next-pair-requires
 next-pair-requires c κs = search needs
 
 returns : tie.Need-returns
-returns c = λ t u a e. both-step _ _ (c .before .before .before .before .before .before .before .before .args .p) (c .before .before .before .before .before .before .before .before .args .set) (c .before .before .before .before .before .before .before .phase-of .result) (hearing-of (c .before .before .before .before .before .before .all-heard .result)) (c .before .before .before .react .result) (c .before .before .react2 .result) (c .before .same-told .result) (c .next-pair .result)
-    (c .before .before .before .before .before .before .before .phase-of .ensures) (c .before .before .before .before .before .before .before .before .args .inputs) (c .before .before .before .before .before .before .all-heard .ensures) refl refl (c .before .before .before .react .ensures t a) (c .before .before .react2 .ensures u e) (c .before .same-told .ensures) (c .next-pair .ensures)
+returns c =
+    let at-same-told = c .before in
+    let at-react2 = at-same-told .before in
+    let at-react = at-react2 .before in
+    let at-all-heard = at-react .before .before .before in
+    let at-phase-of = at-all-heard .before in
+    let at-start = at-phase-of .before in
+    λ t u a e. both-step _ _ (at-start .args .p) (at-start .args .set) (at-phase-of .phase-of .result) (hearing-of (at-all-heard .all-heard .result))
+    (at-react .react .result) (at-react2 .react2 .result) (at-same-told .same-told .result) (c .next-pair .result) (at-phase-of .phase-of .ensures)
+    (at-start .args .inputs) (at-all-heard .all-heard .ensures) refl refl (at-react .react .ensures t a) (at-react2 .react2 .ensures u e)
+    (at-same-told .same-told .ensures) (c .next-pair .ensures)
 
 pub one-instant-spec : {M : Type 1} → statement M
 one-instant-spec =

@@ -9,10 +9,21 @@ use Rattle.alike.proofs.steps.same_told.Reads as reads
 use Rattle.alike.proofs.steps.same_told.Lts as lts
 
 returns : tie.Need-returns
-returns c = λ b d a e x y. codes-decide (c .before .before .before .before .before .before .before .args .r) (c .before .before .before .before .before .before .before .args .q) (search needs) (search needs) b d (c .before .before .before .before .before .before .if1 .taken) (c .before .before .before .before .before .if2 .taken) (c .before .before .if3 .taken) refl a e x y
+returns c =
+    let at-if3 = c .before .before in
+    let at-if2 = at-if3 .before .before .before in
+    let at-if1 = at-if2 .before in
+    let at-start = at-if1 .before in
+    λ b d a e x y. codes-decide (at-start .args .r) (at-start .args .q) (search needs) (search needs) b d (at-if1 .if1 .taken) (at-if2 .if2 .taken)
+    (at-if3 .if3 .taken) refl a e x y
 
 returns-2 : tie.Need-returns-2
-returns-2 c = λ b d a e x y. outputs-decide (c .before .before .before .before .before .args .r) (c .before .before .before .before .before .args .q) (search needs) (search needs) b d (c .before .before .before .before .if1 .taken) (c .before .before .before .if2 .taken) (c .if3 .left) a e x y
+returns-2 c =
+    let at-if2 = c .before .before .before in
+    let at-if1 = at-if2 .before in
+    let at-start = at-if1 .before in
+    λ b d a e x y. outputs-decide (at-start .args .r) (at-start .args .q) (search needs) (search needs) b d (at-if1 .if1 .taken) (at-if2 .if2 .taken) (c .if3 .left)
+    a e x y
 
 returns-3 : tie.Need-returns-3
 returns-3 c = λ b d a e x y. first-only (c .before .before .args .r) (c .before .before .args .q) (search needs) (search needs) b d (c .before .if1 .taken) (c .if2 .left) a e x y
