@@ -4,7 +4,7 @@ use mathlib.Core.Path.{_≡_, refl, sym, ap, ap₂, _∙_, subst}
 use mathlib.Core.Bool.{Bool, true, false, cond, false≢true}
 use mathlib.Core.List.{List, [], _∷_, _++_}
 use mathlib.Core.Option.{Option, none, some}
-use Prim.Native.Nat.{ℕ, zero, suc}
+use Prim.Native.Nat.{ℕ, suc}
 use lib.Dec.{T, eqb, eqb→eq}
 use lib.ListN.{length}
 use Rattle.writing.specs.Written.{record-bytes}
@@ -14,7 +14,7 @@ use Rattle.text.specs.Grammar.{Arms, only, _beside_, Chain, alone, _befo
 use Rattle.text.specs.Meaning.{Declaration, signal-named, trap-named, signal-in, depth-in, declared, go-on, if-new, Part, above, joined, arms-means, chain-means, basic-means}
 use Rattle.text.specs.Machine.{Closer, at-the-end, by-else, by-end, by-when, by-bracket, Level, level-at, Mode, due, after, emit-name, exit-name, present-name, trap-name, signal-name, when-name}
 use Rattle.text.specs.Machine.{then-due, in-due, is-outermost, complete, State, state, declared-by, around, to, put, opened, popped}
-use Rattle.text.specs.Machine.{turned, sequenced, paralleled, whened, due-step, closed, after-step, by-sign, by-name, step, run}
+use Rattle.text.specs.Machine.{due-step, closed, after-step, by-sign, by-name, step, run}
 use Rattle.text.proofs.Options.{no-some, went-on, was-new, one-value}
 
 -- What may follow a basic statement inside a level: the rest of its sequence, and more arms.

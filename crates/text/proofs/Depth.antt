@@ -1,13 +1,12 @@
 -- Over 1,024 places open at once make a block over its limits: each place that is open has a record before the next begins, and no step
 -- makes the block shorter. Assumes nothing.
-use mathlib.Core.Path.{_≡_, refl, sym, ap, _∙_, subst}
+use mathlib.Core.Path.{_≡_, refl, sym, _∙_, subst}
 use mathlib.Core.Bool.{Bool, true, false, cond}
-use mathlib.Core.Logic.{_⊎_, inl, inr, ⊎-elim}
 use mathlib.Core.List.{List, [], _∷_, _++_}
-use mathlib.Core.Option.{Option, none, some}
-use Prim.Native.Nat.{ℕ, zero, suc, _+_, _*_, _-_, _≤_, min}
+use mathlib.Core.Option.{some}
+use Prim.Native.Nat.{ℕ, _+_, _*_, _≤_}
 use native.Mathlib.Omega.{arith}
-use lib.Dec.{T, eqb, eqb→eq, eqb-refl}
+use lib.Dec.{T, eqb, eqb-refl}
 use lib.ListN.{length, take, drop, length-append, length-take, length-drop}
 use lib.Seq.{length-sets}
 use Rattle.sets.specs.Numbers.{listed}
@@ -16,9 +15,9 @@ use Rattle.records.specs.Numerals.{in-bytes}
 use Rattle.writing.specs.Written.{shaped-bytes, record-bytes}
 use Rattle.text.specs.Tokens.{Token, sign, name, number, no-token, NOTHING, PAUSE, EMIT, PRESENT, THEN, ELSE, END, SUSPEND, WHEN, LOOP, TRAP, IN, EXIT, SIGNAL}
 use Rattle.text.specs.Tokens.{SEMICOLON, BRACKET, CLOSED, BESIDE}
-use Rattle.text.specs.Meaning.{Declaration, signal-in, depth-in, declared, go-on, if-new}
-use Rattle.text.specs.Machine.{Closer, at-the-end, by-else, by-end, by-when, by-bracket, Level, level-at, Mode, due, after, emit-name, exit-name, present-name, trap-name, signal-name, when-name}
-use Rattle.text.specs.Machine.{then-due, in-due, State, state, declared-by, around, to, put, opened, popped, inserted, turned}
+use Rattle.text.specs.Meaning.{Declaration, signal-in, depth-in, declared}
+use Rattle.text.specs.Machine.{Closer, at-the-end, by-else, by-end, by-when, by-bracket, Level, Mode, due, after, emit-name, exit-name, present-name, trap-name, signal-name, when-name}
+use Rattle.text.specs.Machine.{then-due, in-due, State, around, to, put, opened, popped, inserted, turned}
 use Rattle.text.specs.Machine.{sequenced, paralleled, operand-set, whened, due-step, closed, after-step, by-sign, by-name, step}
 use Rattle.text.specs.Reader.{places}
 use Rattle.text.proofs.Options.{no-some, went-on, was-new, one-value}

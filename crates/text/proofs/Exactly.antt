@@ -2,31 +2,25 @@
 -- block: forward by the header's parts and the statement, backward from the last token. Assumes nothing.
 use mathlib.Core.Path.{_≡_, refl, sym, ap, ap₂, _∙_, subst}
 use mathlib.Core.Bool.{Bool, true, false, cond}
-use mathlib.Core.Logic.{_⊎_, inl, inr, ⊎-elim}
-use mathlib.Core.List.{List, [], _∷_, _++_}
+use mathlib.Core.List.{List, [], _∷_}
 use mathlib.Core.Option.{Option, none, some}
-use Prim.Native.Nat.{ℕ, zero, suc, _+_, _-_, _≤_, _<_}
-use native.Mathlib.Nat.{add-zero, zero-add}
+use Prim.Native.Nat.{ℕ, suc, _+_, _-_}
+use native.Mathlib.Nat.{add-zero}
 use native.Mathlib.Omega.{arith}
-use borrow.Author.Tests.{lt-ltb}
-use lib.Dec.{T, ltb, ltb→lt}
-use lib.ListN.{length, length-append}
-use Rattle.block.specs.Format.{reading, LIMIT, Reading, turned-down, header-fault}
-use Rattle.writing.specs.Written.{header-bytes}
-use Rattle.writing.specs.Answers.{Writing, writes, refuses}
-use Rattle.text.specs.Tokens.{Token, sign, name, number, VERSION, INPUT, OUTPUT, SEMICOLON, Placed, tokens-of, tokens-placed, tokens}
-use Rattle.text.specs.Grammar.{Arms, Text, arms, names, part, spelt}
+use lib.Dec.{T}
+use lib.ListN.{length}
+use Rattle.text.specs.Tokens.{Token, sign, number, VERSION, INPUT, OUTPUT, SEMICOLON}
+use Rattle.text.specs.Grammar.{Arms, Text, arms, part, spelt}
 use Rattle.text.specs.Meaning.{Declaration, go-on, Part, Blocked, declaring, arms-means, text-means-with}
-use Rattle.text.specs.Machine.{at-the-end, level-at, moved, Mode, due, after, State, state, declared-by, step, run, complete}
+use Rattle.text.specs.Machine.{at-the-end, level-at, moved, after, State, state, declared-by, run, complete}
 use Rattle.text.specs.Reader.{version-due, number-due, version-closed, input-name, input-named, output-named}
-use Rattle.text.specs.Reader.{Due, inputs-due, outputs-due, body-due, output-name, Heading, heading, Reader, in-header}
-use Rattle.text.specs.Reader.{in-body, body-start, body-step, heading-sign, heading-number, heading-step, read-step, read-all}
-use Rattle.text.specs.Reader.{begun-with, finish, places, too-deep, Outcome, stands, outside, over, at-end, read-placed, checked, block-of, owed, text-read}
-use Rattle.text.proofs.Options.{no-some, went-on, one-value}
+use Rattle.text.specs.Reader.{Due, inputs-due, outputs-due, body-due, output-name, heading, Reader, in-header}
+use Rattle.text.specs.Reader.{in-body, body-start, heading-sign, heading-number, heading-step, read-step, read-all}
+use Rattle.text.specs.Reader.{begun-with, finish}
+use Rattle.text.proofs.Options.{went-on, one-value}
 use Rattle.text.proofs.OneReading.{arms-open}
 use Rattle.text.proofs.Forward.{go-arms}
 use Rattle.text.proofs.Heads.{body-all, Early, first, second, third, early-body, inputs-go, outputs-go, from-header}
-use Rattle.text.proofs.Depth.{Sparse, no-gap, Spaced, Grown, step-grown, many-records}
 
 -- The statement, from where it may begin.
 body-goes : {m : Due} (v i : ℕ) (ds : List Declaration) (n : ℕ) (p : Arms) (w : Part) → Early m → arms-means p ds n ≡ some w

@@ -4,15 +4,15 @@ use mathlib.Core.Path.{_≡_, refl, sym, ap, ap₂, _∙_, subst}
 use mathlib.Core.Bool.{Bool, true, false, cond, _&&_, _||_}
 use mathlib.Core.List.{List, [], _∷_, _++_, append-assoc}
 use mathlib.Core.Option.{Option, none, some}
-use Prim.Native.Nat.{ℕ, zero, suc, _+_}
+use Prim.Native.Nat.{ℕ, suc}
 use lib.Dec.{T, eqb, eqb→eq}
-use lib.ListN.{length, getD}
+use lib.ListN.{getD}
 use Rattle.text.specs.Tokens.{Token, sign, name, number, no-token, is-letter, same, NOTHING, PAUSE, EMIT, PRESENT, THEN, ELSE, END, SUSPEND, WHEN, LOOP, TRAP, IN, EXIT, SIGNAL}
 use Rattle.text.specs.Tokens.{VERSION, INPUT, OUTPUT, COMMA, SEMICOLON, BRACKET, CLOSED, BESIDE}
-use Rattle.text.specs.Meaning.{Declaration, signal-named, trap-named, its-name, its-signal, its-depth, passed-over, signal-in, depth-in, declared, go-on, if-new}
-use Rattle.text.specs.Machine.{Closer, at-the-end, by-else, by-end, by-when, by-bracket, Level, level-at, Mode, due, after, emit-name, exit-name, present-name, trap-name, signal-name, when-name}
-use Rattle.text.specs.Machine.{then-due, in-due, State, state, declared-by, around, to, put, opened, popped, turned}
-use Rattle.text.specs.Machine.{sequenced, paralleled, whened, due-step, closed, after-step, by-sign, by-name, step}
+use Rattle.text.specs.Meaning.{Declaration, signal-named, its-name, its-signal, its-depth, passed-over, signal-in, depth-in, declared, go-on, if-new}
+use Rattle.text.specs.Machine.{Closer, at-the-end, by-else, by-end, by-when, by-bracket, Level, Mode, due, after, emit-name, exit-name, present-name, trap-name, signal-name, when-name}
+use Rattle.text.specs.Machine.{then-due, in-due, State, state, declared-by, around, put, opened, popped, turned}
+use Rattle.text.specs.Machine.{whened, due-step, closed, after-step, by-sign, by-name, step}
 use Rattle.text.specs.Reader.{Due, version-due, number-due, version-closed, inputs-due, outputs-due, input-name, input-named, output-name, output-named, body-due, Heading, heading}
 use Rattle.text.specs.Reader.{Reader, in-header, in-body, body-start, body-step, heading-sign, heading-name, heading-number, heading-step, read-step, read-all}
 use Rattle.text.specs.Faults.{unwritten}

@@ -1,31 +1,29 @@
 -- The place of 15 is the place at fault: the reading comes as far as the tokens begin some text whose names are in order, and no further.
 -- Assumes nothing.
 use mathlib.Core.Path.{_≡_, refl, sym, ap, ap₂, _∙_, subst}
-use mathlib.Core.Bool.{Bool, true, false, cond, _&&_, _||_}
-use mathlib.Core.Logic.{_⊎_, inl, inr, ⊎-elim}
+use mathlib.Core.Bool.{Bool, true, false, cond, _&&_}
 use mathlib.Core.List.{List, [], _∷_, _++_, append-assoc, append-nil}
 use mathlib.Core.Option.{Option, none, some}
 use Prim.Native.Nat.{ℕ, zero, suc, _+_, _-_}
 use native.Mathlib.Omega.{arith}
 use lib.Dec.{T, eqb, leb}
 use lib.ListN.{length, getD, drop}
-use Rattle.text.specs.Tokens.{Token, sign, name, number, no-token, is-letter, is-name, is-number, value-from, is-space}
-use Rattle.text.specs.Tokens.{in-word, no-keyword, word-or, word-token, word-of, mark-token, mark-size, keyword-from, keywords}
+use Rattle.text.specs.Tokens.{Token, sign, name, number, no-token, is-letter, is-number, value-from, is-space}
+use Rattle.text.specs.Tokens.{in-word, no-keyword, word-or, word-token, word-of, mark-size, keyword-from, keywords}
 use Rattle.text.specs.Tokens.{Placed, placed, tokens-of, tokens-placed, tokens, NOTHING, VERSION, INPUT, OUTPUT, COMMA, SEMICOLON, BESIDE, is-mark}
-use Rattle.text.specs.Grammar.{Text, spelt}
-use Rattle.text.specs.Meaning.{Declaration, signal-named, its-name, declared, go-on, if-new, Blocked, text-means-with}
-use Rattle.text.specs.Machine.{State, complete, step, run, due-step, by-sign}
+use Rattle.text.specs.Meaning.{Declaration, signal-named, declared, go-on, if-new, Blocked}
+use Rattle.text.specs.Machine.{State, complete, step, due-step, by-sign}
 use Rattle.text.specs.Reader.{Due, version-due, number-due, version-closed, inputs-due, outputs-due, input-name, input-named, output-name, output-named, body-due, Heading, heading}
 use Rattle.text.specs.Reader.{Reader, in-header, in-body, body-start, body-step, heading-sign, heading-name, heading-number, heading-step, read-step, read-all, begun, begun-with, finish}
-use Rattle.text.specs.Reader.{too-deep, Outcome, stands, outside, over, at-end, unless-refused, read-placed}
+use Rattle.text.specs.Reader.{too-deep, outside, over, at-end, unless-refused, read-placed}
 use Rattle.text.specs.Faults.{unwritten, Begins, Ends, Fault, at-token, too-early}
 use Rattle.text.proofs.Options.{no-some, went-on, was-new, one-value}
 use Rattle.text.proofs.Backward.{either}
-use Rattle.text.proofs.Words.{both-so, true-so}
+use Rattle.text.proofs.Words.{true-so}
 use Rattle.text.proofs.Heads.{body-all, Early, first, second, third}
 use Rattle.text.proofs.Exactly.{reads-text, only-texts}
 use Rattle.text.proofs.Extended.{Writ, wide, widened, wider, All-writ, all-wide}
-use Rattle.text.proofs.GoingOn.{clean, Nest, Sane, step-sane, Goes, goes-on, fresh, fresh-new}
+use Rattle.text.proofs.GoingOn.{clean, Nest, Sane, step-sane, goes-on, fresh, fresh-new}
 
 -- Only names that can be written are declared.
 abbrev Clean : Reader → Type 0

@@ -1,10 +1,10 @@
 -- The machine on the tokens of a tree with its names in order goes on behind them, its levels as they were, the block longer by the
 -- tree's records. By induction on the tree, one equation for each step. Assumes nothing.
-use mathlib.Core.Path.{_≡_, refl, sym, ap, ap₂, _∙_, subst}
-use mathlib.Core.Bool.{Bool, true, false, cond}
+use mathlib.Core.Path.{_≡_, refl, sym, ap, ap₂, _∙_}
+use mathlib.Core.Bool.{Bool, false}
 use mathlib.Core.List.{List, [], _∷_, _++_, append-assoc}
-use mathlib.Core.Option.{Option, none, some}
-use Prim.Native.Nat.{ℕ, zero, suc, _+_, _/_, _%_}
+use mathlib.Core.Option.{Option, some}
+use Prim.Native.Nat.{ℕ, suc, _+_, _/_, _%_}
 use native.Mathlib.Omega.{arith}
 use lib.ListN.{length, set, length-append}
 use lib.Seq.{take-append-seam, drop-append-seam, append-snoc, set-at, sets}
@@ -12,11 +12,11 @@ use Rattle.sets.specs.Numbers.{listed}
 use Rattle.block.specs.Format.{shape}
 use Rattle.records.specs.Numerals.{in-bytes}
 use Rattle.writing.specs.Written.{shaped-bytes, record-bytes}
-use Rattle.text.specs.Tokens.{Token, sign, name, NOTHING, PAUSE, EMIT, PRESENT, THEN, ELSE, END, SUSPEND, WHEN, LOOP, TRAP, IN, EXIT, SIGNAL, SEMICOLON, BRACKET, CLOSED, BESIDE}
+use Rattle.text.specs.Tokens.{Token, sign, name, THEN, ELSE, END, WHEN, IN, SEMICOLON, CLOSED, BESIDE}
 use Rattle.text.specs.Grammar.{Arms, only, _beside_, Chain, alone, _before_, Basic, Nothing, Pause, Emit, Exit, Present, Suspend, Loop, Trap, Signal, Bracket, arms, chain, basic}
-use Rattle.text.specs.Meaning.{Declaration, signal-named, trap-named, signal-in, depth-in, declared, go-on, if-new, Part, above, joined, arms-means, chain-means, basic-means}
-use Rattle.text.specs.Machine.{Closer, by-else, by-end, by-when, by-bracket, Level, level-at, moved, Mode, due}
-use Rattle.text.specs.Machine.{after, emit-name, exit-name, present-name, trap-name, signal-name, when-name, then-due, in-due}
+use Rattle.text.specs.Meaning.{Declaration, signal-named, trap-named, signal-in, depth-in, declared, go-on, if-new, Part, arms-means, chain-means, basic-means}
+use Rattle.text.specs.Machine.{by-else, by-end, by-when, by-bracket, Level, level-at, moved, due}
+use Rattle.text.specs.Machine.{after, then-due, in-due}
 use Rattle.text.specs.Machine.{State, state, declared-by, inserted, operand-set, popped, due-step, closed, after-step, by-sign, by-name, step, run}
 use Rattle.text.proofs.Options.{went-on, was-new, one-value}
 

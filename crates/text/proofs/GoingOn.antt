@@ -3,24 +3,24 @@
 use mathlib.Core.Path.{_≡_, refl, sym, ap, ap₂, _∙_, subst}
 use mathlib.Core.Bool.{Bool, true, false, cond, false≢true, _&&_, _||_}
 use mathlib.Core.List.{List, [], _∷_, _++_}
-use mathlib.Core.Option.{Option, none, some}
-use Prim.Native.Nat.{ℕ, zero, suc, _+_, _≤_, max}
+use mathlib.Core.Option.{Option, some}
+use Prim.Native.Nat.{ℕ, suc, _≤_, max}
 use native.Mathlib.Omega.{arith}
-use lib.Dec.{T, eqb, eqb→eq}
+use lib.Dec.{T}
 use lib.ListN.{length, getD, replicate, length-replicate}
 use Rattle.writing.specs.Written.{record-bytes}
 use Rattle.text.specs.Tokens.{Token, sign, name, number, no-token, is-letter, same, NOTHING, PAUSE, EMIT, PRESENT, THEN, ELSE, END, SUSPEND, WHEN, LOOP, TRAP, IN, EXIT, SIGNAL}
-use Rattle.text.specs.Tokens.{VERSION, INPUT, OUTPUT, COMMA, SEMICOLON, BRACKET, CLOSED, BESIDE}
+use Rattle.text.specs.Tokens.{SEMICOLON, BRACKET, CLOSED, BESIDE}
 use Rattle.text.specs.Meaning.{Declaration, signal-named, trap-named, its-name, its-signal, its-depth, passed-over, signal-in, depth-in, declared, go-on, if-new}
 use Rattle.text.specs.Machine.{Closer, at-the-end, by-else, by-end, by-when, by-bracket, Level, level-at, moved}
 use Rattle.text.specs.Machine.{Mode, due, after, emit-name, exit-name, present-name, trap-name, signal-name, when-name}
-use Rattle.text.specs.Machine.{then-due, in-due, is-outermost, complete, State, state, declared-by, around, to, put, opened, popped, turned, sequenced, paralleled, operand-set, whened}
+use Rattle.text.specs.Machine.{then-due, in-due, is-outermost, complete, State, state, declared-by, around, put, opened, popped, operand-set, whened}
 use Rattle.text.specs.Machine.{due-step, closed, after-step, by-sign, by-name, step, run}
 use Rattle.text.specs.Faults.{unwritten}
 use Rattle.text.proofs.Options.{no-some, went-on, was-new, one-value}
 use Rattle.text.proofs.Backward.{either}
-use Rattle.text.proofs.Words.{both-so, true-so, same-bytes, other-bytes}
-use Rattle.text.proofs.Extended.{Writ, wider, all-around, All-writ}
+use Rattle.text.proofs.Words.{both-so, true-so, other-bytes}
+use Rattle.text.proofs.Extended.{Writ, wider, all-around}
 
 -- All names that are declared can be written.
 abbrev pub clean : List Declaration → Bool

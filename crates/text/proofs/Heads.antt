@@ -1,22 +1,21 @@
 -- The header's tokens, forward and backward: the reading of a part takes its names in their order, and it ends well only on such a part.
 -- Assumes nothing.
 use mathlib.Core.Path.{_≡_, refl, sym, ap, ap₂, _∙_, subst, subst₂}
-use mathlib.Core.Bool.{Bool, true, false, cond, false≢true}
-use mathlib.Core.List.{List, [], _∷_, _++_}
+use mathlib.Core.Bool.{Bool, true, false, cond}
+use mathlib.Core.List.{List, [], _∷_}
 use mathlib.Core.Option.{Option, none, some}
-use Prim.Native.Nat.{ℕ, zero, suc, _+_, _-_, _≤_}
-use native.Mathlib.Nat.{add-zero}
+use Prim.Native.Nat.{ℕ, suc, _+_}
 use native.Mathlib.Omega.{arith}
 use lib.Dec.{T, eqb, eqb→eq}
 use lib.ListN.{length}
 use Rattle.text.specs.Tokens.{Token, sign, name, number, no-token, VERSION, INPUT, OUTPUT, COMMA, SEMICOLON}
-use Rattle.text.specs.Grammar.{Arms, Text, arms, names, part, spelt}
-use Rattle.text.specs.Meaning.{Declaration, signal-named, declared, go-on, if-new, Part, Blocked, declaring, arms-means, text-means}
-use Rattle.text.specs.Machine.{at-the-end, level-at, Mode, due, State, state, step, run, complete}
+use Rattle.text.specs.Grammar.{Arms, arms, names, part}
+use Rattle.text.specs.Meaning.{Declaration, signal-named, declared, go-on, if-new, Part, Blocked, declaring, arms-means}
+use Rattle.text.specs.Machine.{State, step, run, complete}
 use Rattle.text.specs.Reader.{Due, version-due, number-due, version-closed, inputs-due, outputs-due, input-name, input-named, output-name, output-named, body-due, Heading, heading, Reader}
 use Rattle.text.specs.Reader.{in-header, in-body, body-start, body-step, heading-sign, heading-name, heading-number, heading-step, read-step, read-all, begun-with, finish}
 use Rattle.text.proofs.Options.{no-some, went-on, was-new, one-value}
-use Rattle.text.proofs.OneReading.{first-sign, opens, arms-open}
+use Rattle.text.proofs.OneReading.{first-sign, opens}
 use Rattle.text.proofs.Backward.{either, spells-some}
 
 -- In the statement the reader is the machine.

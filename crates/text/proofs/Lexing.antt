@@ -3,21 +3,20 @@
 use mathlib.Core.Path.{_≡_, refl, sym, ap, ap₂, _∙_, subst}
 use mathlib.Core.Bool.{Bool, true, false, cond, _&&_, _||_}
 use mathlib.Core.List.{List, [], _∷_, _++_}
-use mathlib.Core.Option.{Option, none, some}
 use Prim.Native.Nat.{ℕ, zero, suc, _+_, _*_, _≤_, _<_}
 use native.Mathlib.Omega.{arith}
 use borrow.Author.Tests.{ne-eqb}
-use lib.Dec.{T, eqb, leb, leb→le}
+use lib.Dec.{T, leb, leb→le}
 use lib.ListN.{length, getD, drop, replicate, length-append}
 use lib.Seq.{drop-append-seam}
-use mathlib.Core.Logic.{_⊎_, inl, inr, ⊎-elim}
+use mathlib.Core.Logic.{⊎-elim}
 use Rattle.sets.proofs.Members.{or-out}
 use Rattle.text.specs.Tokens.{Token, sign, name, number, is-space, is-digit, is-letter, in-word, keywords, same, keyword-from}
-use Rattle.text.specs.Tokens.{word-or, word-token, word-of, mark-token, mark-size, Placed, placed, tokens-of, tokens}
+use Rattle.text.specs.Tokens.{word-or, word-token, word-of, Placed, placed, tokens-of, tokens}
 use Rattle.text.specs.Tokens.{NOTHING, PAUSE, EMIT, PRESENT, THEN, ELSE, END, SUSPEND, WHEN, LOOP, TRAP, IN, EXIT, SIGNAL, VERSION, INPUT, OUTPUT, COMMA, SEMICOLON, BRACKET, CLOSED, BESIDE}
 use Rattle.text.specs.Grammar.{Arms, only, _beside_, Chain, alone, _before_, Basic, Nothing, Pause, Emit, Exit, Present, Suspend, Loop, Trap, Signal, Bracket, Text, arms, chain, basic}
 use Rattle.text.specs.Grammar.{names, part, spelt}
-use Rattle.text.specs.Shown.{decimal-in, decimal, line, word, blank, arms-text, chain-text, basic-text, names-text, part-text, text-bytes}
+use Rattle.text.specs.Shown.{decimal, line, word, blank, arms-text, chain-text, basic-text, names-text, part-text, text-bytes}
 use Rattle.text.proofs.Words.{both-so, true-so, wordy, Nameable, decimal-wordy, decimal-some, version-token}
 
 -- The bytes have these tokens, wherever they stand.

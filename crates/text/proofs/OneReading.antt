@@ -1,13 +1,13 @@
 -- Every text of the grammar has exactly one reading: two texts with the same tokens are the same. A reader gives every tree back from
 -- its tokens with what follows them, where that does not go on with it; so the tokens determine the tree. Assumes nothing.
 use mathlib.Core.Path.{_≡_, refl, sym, ap, ap₂, _∙_, subst}
-use mathlib.Core.Bool.{Bool, true, false, cond, _||_}
+use mathlib.Core.Bool.{Bool, false, cond, _||_}
 use mathlib.Core.List.{List, [], _∷_}
 use mathlib.Core.Option.{Option, none, some}
 use Prim.Native.Nat.{ℕ, zero, suc, _+_, _≤_}
 use native.Mathlib.Omega.{arith}
 use lib.Dec.{T, eqb, leb}
-use Rattle.text.specs.Tokens.{Token, sign, name, number, no-token, NOTHING, PAUSE, EMIT, PRESENT, THEN, ELSE, END, SUSPEND, WHEN, LOOP, TRAP, IN, EXIT, SIGNAL, VERSION, INPUT, OUTPUT}
+use Rattle.text.specs.Tokens.{Token, sign, name, number, no-token, NOTHING, PAUSE, EMIT, PRESENT, ELSE, END, SUSPEND, WHEN, LOOP, TRAP, EXIT, SIGNAL, INPUT, OUTPUT}
 use Rattle.text.specs.Tokens.{COMMA, SEMICOLON, BRACKET, CLOSED, BESIDE}
 use Rattle.text.specs.Grammar.{Arms, only, _beside_, Chain, alone, _before_, Basic, Nothing, Pause, Emit, Exit, Present, Suspend, Loop, Trap, Signal, Bracket}
 use Rattle.text.specs.Grammar.{Text, arms, chain, basic, names, part, spelt}

@@ -1,6 +1,6 @@
 -- Options taken apart: what went on had something to go on with. Assumes nothing.
 use mathlib.Core.Path.{_≡_, refl}
-use mathlib.Core.Bool.{Bool, true, false, cond}
+use mathlib.Core.Bool.{Bool, true, false}
 use mathlib.Core.Option.{Option, none, some, Option·some-injective, Option·some-ne-none}
 use mathlib.Core.Path.{sym}
 use Rattle.text.specs.Meaning.{go-on, if-new}

@@ -5,14 +5,14 @@ use mathlib.Core.Bool.{Bool, true, false, cond}
 use mathlib.Core.Logic.{_⊎_, inl, inr, ⊎-elim}
 use mathlib.Core.List.{List, [], _∷_, _++_}
 use mathlib.Core.Option.{Option, none, some}
-use Prim.Native.Nat.{ℕ, suc, _+_, _≤_, _<_}
+use Prim.Native.Nat.{ℕ, _+_, _≤_, _<_}
 use native.Mathlib.Omega.{arith}
 use borrow.Author.Tests.{lt-ltb}
 use lib.Dec.{T, ltb, ltb→lt}
 use lib.ListN.{length, length-append}
-use Rattle.block.specs.Format.{Reading, good, turned-down, reading}
+use Rattle.block.specs.Format.{Reading, turned-down, reading}
 use Rattle.writing.specs.Written.{header-bytes}
-use Rattle.writing.specs.Answers.{Writing, writes, refuses}
+use Rattle.writing.specs.Answers.{writes, refuses}
 use Rattle.text.specs.Tokens.{Token, sign, name, number, no-token, VERSION, INPUT, OUTPUT, COMMA, SEMICOLON, Placed, tokens-of, tokens-placed, tokens}
 use Rattle.text.specs.Grammar.{Text, spelt}
 use Rattle.text.specs.Meaning.{declared, go-on, Blocked, text-means}
@@ -23,7 +23,7 @@ use Rattle.text.specs.Reader.{body-start, body-step, heading-sign, headi
 use Rattle.text.specs.Reader.{Outcome, stands, outside, over, at-end, unless-refused, read-placed, checked, block-of, owed, text-read}
 use Rattle.text.proofs.Options.{no-some, went-on, was-new, one-value}
 use Rattle.text.proofs.Backward.{either}
-use Rattle.text.proofs.Depth.{Sparse, no-gap, Spaced, Grown, step-grown, many-records}
+use Rattle.text.proofs.Depth.{Sparse, no-gap, Spaced, step-grown, many-records}
 use Rattle.text.proofs.Exactly.{reads-text, only-texts}
 
 -- How many bytes of records a reader has, and that each open place has its own.

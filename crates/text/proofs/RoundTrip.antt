@@ -2,35 +2,35 @@
 -- block's header and records, and these are the block. Assumes nothing.
 use mathlib.Core.Path.{_≡_, refl, sym, ap, ap₂, _∙_, subst}
 use mathlib.Core.Bool.{Bool, true, false, cond, _||_}
-use mathlib.Core.Logic.{_⊎_, inl, inr, ⊎-elim}
+use mathlib.Core.Logic.{⊎-elim}
 use mathlib.Core.List.{List, [], _∷_, _++_, map}
-use mathlib.Core.Option.{Option, none, some}
-use Prim.Native.Nat.{ℕ, zero, suc, _+_, _-_, _≤_, _<_, max}
+use mathlib.Core.Option.{some}
+use Prim.Native.Nat.{ℕ, zero, suc, _+_, _-_, _≤_, _<_}
 use native.Mathlib.Nat.{add-zero, zero-add}
 use native.Mathlib.Omega.{arith}
 use borrow.Author.Tests.{le-ltb}
 use lib.Dec.{T, ltb, ltb→lt, eqb, eqb→eq, eqb-refl}
-use lib.ListN.{length, length-map}
-use Rattle.sets.specs.Numbers.{Numbers, empty}
+use lib.ListN.{length}
+use Rattle.sets.specs.Numbers.{empty}
 use Rattle.sets.proofs.Members.{or-out}
 use Rattle.rules.specs.Statements.{depth, Stmt, nothing, pause, emit, present?_then_else_, suspend_on_, _⨾_, loop, _parallel_, trap, exit, local, Trapped, from}
 use Rattle.block.specs.Table.{Small}
-use Rattle.block.specs.Format.{Header, Good, good, turned-down, reading, preorder}
+use Rattle.block.specs.Format.{Header, Good, good, reading, preorder}
 use Rattle.block.specs.Good.{nested-traps, locals}
-use Rattle.block.proofs.GoodReadings.{Sound, sound}
+use Rattle.block.proofs.GoodReadings.{sound}
 use Rattle.records.specs.Numerals.{Bytes}
 use Rattle.writing.specs.Written.{header-bytes, records, block-bytes, Writable}
-use Rattle.writing.specs.Answers.{Writing, writes, refuses}
+use Rattle.writing.specs.Answers.{writes, refuses}
 use Rattle.writing.proofs.Same.{same-bytes, good-writable}
 use Rattle.text.specs.Tokens.{same, tokens}
 use Rattle.text.specs.Grammar.{Text, spelt}
-use Rattle.text.specs.Meaning.{Declaration, signal-named, signal-in, depth-in, declared, go-on, if-new, Part, Blocked, declaring, arms-means, text-means}
+use Rattle.text.specs.Meaning.{Declaration, signal-named, signal-in, declared, if-new, Part, declaring, arms-means, text-means}
 use Rattle.text.specs.Reader.{checked, block-of, text-read}
-use Rattle.text.specs.Shown.{signal-word, trap-word, Forms, forms, shown, text-bytes}
-use Rattle.text.proofs.ShownMeans.{Naming, Around, same-self, shown-means}
-use Rattle.text.proofs.Words.{Nameable, signal-nameable, trap-nameable, names-apart}
+use Rattle.text.specs.Shown.{signal-word, trap-word, forms, shown, text-bytes}
+use Rattle.text.proofs.ShownMeans.{Around, same-self, shown-means}
+use Rattle.text.proofs.Words.{signal-nameable, trap-nameable, names-apart}
 use Rattle.text.proofs.Lexing.{arms-named, chain-named, basic-named, All-named, text-lex}
-use Rattle.text.proofs.Exactly.{blocked, meaning-of}
+use Rattle.text.proofs.Exactly.{meaning-of}
 use Rattle.text.proofs.Places.{text-gets}
 
 module _ (i o : ℕ) where

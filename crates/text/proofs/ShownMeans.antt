@@ -2,7 +2,7 @@
 -- statement, with what is declared around it. Assumes nothing.
 use mathlib.Core.Path.{_≡_, refl, sym, ap, ap₂, _∙_, subst}
 use mathlib.Core.Bool.{Bool, true, false, cond, _&&_, _||_}
-use mathlib.Core.Logic.{_⊎_, inl, inr, ⊎-elim}
+use mathlib.Core.Logic.{⊎-elim}
 use mathlib.Core.List.{List, [], _∷_, _++_, append-nil}
 use mathlib.Core.Option.{Option, none, some}
 use Prim.Native.Nat.{ℕ, zero, suc, _+_, _-_, _≤_, _<_}
@@ -17,13 +17,11 @@ use Rattle.block.specs.Table.{kind-of, operand-of}
 use Rattle.block.specs.Format.{preorder, shape}
 use Rattle.block.specs.Good.{Scoped, locals, Next}
 use Rattle.block.proofs.Nesting.{rows-of, row-tail}
-use Rattle.records.specs.Numerals.{in-bytes}
 use Rattle.writing.specs.Written.{record-bytes, shaped-bytes, records}
 use Rattle.writing.proofs.Records.{records-append}
 use Rattle.text.specs.Tokens.{same}
-use Rattle.text.specs.Grammar.{Arms, Chain, Basic}
-use Rattle.text.specs.Meaning.{Declaration, signal-named, trap-named, signal-in, depth-in, declared, go-on, if-new, passed-over, Part, above, joined, arms-means, chain-means, basic-means}
-use Rattle.text.specs.Shown.{Forms, forms}
+use Rattle.text.specs.Meaning.{Declaration, signal-named, trap-named, signal-in, depth-in, declared, go-on, if-new, Part, above, joined, arms-means, chain-means, basic-means}
+use Rattle.text.specs.Shown.{forms}
 
 pub same-self : (x : List ℕ) → same x x ≡ true
 unfolding same

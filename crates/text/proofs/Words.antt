@@ -2,18 +2,17 @@
 -- are kept apart. Assumes nothing.
 use mathlib.Core.Path.{_≡_, refl, sym, ap, ap₂, _∙_, subst}
 use mathlib.Core.Bool.{Bool, true, false, cond, not, _&&_, _||_}
-use mathlib.Core.Logic.{_⊎_, inl, inr, ⊎-elim}
-use mathlib.Core.List.{List, [], _∷_, _++_}
+use mathlib.Core.List.{List, [], _∷_}
 use mathlib.Core.Option.{Option, none, some}
 use Prim.Native.Nat.{ℕ, zero, suc, _+_, _-_, _*_, _/_, _%_, _^_, _≤_, _<_}
 use native.Mathlib.Nat.{pow-suc}
 use native.Mathlib.Omega.{arith}
-use borrow.Author.Tests.{le-leb, ne-eqb, lt-ltb, le-ltb}
+use borrow.Author.Tests.{le-leb, ne-eqb, lt-ltb}
 use lib.Dec.{T, eqb, eqb→eq, ltb, ltb→lt, leb, leb→le, nltb→le}
 use lib.ListN.{length, getD}
-use Rattle.sets.proofs.Members.{or-out, or-left, or-right}
-use Rattle.text.specs.Tokens.{Token, sign, name, number, no-token, is-space, is-digit, is-letter, in-word, keywords}
-use Rattle.text.specs.Tokens.{same, keyword-from, all-digits, value-from, is-name, is-number, no-keyword, word-or, word-token}
+use Rattle.sets.proofs.Members.{or-left, or-right}
+use Rattle.text.specs.Tokens.{name, number, no-token, is-digit, is-letter, in-word, keywords}
+use Rattle.text.specs.Tokens.{same, keyword-from, all-digits, value-from, is-number, no-keyword, word-or, word-token}
 use Rattle.text.specs.Shown.{decimal-in, decimal, letter, signal-word, trap-word}
 use Rattle.text.proofs.ShownMeans.{Naming}
 

@@ -2,7 +2,7 @@
 -- order. Assumes nothing.
 use mathlib.Core.Path.{_≡_}
 use mathlib.Core.List.{List, [], _∷_, _++_}
-use mathlib.Core.Option.{Option, some}
+use mathlib.Core.Option.{some}
 use Prim.Native.Nat.{ℕ}
 use Rattle.text.specs.Tokens.{Token, Placed, tokens-of}
 use Rattle.text.specs.Grammar.{Text, spelt}

@@ -5,7 +5,7 @@ use mathlib.Core.Option.{Option, none, some}
 use Prim.Native.Nat.{ℕ, suc, _+_, _-_}
 use lib.ListN.{length}
 use Rattle.block.specs.Format.{Header}
-use Rattle.writing.specs.Written.{record-bytes, header-bytes}
+use Rattle.writing.specs.Written.{record-bytes}
 use Rattle.text.specs.Tokens.{same}
 use Rattle.text.specs.Grammar.{Arms, only, _beside_, Chain, alone, _before_, Basic, Nothing, Pause, Emit, Exit, Present, Suspend, Loop, Trap, Signal, Bracket, Text}
 

@@ -6,12 +6,12 @@ use mathlib.Core.Option.{Option, none, some}
 use Prim.Native.Nat.{ℕ, suc, _+_, _-_}
 use lib.Dec.{eqb, ltb}
 use lib.ListN.{length}
-use Rattle.block.specs.Format.{Header, Reading, good, turned-down, reading}
+use Rattle.block.specs.Format.{Reading, good, turned-down, reading}
 use Rattle.writing.specs.Written.{header-bytes}
 use Rattle.writing.specs.Answers.{Writing, writes, refuses}
 use Rattle.text.specs.Tokens.{Token, sign, name, number, no-token, VERSION, INPUT, OUTPUT, COMMA, SEMICOLON, Placed, tokens-placed}
 use Rattle.text.specs.Meaning.{Declaration, signal-named, declared, go-on, if-new, Blocked}
-use Rattle.text.specs.Machine.{at-the-end, Level, level-at, Mode, due, State, state, step, complete}
+use Rattle.text.specs.Machine.{at-the-end, Level, level-at, due, State, state, step, complete}
 
 -- What may stand next in the header: `version`, its number, its semicolon; `input`, `output` or the statement; `output` or the
 -- statement; a name; a comma or a semicolon behind it; and then the statement.
