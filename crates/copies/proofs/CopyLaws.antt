@@ -28,7 +28,8 @@ use Rattle.writing.proofs.Back.{length-records}
 use Rattle.likeness.specs.Likeness.{naming}
 use Rattle.doubled.specs.Copies.{copies, renamed}
 use Rattle.copies.specs.declared.copying.Spot.{Spot}
-use Rattle.copies.specs.Nodes.{Lies, NoChild, a-nothing, a-pause, an-emit, an-exit, OneChild, a-suspend, a-trap, a-local, TwoChildren, a-present, a-sequence, a-parallel, Has-one, Has-body, Has-two}
+use Rattle.copies.specs.Nodes.{Lies, NoChild, a-nothing, a-pause, an-emit, an-exit, OneChild, a-suspend}
+use Rattle.copies.specs.Nodes.{a-trap, a-local, TwoChildren, a-present, a-sequence, a-parallel, Has-one, Has-body, Has-two}
 use Rattle.copies.specs.Copying.{names-of, new-operand, names-in, Writes, Copied}
 use Rattle.copies.proofs.NodeLaws.{its-kind}
 

@@ -13,7 +13,8 @@ use Rattle.rules.specs.Statements.{Stmt, nothing, pause, emit, present?_then_el
 use Rattle.block.specs.Table.{Table, kind-of, statements, Has, Small}
 use Rattle.block.specs.Told.{table-of}
 use Rattle.block.proofs.Rows.{has-row, some-statement}
-use Rattle.copies.specs.Nodes.{Lies, Somewhere, NoChild, a-nothing, a-pause, an-emit, an-exit, OneChild, a-suspend, a-trap, a-local, TwoChildren, a-present, a-sequence, a-parallel, Has-one, Has-body, Has-two, Parts}
+use Rattle.copies.specs.Nodes.{Lies, Somewhere, NoChild, a-nothing, a-pause, an-emit, an-exit, OneChild, a-suspend}
+use Rattle.copies.specs.Nodes.{a-trap, a-local, TwoChildren, a-present, a-sequence, a-parallel, Has-one, Has-body, Has-two, Parts}
 use Rattle.copies.specs.declared.nodes.Node.{Node}
 use Rattle.copies.specs.declared.nodes.Node.the-variants.{Leaf, Over, Twice, Joins}
 

@@ -42,7 +42,8 @@ by-cap P n f g = go (decLe n 4000)
 capped-plus : (m n : ℕ) → capped (capped m + capped n) ≡ capped (m + n)
 capped-plus m n =
     by-cap (λ (x : ℕ). capped (x + capped n) ≡ capped (m + n)) m
-    (λ l. by-cap (λ (y : ℕ). capped (m + y) ≡ capped (m + n)) n (λ k. refl) (λ k. by-cap (λ (z : ℕ). z ≡ capped (m + n)) (m + 4000) (λ h. whole m n k (omega arith)) (λ h. sym (capped-large (m + n) (omega arith)))))
+    (λ l. by-cap (λ (y : ℕ). capped (m + y) ≡ capped (m + n)) n (λ k. refl)
+    (λ k. by-cap (λ (z : ℕ). z ≡ capped (m + n)) (m + 4000) (λ h. whole m n k (omega arith)) (λ h. sym (capped-large (m + n) (omega arith)))))
     (λ l. by-cap (λ (y : ℕ). capped (4000 + y) ≡ capped (m + n)) n
     (λ k. by-cap (λ (z : ℕ). z ≡ capped (m + n)) (4000 + n) (λ h. whole-left m n l (omega arith)) (λ h. sym (capped-large (m + n) (omega arith))))
     (λ k. capped-large 8000 (omega arith) ∙ sym (capped-large (m + n) (omega arith))))
@@ -156,7 +157,8 @@ module _ {p : Stmt} {m : Size} (f : Measured p m) where
   loop-sized = record {
     counts = λ ρ n j.
         onto-of (renamed ρ n (copies j (loop p))) (few (own-size 22) (omega arith) (omega arith) (omega arith) (omega arith) (omega arith))
-        (side-of (renamed ρ n (copies j p)) (renamed ρ (n + length (locals (copies j p))) (copies (j + length (pauses (copies j p))) p)) (f .counts ρ n j) (f .counts ρ (n + length (locals (copies j p))) (j + length (pauses (copies j p)))))
+        (side-of (renamed ρ n (copies j p)) (renamed ρ (n + length (locals (copies j p))) (copies (j + length (pauses (copies j p))) p)) (f .counts ρ n j)
+        (f .counts ρ (n + length (locals (copies j p))) (j + length (pauses (copies j p)))))
         (omega arith) (omega arith) (omega arith) (omega arith) (omega arith);
   }
 
@@ -172,19 +174,22 @@ module _ {p q : Stmt} {m o : Size} (f : Measured p m) (g : Measured q o) where
   joins-sized (a-present {s = s}) = record {
     counts = λ ρ n j.
         onto-of (renamed ρ n (copies j (present? s then p else q))) (few (own-size 19) (omega arith) (omega arith) (omega arith) (omega arith) (omega arith))
-        (side-of (renamed ρ n (copies j p)) (renamed ρ (n + length (locals (copies j p))) (copies (j + length (pauses (copies j p))) q)) (f .counts ρ n j) (g .counts ρ (n + length (locals (copies j p))) (j + length (pauses (copies j p)))))
+        (side-of (renamed ρ n (copies j p)) (renamed ρ (n + length (locals (copies j p))) (copies (j + length (pauses (copies j p))) q)) (f .counts ρ n j)
+        (g .counts ρ (n + length (locals (copies j p))) (j + length (pauses (copies j p)))))
         (omega arith) (omega arith) (omega arith) refl refl;
   }
   joins-sized a-sequence = record {
     counts = λ ρ n j.
         onto-of (renamed ρ n (copies j (p ⨾ q))) (few (own-size 21) (omega arith) (omega arith) (omega arith) (omega arith) (omega arith))
-        (side-of (renamed ρ n (copies j p)) (renamed ρ (n + length (locals (copies j p))) (copies (j + length (pauses (copies j p))) q)) (f .counts ρ n j) (g .counts ρ (n + length (locals (copies j p))) (j + length (pauses (copies j p)))))
+        (side-of (renamed ρ n (copies j p)) (renamed ρ (n + length (locals (copies j p))) (copies (j + length (pauses (copies j p))) q)) (f .counts ρ n j)
+        (g .counts ρ (n + length (locals (copies j p))) (j + length (pauses (copies j p)))))
         (omega arith) (omega arith) (omega arith) refl refl;
   }
   joins-sized a-parallel = record {
     counts = λ ρ n j.
         onto-of (renamed ρ n (copies j (p parallel q))) (few (own-size 23) (omega arith) (omega arith) (omega arith) (omega arith) (omega arith))
-        (side-of (renamed ρ n (copies j p)) (renamed ρ (n + length (locals (copies j p))) (copies (j + length (pauses (copies j p))) q)) (f .counts ρ n j) (g .counts ρ (n + length (locals (copies j p))) (j + length (pauses (copies j p)))))
+        (side-of (renamed ρ n (copies j p)) (renamed ρ (n + length (locals (copies j p))) (copies (j + length (pauses (copies j p))) q)) (f .counts ρ n j)
+        (g .counts ρ (n + length (locals (copies j p))) (j + length (pauses (copies j p)))))
         (omega arith) (omega arith) (omega arith) refl refl;
   }
 

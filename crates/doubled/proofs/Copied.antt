@@ -62,7 +62,8 @@ copy-into (of-suspend d f) m t = copy-into f m t
 copy-into {o} (of-sequence {p = p} {q = q} {p′ = p′} {q′ = q′} f g) m t = two-into o (pauses p) (pauses q) (pauses p′) (pauses q′) (λ k i. copy-into f k i) (λ k i. copy-into g k i) m t
 copy-into {o} (of-loop {p = p} {p₁ = p₁} {p₂ = p₂} f g) m t = go (listed-either (pauses p₁) (pauses p₂) m t) (λ s. copy-into f m s) (λ s. copy-into g m s)
   where
-    go : T (listed (pauses p₁) m) ⊎ T (listed (pauses p₂) m) → (T (listed (pauses p₁) m) → T (listed (pauses p) (o m))) → (T (listed (pauses p₂) m) → T (listed (pauses p) (o m))) → T (listed (pauses p) (o m))
+    go : T (listed (pauses p₁) m) ⊎ T (listed (pauses p₂) m) → (T (listed (pauses p₁) m) → T (listed (pauses p) (o m))) → (T (listed (pauses p₂) m) → T (listed (pauses p) (o m)))
+        → T (listed (pauses p) (o m))
     go (inl s) x y = x s
     go (inr s) x y = y s
 copy-into {o} (of-parallel {p = p} {q = q} {p′ = p′} {q′ = q′} f g) m t = two-into o (pauses p) (pauses q) (pauses p′) (pauses q′) (λ k i. copy-into f k i) (λ k i. copy-into g k i) m t

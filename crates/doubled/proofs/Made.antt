@@ -170,11 +170,14 @@ unfolding renamed locals
 renamed-locals ρ n nothing = refl
 renamed-locals ρ n (pause k) = refl
 renamed-locals ρ n (emit s) = refl
-renamed-locals ρ n (present? s then p else q) = two-counted (locals (renamed ρ n p)) (locals (renamed ρ (n + length (locals p)) q)) (locals p) (locals q) (renamed-locals ρ n p) (renamed-locals ρ (n + length (locals p)) q)
+renamed-locals ρ n (present? s then p else q) =
+    two-counted (locals (renamed ρ n p)) (locals (renamed ρ (n + length (locals p)) q)) (locals p) (locals q) (renamed-locals ρ n p) (renamed-locals ρ (n + length (locals p)) q)
 renamed-locals ρ n (suspend p on s) = renamed-locals ρ n p
-renamed-locals ρ n (p ⨾ q) = two-counted (locals (renamed ρ n p)) (locals (renamed ρ (n + length (locals p)) q)) (locals p) (locals q) (renamed-locals ρ n p) (renamed-locals ρ (n + length (locals p)) q)
+renamed-locals ρ n (p ⨾ q) =
+    two-counted (locals (renamed ρ n p)) (locals (renamed ρ (n + length (locals p)) q)) (locals p) (locals q) (renamed-locals ρ n p) (renamed-locals ρ (n + length (locals p)) q)
 renamed-locals ρ n (loop p) = renamed-locals ρ n p
-renamed-locals ρ n (p parallel q) = two-counted (locals (renamed ρ n p)) (locals (renamed ρ (n + length (locals p)) q)) (locals p) (locals q) (renamed-locals ρ n p) (renamed-locals ρ (n + length (locals p)) q)
+renamed-locals ρ n (p parallel q) =
+    two-counted (locals (renamed ρ n p)) (locals (renamed ρ (n + length (locals p)) q)) (locals p) (locals q) (renamed-locals ρ n p) (renamed-locals ρ (n + length (locals p)) q)
 renamed-locals ρ n (trap p) = renamed-locals ρ n p
 renamed-locals ρ n (exit d) = refl
 renamed-locals ρ n (local s p) = ap suc (renamed-locals (naming ρ s n) (n + 1) p)

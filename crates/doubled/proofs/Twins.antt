@@ -18,11 +18,14 @@ use Rattle.rules.specs.States.{is-parallel, compatible}
 use Rattle.theorems.specs.Checked.{itself}
 use Rattle.theorems.proofs.LoopCodes.{loop-body-never-zero}
 use Rattle.theorems.proofs.KeepsSome.{any-out, any-in}
-use Rattle.theorems.proofs.Compatible.{Agrees, TwoParts, Halves, present-halves, sequence-halves, parallel-halves, part-suspend, part-loop, part-trap, part-local, numbered-part, agrees-one, agrees-other, agrees-part, lowest-across, in-one, in-other}
+use Rattle.theorems.proofs.Compatible.{Agrees, TwoParts, Halves, present-halves, sequence-halves, parallel-halves, part-suspend, part-loop}
+use Rattle.theorems.proofs.Compatible.{part-trap, part-local, numbered-part, agrees-one, agrees-other, agrees-part, lowest-across, in-one, in-other}
 use Rattle.likeness.specs.Likeness.{Distinct, Like, Image}
-use Rattle.likeness.proofs.Forms.{like-done, like-stay, like-say, like-leave, like-test, like-catch, like-beside, like-chain, like-alike, like-scope, naming-apart, GivesNoZero, first-alone, ends-not, like-never}
+use Rattle.likeness.proofs.Forms.{like-done, like-stay, like-say, like-leave, like-test, like-catch, like-beside}
+use Rattle.likeness.proofs.Forms.{like-chain, like-alike, like-scope, naming-apart, GivesNoZero, first-alone, ends-not, like-never}
 use Rattle.likeness.proofs.Images.{image-closed, image-single}
-use Rattle.doubled.proofs.Copied.{Copy, of-nothing, of-pause, of-emit, of-present, of-suspend, of-sequence, of-loop, of-parallel, of-trap, of-exit, of-local, copy-into, listed-one, listed-other, listed-either}
+use Rattle.doubled.proofs.Copied.{Copy, of-nothing, of-pause, of-emit, of-present, of-suspend, of-sequence, of-loop}
+use Rattle.doubled.proofs.Copied.{of-parallel, of-trap, of-exit, of-local, copy-into, listed-one, listed-other, listed-either}
 
 body-gives-no-zero : (p : Stmt) → T (loops-pass (loop p)) → GivesNoZero (started p)
 body-gives-no-zero p h = loop-body-never-zero p (loop p) itself h .not-given

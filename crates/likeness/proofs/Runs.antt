@@ -35,7 +35,8 @@ itself s = s
 abbrev pub with-body : Block → Stmt → Block
 with-body b t = record { inputs = b .inputs; outputs = b .outputs; body = t }
 
-marks-same : (m c m′ c′ : Given) (k : ℕ) (vs : List Status) → ((i : ℕ) → k ≤ i → i < k + length vs → (m′ .signals i ≡ m .signals i) × (c′ .signals i ≡ c .signals i)) → marks m c k vs ≡ marks m′ c′ k vs
+marks-same : (m c m′ c′ : Given) (k : ℕ) (vs : List Status) → ((i : ℕ) → k ≤ i → i < k + length vs → (m′ .signals i ≡ m .signals i) × (c′ .signals i ≡ c .signals i))
+    → marks m c k vs ≡ marks m′ c′ k vs
 unfolding marks
 marks-same m c m′ c′ k [] f = refl
 marks-same m c m′ c′ k (v ∷ vs) f =

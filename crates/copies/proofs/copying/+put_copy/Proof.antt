@@ -9,7 +9,8 @@ use lib.Seq.{length-sets}
 use Rattle.rules.specs.Statements.{Stmt}
 use Rattle.copies.specs.Copying.{names-of}
 use Rattle.copies.proofs.NodeLaws.{in-table, as-leaf, as-over, as-twice, as-joins, child-called}
-use Rattle.copies.proofs.CopyLaws.{behind, begun-of, leaf-copied, over-copied, joins-copied, loop-copied, record-room, over-writes, first-writes, second-writes, sequence-room, once-writes, again-writes, local-small}
+use Rattle.copies.proofs.CopyLaws.{behind, begun-of, leaf-copied, over-copied, joins-copied, loop-copied, record-room}
+use Rattle.copies.proofs.CopyLaws.{over-writes, first-writes, second-writes, sequence-room, once-writes, again-writes, local-small}
 use Prim.Native.Nat.{ℕ, _-_, _<_}
 use borrow.Fn.Kinds.{In}
 use borrow.Fn.PlainCycle.{Measures, is, falls, and}
@@ -34,7 +35,20 @@ abbrev put-copy-below : ℕ → In 4 put-copy-kinds.ps
 put-copy-below t = and 4 put-copy-kinds.ps (falls 4 put-copy-kinds.ps _<_ μ-put-copy t) put-copy.Pre
 
 abbrev put-copy-claims : ℕ → put-copy-lts.Claims
-put-copy-claims t = (new-operand-reads.Asked, new-operand-reads.Learnt, put-record-reads.Asked, put-record-reads.Learnt, node-at-reads.Asked, node-at-reads.Learnt, names-inside-reads.Asked, names-inside-reads.Learnt, next-inside-reads.Asked, next-inside-reads.Learnt, put-copy-below t, put-copy.Post)
+put-copy-claims t = (
+  new-operand-reads.Asked,
+  new-operand-reads.Learnt,
+  put-record-reads.Asked,
+  put-record-reads.Learnt,
+  node-at-reads.Asked,
+  node-at-reads.Learnt,
+  names-inside-reads.Asked,
+  names-inside-reads.Learnt,
+  next-inside-reads.Asked,
+  next-inside-reads.Learnt,
+  put-copy-below t,
+  put-copy.Post,
+)
 
 put-copy-mul-kind : (t : ℕ) → put-copy-lts.Need-mul-kind (put-copy-claims t) (put-copy-at t) put-copy.Post
 put-copy-mul-kind t c = let w = in-table (c .before .pre .1 .lies) in omega arith
@@ -83,8 +97,11 @@ put-copy-put-copy-requires t c κs =
     let record-put = known .before .before .before in
     let start = record-put .before .before .before .before .before .before in
     let w = start .pre .1 in
-    let h = as-over (known .node-at .ensures (now (start .args .operands)) (w .tree) (w .lies)) (here .node .given .1) in
-    (child-called (start .pre .0) (h .behind) (h .lies) .0, over-writes w refl (record-put .put-record .ensures .0) (simp length-sets at (ap length (record-put .put-record .ensures .1))) (c .before .next-inside .ensures) h)
+    let h = as-over (known .node-at .ensures (now (start .args .operands)) (w .tree) (w .lies)) (here .node .given .1) in (
+      child-called (start .pre .0) (h .behind) (h .lies) .0,
+      over-writes w refl (record-put .put-record .ensures .0)
+          (simp length-sets at (ap length (record-put .put-record .ensures .1))) (c .before .next-inside .ensures) h,
+    )
 
 put-copy-enum-known-node-2 : (t : ℕ) → put-copy-lts.Need-enum-known-node-2 (put-copy-claims t) (put-copy-at t) put-copy.Post
 put-copy-enum-known-node-2 t c = c .match .keys3
@@ -122,7 +139,8 @@ put-copy-put-copy-requires-3 t c κs =
     let seq = first .before .before .before .before in
     let h = as-twice (known .node-at .ensures (now (start .args .operands)) (w .tree) (w .lies)) (here .node2 .given .1) in
     let d = first .put-copy2 .ensures (h .child) 0 (h .lies) in
-    let same = (simp length-sets at (ap length (d .stored))) ∙ (simp length-sets at (ap length (seq .put-record2 .ensures .1))) ∙ (simp length-sets at (ap length (record-put .put-record .ensures .1))) in
+    let same = (simp length-sets at (ap length (d .stored))) ∙ (simp length-sets at (ap length (seq .put-record2 .ensures .1))) ∙
+    (simp length-sets at (ap length (record-put .put-record .ensures .1))) in
     (child-called (start .pre .0) (h .behind) (h .lies) .0, again-writes w refl (record-put .put-record .ensures .0) same (seq .put-record2 .ensures .0) h d)
 
 put-copy-enum-known-node-3 : (t : ℕ) → put-copy-lts.Need-enum-known-node-3 (put-copy-claims t) (put-copy-at t) put-copy.Post
@@ -135,8 +153,11 @@ put-copy-put-copy-requires-4 t c κs =
     let record-put = known .before .before .before in
     let start = record-put .before .before .before .before .before .before in
     let w = start .pre .1 in
-    let h = as-joins (known .node-at .ensures (now (start .args .operands)) (w .tree) (w .lies)) (here .node3 .given .1) in
-    (child-called (start .pre .0) (h .first-behind) (h .first-lies) .0, first-writes w refl (record-put .put-record .ensures .0) (simp length-sets at (ap length (record-put .put-record .ensures .1))) h)
+    let h = as-joins (known .node-at .ensures (now (start .args .operands)) (w .tree) (w .lies)) (here .node3 .given .1) in (
+      child-called (start .pre .0) (h .first-behind) (h .first-lies) .0,
+      first-writes w refl (record-put .put-record .ensures .0)
+          (simp length-sets at (ap length (record-put .put-record .ensures .1))) h,
+    )
 
 put-copy-put-copy-requires-5 : (t : ℕ) → put-copy-lts.Need-put-copy-requires-5 (put-copy-claims t) (put-copy-at t) put-copy.Post
 put-copy-put-copy-requires-5 t c κs =
@@ -160,7 +181,8 @@ put-copy-returns t c =
     let record-put = known .before .before .before in
     let start = record-put .before .before .before .before .before .before in
     let a = start .args in
-    λ s j l. leaf-copied (begun-of (names-of (a .names)) (a .spot) _ _ (now (a .out)) l refl refl (record-put .before .new-operand .ensures) (record-put .put-record .ensures .0) (record-put .put-record .ensures .1)) (as-leaf (known .node-at .ensures (now (a .operands)) s l) l (c .enum-told .given .1)) refl refl j
+    λ s j l. leaf-copied (begun-of (names-of (a .names)) (a .spot) _ _ (now (a .out)) l refl refl (record-put .before .new-operand .ensures) (record-put .put-record .ensures .0)
+    (record-put .put-record .ensures .1)) (as-leaf (known .node-at .ensures (now (a .operands)) s l) l (c .enum-told .given .1)) refl refl j
 
 put-copy-same-length-2 : (t : ℕ) → put-copy-lts.Need-same-length-2 (put-copy-claims t) (put-copy-at t) put-copy.Post
 put-copy-same-length-2 t c = search needs
@@ -176,7 +198,8 @@ put-copy-returns-2 t c =
     let next = below .before .before in
     λ s j l.
     let h = as-over (known .node-at .ensures (now (a .operands)) s l) (here .node .given .1) in
-    over-copied (begun-of (names-of (a .names)) (a .spot) _ _ (now (a .out)) l refl refl (record-put .before .new-operand .ensures) (record-put .put-record .ensures .0) (record-put .put-record .ensures .1)) j (h .its) (next .before .names-inside .ensures (λ e. local-small l refl refl e)) (next .next-inside .ensures)
+    over-copied (begun-of (names-of (a .names)) (a .spot) _ _ (now (a .out)) l refl refl (record-put .before .new-operand .ensures) (record-put .put-record .ensures .0)
+    (record-put .put-record .ensures .1)) j (h .its) (next .before .names-inside .ensures (λ e. local-small l refl refl e)) (next .next-inside .ensures)
     (below .put-copy .ensures (h .child) j (h .lies))
 
 put-copy-same-length-3 : (t : ℕ) → put-copy-lts.Need-same-length-3 (put-copy-claims t) (put-copy-at t) put-copy.Post
@@ -194,7 +217,8 @@ put-copy-returns-3 t c =
     let seq = once .before .before .before .before in
     λ s j l.
     let h = as-twice (known .node-at .ensures (now (a .operands)) s l) (here .node2 .given .1) in
-    loop-copied 0 (h .its) (begun-of (names-of (a .names)) (a .spot) _ _ (now (a .out)) l refl refl (record-put .before .new-operand .ensures) (record-put .put-record .ensures .0) (record-put .put-record .ensures .1)) (seq .put-record2 .ensures .0) (seq .put-record2 .ensures .1) j (once .put-copy2 .ensures (h .child) j (h .lies))
+    loop-copied 0 (h .its) (begun-of (names-of (a .names)) (a .spot) _ _ (now (a .out)) l refl refl (record-put .before .new-operand .ensures) (record-put .put-record .ensures .0)
+    (record-put .put-record .ensures .1)) (seq .put-record2 .ensures .0) (seq .put-record2 .ensures .1) j (once .put-copy2 .ensures (h .child) j (h .lies))
     (again .put-copy3 .ensures (h .child) (behind j (h .child)) (h .lies))
 
 put-copy-same-length-4 : (t : ℕ) → put-copy-lts.Need-same-length-4 (put-copy-claims t) (put-copy-at t) put-copy.Post
@@ -211,7 +235,9 @@ put-copy-returns-4 t c =
     let first = second .before .before .before .before in
     λ s j l.
     let h = as-joins (known .node-at .ensures (now (a .operands)) s l) (here .node3 .given .1) in
-    joins-copied (begun-of (names-of (a .names)) (a .spot) _ _ (now (a .out)) l refl refl (record-put .before .new-operand .ensures) (record-put .put-record .ensures .0) (record-put .put-record .ensures .1)) j (h .its) (first .put-copy4 .ensures (h .first) j (h .first-lies)) (second .put-copy5 .ensures (h .second) (behind j (h .first)) (h .second-lies))
+    joins-copied (begun-of (names-of (a .names)) (a .spot) _ _ (now (a .out)) l refl refl (record-put .before .new-operand .ensures) (record-put .put-record .ensures .0)
+    (record-put .put-record .ensures .1)) j (h .its) (first .put-copy4 .ensures (h .first) j (h .first-lies))
+    (second .put-copy5 .ensures (h .second) (behind j (h .first)) (h .second-lies))
 
 pub +put-copy-spec : {M : Type 1} → statement M
 +put-copy-spec = close μ-put-copy λ t. put-copy-lts.spec (put-copy-claims t)

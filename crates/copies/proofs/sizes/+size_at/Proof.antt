@@ -27,7 +27,8 @@ abbrev size-at-below : ℕ → In 2 size-at-kinds.ps
 size-at-below t = and 2 size-at-kinds.ps (falls 2 size-at-kinds.ps _<_ μ-size-at t) size-at.Pre
 
 abbrev size-at-claims : ℕ → size-at-lts.Claims
-size-at-claims t = (own-size-reads.Asked, own-size-reads.Learnt, node-at-reads.Asked, node-at-reads.Learnt, size-at-below t, size-at.Post, onto-reads.Asked, onto-reads.Learnt, side-reads.Asked, side-reads.Learnt)
+size-at-claims t =
+    (own-size-reads.Asked, own-size-reads.Learnt, node-at-reads.Asked, node-at-reads.Learnt, size-at-below t, size-at.Post, onto-reads.Asked, onto-reads.Learnt, side-reads.Asked, side-reads.Learnt)
 
 size-at-mul-own-size : (t : ℕ) → size-at-lts.Need-mul-own-size (size-at-claims t) (size-at-at t) size-at.Post
 size-at-mul-own-size t c = let w = in-table (c .pre .1 .lies) in omega arith
