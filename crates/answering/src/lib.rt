@@ -1,6 +1,5 @@
 // The public calls, each answered with a line on standard output: the name of the call, every number of its answer, and every byte that was lent to be
 // written, as it is after the call; of a part that comes back its bytes. reference/README.md says how the lines are written.
-mod calls;
 mod shelves;
 mod text;
 
@@ -73,27 +72,27 @@ fn no_call() {
 }
 
 fn check(block: &[u8]) {
-    let numbers = calls::check(block);
+    let numbers = answers::check(block);
     put(b"check");
     put_numbers(&numbers, 8);
 }
 
 fn fresh(block: &[u8], state: &mut [u8]) {
-    let numbers = calls::fresh(block, state);
+    let numbers = answers::fresh(block, state);
     put(b"fresh");
     put_numbers(&numbers, 2);
     put_bytes(state);
 }
 
 fn instant(block: &[u8], state: &mut [u8], inputs: u64) {
-    let numbers = calls::instant(block, state, inputs);
+    let numbers = answers::instant(block, state, inputs);
     put(b"instant");
     put_numbers(&numbers, 10);
     put_bytes(state);
 }
 
 fn logged(block: &[u8], state: &mut [u8], inputs: u64, log: &mut [u8], end: u64) {
-    let numbers = calls::logged(block, state, inputs, log, end);
+    let numbers = answers::logged(block, state, inputs, log, end);
     put(b"logged");
     put_numbers(&numbers, 11);
     put_bytes(state);
@@ -102,14 +101,14 @@ fn logged(block: &[u8], state: &mut [u8], inputs: u64, log: &mut [u8], end: u64)
 
 fn excerpt(block: &[u8], n: u64) {
     let mut numbers = [0u64; 11];
-    let part = calls::excerpt(block, n, &mut numbers);
+    let part = answers::excerpt(block, n, &mut numbers);
     put(b"excerpt");
     put_numbers(&numbers, 2);
     put_bytes(part);
 }
 
 fn heard(block: &[u8], state: &mut [u8], present: u64, absent: u64) {
-    let numbers = calls::heard(block, state, present, absent);
+    let numbers = answers::heard(block, state, present, absent);
     put(b"heard");
     put_numbers(&numbers, 10);
     put_bytes(state);
@@ -123,7 +122,7 @@ fn heard_logged(
     log: &mut [u8],
     end: u64,
 ) {
-    let numbers = calls::heard_logged(block, state, present, absent, log, end);
+    let numbers = answers::heard_logged(block, state, present, absent, log, end);
     put(b"heardlogged");
     put_numbers(&numbers, 11);
     put_bytes(state);
@@ -131,7 +130,7 @@ fn heard_logged(
 }
 
 fn reason(block: &[u8], state: &[u8], present: u64, absent: u64, question: u64, about: u64) {
-    let numbers = calls::reason(block, state, present, absent, question, about);
+    let numbers = answers::reason(block, state, present, absent, question, about);
     put(b"reason");
     put_numbers(&numbers, 5);
 }

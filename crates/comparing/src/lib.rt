@@ -1,11 +1,13 @@
 // Answers the cases of a file, each with a line on standard output. reference/README.md says how cases and lines are written.
 //
-// Memory is constant: one case is held at a time, with a block of at most 65,536 bytes, a state of at most 64, a log of at most 512 and a shelf of at most
-// 131,072. A file that ends within a case, or holds a longer one, gets the line `cut`, and nothing after that is read.
+// Memory is constant: one case is held at a time, with a block and a shelf of at most 131,072 bytes each, a state of at most 64 and a log of at most 512. A file
+// that ends within a case, or holds a longer one, gets the line `cut`, and nothing after that is read.
 mod head;
 
 use answering::Case;
 use libc::STDOUT_FILENO;
+ghost use mathlib.Core.Path.{_≡_};
+ghost use lib.ListN.{length};
 
 // Answers every case of a file.
 pub fn answer(path: &[u8]) {
@@ -20,7 +22,7 @@ pub fn answer(path: &[u8]) {
 
 // A proved loop has to end, and nothing says that a file does: the cases are counted down from a number that no file reaches.
 fn answer_all(fd: i32) {
-    let mut block = io::large_buffer();
+    let mut block = room();
     let mut left = u64::MAX;
     while left > 0 {
         if !answer_next(fd, &mut block) {
@@ -28,6 +30,13 @@ fn answer_all(fd: i32) {
         }
         left -= 1;
     }
+}
+
+// The most that a block may have here: the reference's cases have some of more than 65,536 bytes.
+fn room() -> [u8; 131072]
+    ensures { λ r. ⌜ 131072 ≡ length r ⌝ }
+{
+    [0; 131072]
 }
 
 // Reads a case, answers it, and says whether to go on.

@@ -7,13 +7,13 @@ use Rattle.comparing.proofs.answer_all.Statement.{statement}
 use Rattle.comparing.proofs.answer_all.Tie as tie
 
 abbrev Inv-loop : tie.InvT-loop
-Inv-loop fd block₀ left₀ block left = 65536 ≡ length block
+Inv-loop fd block₀ left₀ block left = 131072 ≡ length block
 
 abbrev μ-loop : tie.MeasureT-loop
 μ-loop fd block₀ left₀ block left = left
 
-large-buffer-requires : tie.Need-large-buffer-requires Inv-loop μ-loop
-large-buffer-requires c κs = search needs
+room-requires : tie.Need-room-requires Inv-loop μ-loop
+room-requires c κs = search needs
 
 loop-holds : tie.Need-loop-holds Inv-loop μ-loop
 loop-holds c = search needs
@@ -45,7 +45,7 @@ answer-all-spec =
     (tie.spec
     Inv-loop
     μ-loop
-    large-buffer-requires
+    room-requires
     loop-holds
     slice-aggregate-answer-next
     answer-next-requires

@@ -1,5 +1,5 @@
-// The calls on no shelf. Each gives its answer as numbers, in the order of its line: a refusal's number comes first, 0 where there is none, and what is not
-// named is 0.
+// The answers of the calls on no shelf as numbers, in the order of a line of the comparison: a refusal's number comes first, 0 where there is none, and what is
+// not named is 0.
 use foldheron::Asked;
 use foldheron::Begun;
 use foldheron::Checked;
