@@ -1,2 +1,3 @@
 pub mod Rows
 pub mod Views
+pub mod Ways
