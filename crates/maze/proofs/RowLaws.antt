@@ -125,7 +125,7 @@ kind-nothing (exit d) = refl
 kind-nothing (local s p) = refl
 
 module _ (tab : Table) where
-  nothing-is : (j : ℕ) (p : Stmt) → Has tab j p → j < 512 → nothing-at (tab .kinds) j ≡ is-nothing p
+  pub nothing-is : (j : ℕ) (p : Stmt) → Has tab j p → j < 512 → nothing-at (tab .kinds) j ≡ is-nothing p
   unfolding nothing-at
   nothing-is j p h l = ap₂ (λ (x : Bool) (k : ℕ). x && eqb k 16) (lt-ltb j 512 l) (has-row p h .its-kind) ∙ kind-nothing p
 
@@ -138,7 +138,7 @@ module _ (tab : Table) where
     its-first : nothing-at (tab .kinds) (i + 1) ≡ is-nothing p
     its-first = nothing-is (i + 1) p hp (omega (arith, some-statement p, some-statement q))
 
-    its-other : nothing-at (tab .kinds) (second-of (tab .sizes) i) ≡ is-nothing q
+    pub its-other : nothing-at (tab .kinds) (second-of (tab .sizes) i) ≡ is-nothing q
     its-other =
         ap (nothing-at (tab .kinds)) (second-there i p hp (omega (arith, some-statement p, some-statement q)))
         ∙ nothing-is (i + 1 + statements p) q hq (omega (arith, some-statement p, some-statement q))

@@ -255,7 +255,7 @@ module _ {tab : Table} {s : Summary} {g : Good} (o : Opened tab s g) (given : �
       gone = absent-bit (block-of g) (bits given) (declared-inputs (g .header .inputs) given u)
 
   -- The tests.
-  its-inputs : undeclared-input (s .inputs) given ≡ undeclared-input (g .header .inputs) given
+  pub its-inputs : undeclared-input (s .inputs) given ≡ undeclared-input (g .header .inputs) given
   its-inputs = ap (λ (y : Summary). undeclared-input (y .inputs) given) (o .summed)
 
   pub input-way : {x : Bool} → x ≡ undeclared-input (s .inputs) given → x ≡ true → Views (try-inputs g given) (Refused Why.Input 0)

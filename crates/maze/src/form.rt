@@ -9,7 +9,7 @@ ghost use Rattle.mazes.specs.Fitting.{one-alone, neither};
 ghost use Rattle.maze.specs.Rows.{nothing-at, row-fits, rows-fit};
 
 // Row i is a nothing; past the table's end there is none.
-fn is_nothing(kinds: &[u16; 512], i: usize) -> bool
+pub(crate) fn is_nothing(kinds: &[u16; 512], i: usize) -> bool
     ensures { λ r. ⌜ r ≡ nothing-at (now (kinds .entry)) i ⌝ }
 {
     if i < 512 { kinds[i] == 16 } else { false }

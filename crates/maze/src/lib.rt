@@ -2,6 +2,7 @@
 pub mod corridors;
 pub mod form;
 pub mod view;
+pub mod ways;
 
 use refusals::Why;
 

@@ -1,0 +1,25 @@
+-- `maze::corridors::then_gate` meets its contract: by the number of the corridor.
+-- Assumes nothing.
+use mathlib.Core.Path.{sym, ap}
+use Rattle.mazes.specs.Mazes.{visible, signal, part}
+use Rattle.maze.specs.Ways.{room-of, way-by, way-told}
+use Rattle.maze.proofs.GateLaws.{first-way, second-way, past-both}
+use Rattle.maze.proofs.corridors.then_gate.Statement.{statement}
+use Rattle.maze.proofs.corridors.then_gate.Tie as tie
+use Rattle.maze.proofs.corridors.then_gate.Reads as reads
+use Rattle.maze.proofs.corridors.then_gate.Lts as lts
+
+returns : tie.Need-returns
+unfolding way-told room-of
+returns c = ap way-by (sym (first-way (visible (signal (c .before .args .s))) (visible (part (c .before .args .p) (c .before .args .a))) (c .before .args .n) (c .match .keys1)))
+
+returns-2 : tie.Need-returns-2
+unfolding way-told room-of
+returns-2 c = ap way-by (sym (second-way (visible (signal (c .before .args .s))) (visible (part (c .before .args .p) (c .before .args .a))) (c .before .args .n) (c .match .keys2)))
+
+returns-3 : tie.Need-returns-3
+unfolding way-told
+returns-3 c = ap way-by (sym (past-both (visible (signal (c .before .args .s))) (visible (part (c .before .args .p) (c .before .args .a))) (c .before .args .n) (c .match .rest .0 .1) (c .match .rest .1)))
+
+pub then-gate-spec : {M : Type 1} → statement M
+then-gate-spec = tie.close (tie.spec returns returns-2 returns-3)
