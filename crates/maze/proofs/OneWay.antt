@@ -1,6 +1,5 @@
 -- No two different answers meet the contract of `corridor`: what an answer says gives the answer back. Assumes nothing.
 use mathlib.Core.Path.{_≡_, refl, sym, _∙_, ap}
-use Prim.Native.Nat.{ℕ}
 use Rattle.refusals.specs.Refusals.{why-of}
 use Rattle.refusals.specs.declared.Why.{Why}
 use Rattle.refusals.proofs.Laws.{why-back}

@@ -25,7 +25,7 @@ use Rattle.records.specs.StateRecord.{undeclared-input}
 use Rattle.reaction.specs.Instants.{block-of}
 use Rattle.reaction.specs.Outcomes.{Opened}
 use Rattle.reaction.proofs.Fronts.{placed}
-use Rattle.mazes.specs.Mazes.{OfForm, is-nothing, of-form, Room, signal, part, gate, dungeon, Corridor, visible, corridors, gate-corridors, maze-of, nth}
+use Rattle.mazes.specs.Mazes.{OfForm, is-nothing, of-form, Room, signal, part, gate, dungeon, visible, corridors, gate-corridors, maze-of, nth}
 use Rattle.mazes.specs.Fitting.{fits}
 use Rattle.mazes.proofs.Forms.{of-form-is, fitting, all-fit}
 use Rattle.maze.specs.declared.Maze.the-variants as maze

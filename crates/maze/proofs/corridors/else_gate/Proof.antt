@@ -11,15 +11,21 @@ use Rattle.maze.proofs.corridors.else_gate.Lts as lts
 
 returns : tie.Need-returns
 unfolding way-told room-of
-returns c = ap way-by (sym (first-way (secret (signal (c .before .args .s))) (visible (part (c .before .args .q) (c .before .args .a))) (c .before .args .n) (c .match .keys1)))
+returns c =
+    let args = c .before .args in
+    ap way-by (sym (first-way (secret (signal (args .s))) (visible (part (args .q) (args .a))) (args .n) (c .match .keys1)))
 
 returns-2 : tie.Need-returns-2
 unfolding way-told room-of
-returns-2 c = ap way-by (sym (second-way (secret (signal (c .before .args .s))) (visible (part (c .before .args .q) (c .before .args .a))) (c .before .args .n) (c .match .keys2)))
+returns-2 c =
+    let args = c .before .args in
+    ap way-by (sym (second-way (secret (signal (args .s))) (visible (part (args .q) (args .a))) (args .n) (c .match .keys2)))
 
 returns-3 : tie.Need-returns-3
 unfolding way-told
-returns-3 c = ap way-by (sym (past-both (secret (signal (c .before .args .s))) (visible (part (c .before .args .q) (c .before .args .a))) (c .before .args .n) (c .match .rest .0 .1) (c .match .rest .1)))
+returns-3 c =
+    let args = c .before .args in
+    ap way-by (sym (past-both (secret (signal (args .s))) (visible (part (args .q) (args .a))) (args .n) (c .match .rest .0 .1) (c .match .rest .1)))
 
 pub else-gate-spec : {M : Type 1} → statement M
 else-gate-spec = tie.close (tie.spec returns returns-2 returns-3)
