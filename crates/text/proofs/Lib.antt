@@ -15,3 +15,5 @@ pub mod Extended
 pub mod GoingOn
 pub mod FaultPlace
 pub mod ByteTests
+pub mod Keys
+pub mod Numbers

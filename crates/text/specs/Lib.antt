@@ -5,3 +5,4 @@ pub mod Machine
 pub mod Reader
 pub mod Shown
 pub mod Faults
+pub mod Coded

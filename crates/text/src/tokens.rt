@@ -1,0 +1,73 @@
+// The tokens of a text in numbers: keywords, names, numbers and marks.
+use crate::bytes::digit;
+use crate::bytes::word_end;
+use records::numerals::number_at;
+ghost use mathlib.Core.Path.{_≡_};
+ghost use lib.ListN.{drop};
+ghost use Rattle.text.specs.Tokens.{keywords, word-of};
+ghost use Rattle.text.specs.Coded.{keyed, keyword-number, number-value};
+
+// The keyword with a key, which is its bytes as one number with its length in the lowest three bits; 17 for none.
+fn keyword_with(key: u64) -> u16
+    ensures { λ r. ⌜ r ≡ keyed 0 keywords key ⌝ }
+{
+    match key {
+        232906572834241399 => 0,
+        3485830155141 => 1,
+        15624530732 => 2,
+        262179834441732999 => 3,
+        14817117092 => 4,
+        13616505644 => 5,
+        52654891 => 6,
+        226151037027462047 => 7,
+        14817117116 => 8,
+        15090809700 => 9,
+        15083475876 => 10,
+        226122 => 11,
+        15624553260 => 12,
+        953325759187870 => 13,
+        248677969098386359 => 14,
+        4001492071245 => 15,
+        1024381973408638 => 16,
+        _ => 17,
+    }
+}
+
+// The keyword that the word here is, by its number; 17 for none.
+pub fn keyword_at(text: &[u8], at: usize) -> u16
+    ensures { λ r. ⌜ r ≡ keyword-number (word-of (drop at (now (text .entry)))) ⌝ }
+{
+    let size = word_end(text, at) - at;
+    if size == 0 {
+        return 17;
+    }
+    if 7 < size {
+        return 17;
+    }
+    keyword_with(number_at(text, at, size) * 8 + size as u64)
+}
+
+// What the word here stands for where it is a number, 65,536 where it is none.
+pub fn number_value(text: &[u8], at: usize) -> u64
+    ensures { λ r. ⌜ r ≡ number-value (word-of (drop at (now (text .entry)))) ⌝ }
+{
+    let end = word_end(text, at);
+    if 5 < end - at {
+        return 65536;
+    }
+    let mut v: u64 = 0;
+    let mut i = at;
+    while i < end {
+        let b = text[i];
+        if digit(b) {
+            v = v * 10 + (b - 48) as u64;
+            i += 1;
+        } else {
+            return 65536;
+        }
+    }
+    if 65535 < v {
+        return 65536;
+    }
+    v
+}
