@@ -17,3 +17,4 @@ pub mod FaultPlace
 pub mod ByteTests
 pub mod Keys
 pub mod Numbers
+pub mod WordTokens

@@ -1,11 +1,22 @@
 // The tokens of a text in numbers: keywords, names, numbers and marks.
 use crate::bytes::digit;
+use crate::bytes::letter;
 use crate::bytes::word_end;
 use records::numerals::number_at;
 ghost use mathlib.Core.Path.{_≡_};
-ghost use lib.ListN.{drop};
-ghost use Rattle.text.specs.Tokens.{keywords, word-of};
-ghost use Rattle.text.specs.Coded.{keyed, keyword-number, number-value};
+ghost use Prim.Native.Nat.{_+_};
+ghost use lib.ListN.{length, drop};
+ghost use Rattle.text.specs.Tokens.{keywords, word-of, is-name, word-token};
+ghost use Rattle.text.specs.Coded.{keyed, keyword-number, number-value, kind-of, value-of};
+
+// A token: a keyword or a mark by its number, 17 for a name, 18 for a number, 19 for no token and 20 for the end of the text; its first
+// byte, the first behind it, and what a number stands for.
+pub struct Token {
+    pub kind: u16,
+    pub start: usize,
+    pub end: usize,
+    pub value: u64,
+}
 
 // The keyword with a key, which is its bytes as one number with its length in the lowest three bits; 17 for none.
 fn keyword_with(key: u64) -> u16
@@ -70,4 +81,59 @@ pub fn number_value(text: &[u8], at: usize) -> u64
         return 65536;
     }
     v
+}
+
+// The word here begins with a letter and has at most sixteen bytes.
+pub fn name_at(text: &[u8], at: usize) -> bool
+    ensures { λ r. ⌜ r ≡ is-name (word-of (drop at (now (text .entry)))) ⌝ }
+{
+    let size = word_end(text, at) - at;
+    if size == 0 {
+        return false;
+    }
+    if 16 < size {
+        return false;
+    }
+    letter(text[at])
+}
+
+// The token that the word here is.
+pub fn word_at(text: &[u8], at: usize) -> Token
+    ensures { λ r. ⌜ (r .kind ≡ kind-of (word-token (word-of (drop at (now (text .entry))))))
+        × (r .start ≡ at) × (r .end ≡ at + length (word-of (drop at (now (text .entry)))))
+        × (r .value ≡ value-of (word-token (word-of (drop at (now (text .entry)))))) ⌝ }
+{
+    let end = word_end(text, at);
+    let k = keyword_at(text, at);
+    if k < 17 {
+        return Token {
+            kind: k,
+            start: at,
+            end,
+            value: 0,
+        };
+    }
+    if name_at(text, at) {
+        return Token {
+            kind: 17,
+            start: at,
+            end,
+            value: 0,
+        };
+    }
+    let v = number_value(text, at);
+    if v < 65536 {
+        return Token {
+            kind: 18,
+            start: at,
+            end,
+            value: v,
+        };
+    }
+    Token {
+        kind: 19,
+        start: at,
+        end,
+        value: 0,
+    }
 }
