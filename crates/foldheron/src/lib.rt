@@ -1,13 +1,23 @@
 // What users call: the check of a block, a fresh state for it, one instant, one with a log record, an excerpt of a block, the reason of an
-// instant, and the calls on a shelf of blocks: install, fetch and withdraw.
+// instant, the calls on a shelf of blocks: install, fetch and withdraw; whether two blocks are alike, a block with its loop bodies doubled, and
+// the maze of a block with its corridors.
 pub mod say_why;
 
+pub use alike::Likeness;
+pub use alike::alike;
 pub use block::kinds::Code;
 use block::kinds::wide;
 pub use block::whole::Checked;
 pub use block::whole::Summary;
 use block::whole::offset_of;
 use block::whole::read_block;
+pub use copies::double_loops;
+pub use maze::Corridor;
+pub use maze::Maze;
+pub use maze::Room;
+pub use maze::Rooms;
+pub use maze::view::maze;
+pub use maze::ways::corridor;
 pub use reaction::Doubt;
 use reaction::Given;
 pub use reaction::Instant;
@@ -30,6 +40,7 @@ pub use shelf::fetch;
 pub use shelf::install;
 pub use shelf::withdraw;
 use words::events::Heard;
+pub use writing::Wrote;
 ghost use mathlib.Core.Path.{_≡_};
 ghost use mathlib.Core.Bool.{false};
 ghost use Prim.Native.Nat.{_+_, _≤_, _<_};
