@@ -11,12 +11,12 @@
  * nothing checks a caller in C:
  *
  *   - each pointer is to as many bytes as the length beside it says, and is not NULL, not even beside a length of 0;
- *   - the bytes that a call may write (state, log, answer) overlap neither each other nor anything else that is lent;
- *   - no other thread writes the block, or touches the state, the log or the answer, during the call.
+ *   - the bytes that a call may write (state, log, run, output, answer) overlap neither each other nor anything else that is lent;
+ *   - no other thread writes the block, or touches the state, the log, the run, the output or the answer, during the call.
  *
  * The library keeps nothing between calls and allocates nothing. Calls on different states and answers may run at the same time. Of the
- * C library it needs memcpy and memset, and nothing else. A call takes less stack than FOLDHERON_STACK_MOST below: that is measured, by
- * examples/embed/stack.c on blocks as deep as they may be, and not proved.
+ * C library it needs memcpy and memset, and nothing else. A call takes less stack than FOLDHERON_STACK_MOST below, foldheron_alike less than
+ * FOLDHERON_ALIKE_STACK_MOST: that is measured, by examples/embed/stack.c on blocks as deep as they may be, and not proved.
  *
  * Each call gives back the number of its refusal, 0 where it was not turned down, and writes its whole answer into lent bytes whose
  * count is fixed for the call: with any other count it gives back FOLDHERON_ANSWER and changes no byte of anything. An answer is a row of
@@ -44,7 +44,8 @@ extern "C" {
 #define FOLDHERON_VERSION "2.0.0"
 
 /* The numbers of refusals, the first that applies in this order. 1 to 8, the block: every call that takes one (an install after 18 and 19); 9, the state: fresh and the instants; 17, then 10,
- * 11 and 13: the instants; 12: those with a log, before 13; 14: an excerpt; 16: a reason, after an instant's 1 to 11. 64, the answer's bytes, comes before all of them. */
+ * 11 and 13: the instants; 12: those with a log, before 13; 14: an excerpt; 16: a reason, after an instant's 1 to 11. The calls on a shelf, on two blocks and on a block as a whole
+ * have an order of their own: it stands at each. 64, the answer's bytes, comes before all of them. */
 #define FOLDHERON_GOOD 0
 #define FOLDHERON_BROKEN 1           /* a record is cut off, or has a length below 4 */
 #define FOLDHERON_KIND 2             /* a kind that is not allowed here, or not that kind's length */
@@ -58,22 +59,23 @@ extern "C" {
 #define FOLDHERON_OTHER_BLOCK 17     /* a state that names another version or another statement count than the block has */
 #define FOLDHERON_CLASH 10           /* two active pauses that cannot be active together */
 #define FOLDHERON_INPUT 11           /* an input that the block does not have, or one that is in both sets */
-#define FOLDHERON_ROOM 12            /* fewer than 32 bytes after the log's end, or no such end */
+#define FOLDHERON_ROOM 12            /* fewer than 32 bytes after the log's end, or no such end; fewer lent bytes than a run or an output has to have */
 #define FOLDHERON_NOT_CONSTRUCTIVE 13 /* the instant does not settle its code */
 #define FOLDHERON_INDEX 14           /* no statement of that number */
-/* Those of the shelf's calls, which have an order of their own: it stands at each. */
+/* Those of the shelf's calls. */
 #define FOLDHERON_PARTY 18           /* a party above 1 */
 #define FOLDHERON_SHELF 19           /* not the bytes of a shelf */
 #define FOLDHERON_TAKEN 20           /* the party has a block of that name there */
 #define FOLDHERON_QUOTA 21           /* the party would hold more than it may */
 #define FOLDHERON_ABSENT 22          /* the party has no block of that name there */
 #define FOLDHERON_QUESTION 16        /* what is asked about is not so: a reason's */
-/* Those of calls that are still to come: texts, two blocks compared, the maze. No call of this version gives them. */
-#define FOLDHERON_TEXT 15            /* text outside the grammar, or a name that may not stand there */
+/* Those of two blocks compared and of the maze. */
 #define FOLDHERON_INTERFACE 23       /* not as many inputs, or not as many outputs */
 #define FOLDHERON_WIDE 24            /* more than 6 inputs */
 #define FOLDHERON_PAIRS 25           /* more than 1,024 pairs of states */
 #define FOLDHERON_FORM 26            /* not a block that has a maze */
+/* That of a text, whose calls are still to come: no call of this version gives it. */
+#define FOLDHERON_TEXT 15            /* text outside the grammar, or a name that may not stand there */
 #define FOLDHERON_ANSWER 64          /* not as many bytes as this call's answer has */
 
 /* A block has at most so many bytes, a state exactly so many, a log record exactly so many. */
@@ -83,6 +85,9 @@ extern "C" {
 
 /* A call takes less stack than this, from its caller's frame down; 46,264 bytes were the most that was seen. */
 #define FOLDHERON_STACK_MOST 49152
+
+/* So does foldheron_alike, which keeps the pairs of states that it has found there. */
+#define FOLDHERON_ALIKE_STACK_MOST 131072
 
 /* Where every answer has its number and its place. */
 #define FOLDHERON_AT_NUMBER 0
@@ -204,6 +209,63 @@ uint16_t foldheron_fetch(const uint8_t *shelf, size_t shelf_size, uint16_t party
 #define FOLDHERON_WITHDRAW_SIZE 16
 uint16_t foldheron_withdraw(uint8_t *shelf, size_t shelf_size, uint16_t party, uint16_t name, uint8_t *answer, size_t answer_size);
 
+/* Tells whether two blocks with as many inputs and outputs are alike: whether from fresh, in every instant under every input run, they have the same outputs
+ * present and the same code, or both have a 13. Rounds are not compared. Where they are not alike, a shortest run of input sets that shows it, the first in
+ * numeric order among those, is written to the front of the lent run, one byte a set, bit n for input n; the bytes behind it stay, and where the blocks are alike or the call is
+ * refused, all of them do. The run has FOLDHERON_RUN_MOST bytes or more. The answer, 32 bytes:
+ *   block           of 1 to 8: which block is turned down, 1 the first or 2 the second; else 0. The place is an offset in that block;
+ *   length          how many sets the run has; 0 where the blocks are alike, for a run of no sets shows nothing, and where it was refused.
+ * Refusals: 1 to 8 for the first block, then for the second, 23, 24 for more than 6 inputs, 12 for a shorter run, and 25 exactly where runs shorter than a shortest
+ * showing one (all runs, if none shows) reach over 1,024 different pairs of states. */
+#define FOLDHERON_ALIKE_SIZE 32
+#define FOLDHERON_AT_BLOCK 16
+#define FOLDHERON_AT_LENGTH 24
+#define FOLDHERON_RUN_MOST 1024
+uint16_t foldheron_alike(const uint8_t *first, size_t first_size, const uint8_t *second, size_t second_size, uint8_t *run, size_t run_size,
+                         uint8_t *answer, size_t answer_size);
+
+/* Writes the block with each loop body in sequence with itself, from the inside out, its locals numbered anew and the header else kept, to the front of the
+ * lent output; the bytes behind it stay, and refused, all of them do. From fresh, any input run gives the same outputs, codes and 13 on both blocks. A
+ * state of the one is none of the other. FOLDHERON_BLOCK_MOST bytes are enough for any. The answer, 24 bytes: number, place, and how many bytes were
+ * written, 0 where it was refused. Refusals: 1 to 8, then 4 with place 0 where the doubled block passes a limit, then 12. */
+#define FOLDHERON_DOUBLE_LOOPS_SIZE 24
+#define FOLDHERON_AT_WRITTEN 16
+uint16_t foldheron_double_loops(const uint8_t *block, size_t block_size, uint8_t *out, size_t out_size, uint8_t *answer, size_t answer_size);
+
+/* The two-player maze of a block's first instant with these inputs present and the others absent, for blocks made of emit, parallel, and present with nothing
+ * in one branch: whose rooms win, lose and draw. Those are the inputs and outputs that are present, absent and undecided in the final round. The answer, 40
+ * bytes: number, place, and three sets, bit n for signal n, an input or an output. Refusals: 1 to 8, then 11, 26. */
+#define FOLDHERON_MAZE_SIZE 40
+#define FOLDHERON_AT_WINNING 16
+#define FOLDHERON_AT_LOSING 24
+#define FOLDHERON_AT_DRAWN 32
+uint16_t foldheron_maze(const uint8_t *block, size_t block_size, uint64_t inputs, uint8_t *answer, size_t answer_size);
+
+/* Corridor n, from 0 on, of a room of that maze. A room is named by its kind and two numbers, and so is the one that a corridor leads to:
+ *   ROOM_SIGNAL     a signal's room; first is the signal, second is not looked at, and 0 in an answer;
+ *   ROOM_PART       the room of statement first, as the room of signal second sees it;
+ *   ROOM_GATE       the room between present number first and its part, as the room of signal second sees it;
+ *   ROOM_DUNGEON    the dungeon, which has no corridors; the two numbers are not looked at, and 0 in an answer.
+ * No other kind names a room. The answer, 48 bytes: number, place, and
+ *   way             WAY_NONE where the room has no corridor n, and where it was refused; WAY_VISIBLE or WAY_SECRET, a corridor; WAY_NO_ROOM, there is no such room;
+ *   room, first, second   of a corridor: the room that it leads to.
+ * Refusals: 1 to 8, then 11, 26. */
+#define FOLDHERON_CORRIDOR_SIZE 48
+#define FOLDHERON_AT_WAY 16
+#define FOLDHERON_AT_ROOM 24
+#define FOLDHERON_AT_ROOM_FIRST 32
+#define FOLDHERON_AT_ROOM_SECOND 40
+#define FOLDHERON_ROOM_SIGNAL 0
+#define FOLDHERON_ROOM_PART 1
+#define FOLDHERON_ROOM_GATE 2
+#define FOLDHERON_ROOM_DUNGEON 3
+#define FOLDHERON_WAY_NONE 0
+#define FOLDHERON_WAY_VISIBLE 1
+#define FOLDHERON_WAY_SECRET 2
+#define FOLDHERON_WAY_NO_ROOM 3
+uint16_t foldheron_corridor(const uint8_t *block, size_t block_size, uint64_t inputs, uint16_t room, size_t first, size_t second, size_t n,
+                            uint8_t *answer, size_t answer_size);
+
 /* The number of 8 bytes that begins at a byte of an answer. */
 static inline uint64_t foldheron_number(const uint8_t *answer, size_t at)
 {
@@ -282,6 +344,31 @@ struct foldheron_fetch_answer {
     size_t place, count;
 };
 
+struct foldheron_alike_answer {
+    uint16_t number;
+    size_t place;
+    uint16_t block;
+    size_t length;
+};
+
+struct foldheron_double_loops_answer {
+    uint16_t number;
+    size_t place, count;
+};
+
+struct foldheron_maze_answer {
+    uint16_t number;
+    size_t place;
+    uint64_t winning, losing, drawn;
+};
+
+struct foldheron_corridor_answer {
+    uint16_t number;
+    size_t place;
+    uint16_t way, room;
+    size_t first, second;
+};
+
 static inline struct foldheron_check_answer foldheron_read_check(const uint8_t *answer)
 {
     struct foldheron_check_answer a;
@@ -348,6 +435,48 @@ static inline struct foldheron_fetch_answer foldheron_read_fetch(const uint8_t *
     a.number = (uint16_t)foldheron_number(answer, FOLDHERON_AT_NUMBER);
     a.place = (size_t)foldheron_number(answer, FOLDHERON_AT_PLACE);
     a.count = (size_t)foldheron_number(answer, FOLDHERON_AT_FETCHED);
+    return a;
+}
+
+static inline struct foldheron_alike_answer foldheron_read_alike(const uint8_t *answer)
+{
+    struct foldheron_alike_answer a;
+    a.number = (uint16_t)foldheron_number(answer, FOLDHERON_AT_NUMBER);
+    a.place = (size_t)foldheron_number(answer, FOLDHERON_AT_PLACE);
+    a.block = (uint16_t)foldheron_number(answer, FOLDHERON_AT_BLOCK);
+    a.length = (size_t)foldheron_number(answer, FOLDHERON_AT_LENGTH);
+    return a;
+}
+
+static inline struct foldheron_double_loops_answer foldheron_read_double_loops(const uint8_t *answer)
+{
+    struct foldheron_double_loops_answer a;
+    a.number = (uint16_t)foldheron_number(answer, FOLDHERON_AT_NUMBER);
+    a.place = (size_t)foldheron_number(answer, FOLDHERON_AT_PLACE);
+    a.count = (size_t)foldheron_number(answer, FOLDHERON_AT_WRITTEN);
+    return a;
+}
+
+static inline struct foldheron_maze_answer foldheron_read_maze(const uint8_t *answer)
+{
+    struct foldheron_maze_answer a;
+    a.number = (uint16_t)foldheron_number(answer, FOLDHERON_AT_NUMBER);
+    a.place = (size_t)foldheron_number(answer, FOLDHERON_AT_PLACE);
+    a.winning = foldheron_number(answer, FOLDHERON_AT_WINNING);
+    a.losing = foldheron_number(answer, FOLDHERON_AT_LOSING);
+    a.drawn = foldheron_number(answer, FOLDHERON_AT_DRAWN);
+    return a;
+}
+
+static inline struct foldheron_corridor_answer foldheron_read_corridor(const uint8_t *answer)
+{
+    struct foldheron_corridor_answer a;
+    a.number = (uint16_t)foldheron_number(answer, FOLDHERON_AT_NUMBER);
+    a.place = (size_t)foldheron_number(answer, FOLDHERON_AT_PLACE);
+    a.way = (uint16_t)foldheron_number(answer, FOLDHERON_AT_WAY);
+    a.room = (uint16_t)foldheron_number(answer, FOLDHERON_AT_ROOM);
+    a.first = (size_t)foldheron_number(answer, FOLDHERON_AT_ROOM_FIRST);
+    a.second = (size_t)foldheron_number(answer, FOLDHERON_AT_ROOM_SECOND);
     return a;
 }
 

@@ -28,7 +28,7 @@ pub struct Refusal {
     pub place: usize,
 }
 
-/// The name of a refusal's number; none of a number that has none. 15 and 23 to 26 are of calls that are still to come.
+/// The name of a refusal's number; none of a number that has none. 15 is of calls that are still to come.
 pub fn name_of(number: u16) -> Option<&'static str> {
     Some(match number {
         1 => "BROKEN",
@@ -153,6 +153,61 @@ impl Reason {
     }
 }
 
+/// Whether two blocks are alike, with the run that shows that they are not; or what is turned down: the first block, the second, or the call.
+#[derive(Clone, Copy, PartialEq, Eq, Debug)]
+pub enum Likeness<'a> {
+    Alike,
+    /// A shortest run of input sets that shows a difference, the first in numeric order among those: one byte a set, bit n for input n.
+    Different(&'a [u8]),
+    /// 1 to 8 of the first block.
+    First(Refusal),
+    /// 1 to 8 of the second block.
+    Second(Refusal),
+    /// 23, 24, 12 or 25.
+    Refused(Refusal),
+}
+
+impl Likeness<'_> {
+    /// The number of the refusal, 0 where the blocks were compared.
+    pub fn number(&self) -> u16 {
+        match self {
+            Likeness::Alike | Likeness::Different(_) => 0,
+            Likeness::First(refusal) | Likeness::Second(refusal) | Likeness::Refused(refusal) => refusal.number,
+        }
+    }
+}
+
+/// The signals, inputs and outputs, whose rooms win, lose and draw: bit n for signal n.
+#[derive(Clone, Copy, PartialEq, Eq, Debug)]
+pub struct Rooms {
+    pub winning: u64,
+    pub losing: u64,
+    pub drawn: u64,
+}
+
+/// A room of a maze.
+#[derive(Clone, Copy, PartialEq, Eq, Debug)]
+pub enum Room {
+    /// A signal's, by its number.
+    Signal(usize),
+    /// A statement's, by its number, as a signal's room sees it, by that signal's number.
+    Part(usize, usize),
+    /// The one between a present and its part, by the present's statement number, as a signal's room sees it.
+    Gate(usize, usize),
+    Dungeon,
+}
+
+/// A corridor of a room and the room that it leads to.
+#[derive(Clone, Copy, PartialEq, Eq, Debug)]
+pub enum Corridor {
+    Visible(Room),
+    Secret(Room),
+    /// The room has no corridor of that number.
+    NoMore,
+    /// The maze has no such room.
+    NoRoom,
+}
+
 /// The version of the library's calls and records, as FOLDHERON_VERSION in `include/foldheron.h`.
 pub const VERSION: &str = "2.0.0";
 /// How many bytes a block has at most.
@@ -166,6 +221,8 @@ pub const RECORD: usize = 32;
 pub const SHELF: usize = 65_536;
 /// How many bytes of entries each of its two parties may hold: of each entry 8 and its block's.
 pub const HELD_MOST: usize = 32_768;
+/// How many bytes a run has to be lent at least: as many as one that is written may have.
+pub const RUN_MOST: usize = 1024;
 
 /// Checks a block.
 pub fn check(block: &[u8]) -> Result<Summary, Refusal> {
@@ -254,6 +311,62 @@ pub fn fetch<'a>(shelf: &[u8], party: u16, name: u16, into: &'a mut [u8; BLOCK_M
 /// of the shelf changes.
 pub fn withdraw(shelf: &mut [u8], party: u16, name: u16) -> Result<(), Refusal> {
     refusal(&raw::withdraw(shelf, party, name))
+}
+
+/// Tells whether two blocks with as many inputs and outputs, at most 6 inputs, are alike: whether from fresh, in every instant under every input run, they
+/// have the same outputs present and the same code, or both have a 13. If not, the run that shows it is written to the front of the lent bytes, of which
+/// there are `RUN_MOST` or more, and that part is handed back; no other byte of them changes.
+pub fn alike<'a>(first: &[u8], second: &[u8], run: &'a mut [u8]) -> Likeness<'a> {
+    let a = raw::alike(first, second, run);
+    match (refusal(&a), number(&a, 2), number(&a, 3) as usize) {
+        (Ok(()), _, 0) => Likeness::Alike,
+        (Ok(()), _, length) => Likeness::Different(&run[..length]),
+        (Err(down), 1, _) => Likeness::First(down),
+        (Err(down), 2, _) => Likeness::Second(down),
+        (Err(down), _, _) => Likeness::Refused(down),
+    }
+}
+
+/// The block with each loop body in sequence with itself, from the inside out, written to the front of the lent bytes: the part that it fills is handed back, and
+/// no other byte of them changes. From fresh, any input run gives the same outputs, codes and 13 on both blocks. `BLOCK_MOST` bytes are enough for any; refused
+/// with 4 and place 0 where the doubled block passes a limit.
+pub fn double_loops<'a>(block: &[u8], out: &'a mut [u8]) -> Result<&'a [u8], Refusal> {
+    let a = raw::double_loops(block, out);
+    refusal(&a)?;
+    Ok(&out[..number(&a, 2) as usize])
+}
+
+/// Whose rooms win, lose and draw in the maze of the block's first instant with these inputs present and the others absent: the signals that are present, absent
+/// and undecided in the final round. For blocks made of emit, parallel, and present with nothing in one branch; others are refused with 26.
+pub fn maze(block: &[u8], inputs: u64) -> Result<Rooms, Refusal> {
+    let a = raw::maze(block, inputs);
+    refusal(&a)?;
+    Ok(Rooms { winning: number(&a, 2), losing: number(&a, 3), drawn: number(&a, 4) })
+}
+
+/// Corridor n, from 0 on, of a room of that maze.
+pub fn corridor(block: &[u8], inputs: u64, room: Room, n: usize) -> Result<Corridor, Refusal> {
+    let (kind, first, second) = match room {
+        Room::Signal(signal) => (0, signal, 0),
+        Room::Part(statement, signal) => (1, statement, signal),
+        Room::Gate(statement, signal) => (2, statement, signal),
+        Room::Dungeon => (3, 0, 0),
+    };
+    let a = raw::corridor(block, inputs, kind, first, second, n);
+    refusal(&a)?;
+    let (first, second) = (number(&a, 4) as usize, number(&a, 5) as usize);
+    let leads = match number(&a, 3) {
+        0 => Room::Signal(first),
+        1 => Room::Part(first, second),
+        2 => Room::Gate(first, second),
+        _ => Room::Dungeon,
+    };
+    Ok(match number(&a, 2) {
+        0 => Corridor::NoMore,
+        1 => Corridor::Visible(leads),
+        2 => Corridor::Secret(leads),
+        _ => Corridor::NoRoom,
+    })
 }
 
 /// The n-th number of an answer.

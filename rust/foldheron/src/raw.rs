@@ -35,6 +35,18 @@ extern "C" {
         shelf: *const u8, shelf_len: usize, party: u16, name: u16, block: *mut u8, block_len: usize, answer: *mut u8, answer_len: usize,
     ) -> u16;
     fn foldheron_withdraw(shelf: *mut u8, shelf_len: usize, party: u16, name: u16, answer: *mut u8, answer_len: usize) -> u16;
+    fn foldheron_alike(
+        first: *const u8, first_len: usize, second: *const u8, second_len: usize, run: *mut u8, run_len: usize, answer: *mut u8,
+        answer_len: usize,
+    ) -> u16;
+    fn foldheron_double_loops(
+        block: *const u8, block_len: usize, out: *mut u8, out_len: usize, answer: *mut u8, answer_len: usize,
+    ) -> u16;
+    fn foldheron_maze(block: *const u8, block_len: usize, inputs: u64, answer: *mut u8, answer_len: usize) -> u16;
+    fn foldheron_corridor(
+        block: *const u8, block_len: usize, inputs: u64, room: u16, first: usize, second: usize, n: usize, answer: *mut u8,
+        answer_len: usize,
+    ) -> u16;
 }
 
 /// The answer, which begins with the number that was given back. It does not where the archive asks for answers of another length.
@@ -125,5 +137,33 @@ pub fn withdraw(shelf: &mut [u8], party: u16, name: u16) -> [u8; 16] {
     let mut answer = [0; 16];
     let (lent, size) = (shelf.as_mut_ptr(), shelf.len());
     let number = unsafe { foldheron_withdraw(lent, size, party, name, answer.as_mut_ptr(), answer.len()) };
+    told(number, answer)
+}
+
+pub fn alike(first: &[u8], second: &[u8], run: &mut [u8]) -> [u8; 32] {
+    let mut answer = [0; 32];
+    let (lent, size) = (run.as_mut_ptr(), run.len());
+    let (into, length) = (answer.as_mut_ptr(), answer.len());
+    let number = unsafe { foldheron_alike(first.as_ptr(), first.len(), second.as_ptr(), second.len(), lent, size, into, length) };
+    told(number, answer)
+}
+
+pub fn double_loops(block: &[u8], out: &mut [u8]) -> [u8; 24] {
+    let mut answer = [0; 24];
+    let (lent, size) = (out.as_mut_ptr(), out.len());
+    let number = unsafe { foldheron_double_loops(block.as_ptr(), block.len(), lent, size, answer.as_mut_ptr(), answer.len()) };
+    told(number, answer)
+}
+
+pub fn maze(block: &[u8], inputs: u64) -> [u8; 40] {
+    let mut answer = [0; 40];
+    let number = unsafe { foldheron_maze(block.as_ptr(), block.len(), inputs, answer.as_mut_ptr(), answer.len()) };
+    told(number, answer)
+}
+
+pub fn corridor(block: &[u8], inputs: u64, room: u16, first: usize, second: usize, n: usize) -> [u8; 48] {
+    let mut answer = [0; 48];
+    let (into, length) = (answer.as_mut_ptr(), answer.len());
+    let number = unsafe { foldheron_corridor(block.as_ptr(), block.len(), inputs, room, first, second, n, into, length) };
     told(number, answer)
 }
