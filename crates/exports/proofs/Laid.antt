@@ -58,10 +58,6 @@ pub at-another : {A : Type 0} (count : ℕ) (a : List ℕ) (x y : A) → (length
 unfolding lent
 at-another count a x y e = sym (ap (λ (t : Bool). cond t x y) (ne-eqb (length a) (8 * count) e))
 
--- One value for another at the front.
-pub with-number : {m n : ℕ} (xs : List ℕ) → m ≡ n → m ∷ xs ≡ n ∷ xs
-with-number xs e = ap (λ (x : ℕ). x ∷ xs) e
-
 -- The whole answer, and the answer that is not given.
 pub answered : (count : ℕ) (xs a : List ℕ) {vs a' : List ℕ} {r : ℕ} → length xs ≡ count → length a ≡ 8 * count → vs ≡ xs → ((i : ℕ) → getD vs i 0 < 2 ^ 64)
     → a' ≡ sets a 0 (laid vs) → r ≡ getD vs 0 0 → Answers count xs a a' r
@@ -100,11 +96,3 @@ no-block-lent count b xs a n = record {
   answer = block-at-another count b a (laid xs) a n;
   whole = λ d. absurd (n d);
 }
-
--- A block copied to the front.
-pub copied-over : (part out : List ℕ) {p out' : List ℕ} → p ≡ part → length part ≤ length out → out' ≡ sets out 0 p → out' ≡ part ++ drop (length part) out
-copied-over part out e l q = q ∙ ap (sets out 0) e ∙ sets-front part out l
-
--- Three values that are known one by one.
-pub three-values : {a b c x y z : ℕ} → a ≡ x → b ≡ y → c ≡ z → a ∷ b ∷ c ∷ [] ≡ x ∷ y ∷ z ∷ []
-three-values p q r = λ i. p i ∷ q i ∷ r i ∷ []

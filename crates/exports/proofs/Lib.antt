@@ -1,3 +1,1 @@
 pub mod Laid
-pub mod Counts
-pub mod Asking

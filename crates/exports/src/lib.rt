@@ -2,7 +2,6 @@
 // of its whole answer, 8 bytes each, into the bytes that are lent for it. Their length is fixed for each call: with any other, a call gives back 64,
 // ANSWER, and writes nothing anywhere.
 mod layout;
-mod values;
 
 use crate::layout::put_values;
 ghost use mathlib.Core.Path.{_≡_};
@@ -11,7 +10,7 @@ ghost use Rattle.reaction.specs.Instants.{told, state-after, log-after, end-aft
 ghost use Rattle.reaction.specs.declared.Given.the-variants.{All, Two};
 ghost use Rattle.foldheron.specs.Answers.{check-owed, begun-owed, state-owed, part-owed, part-values};
 ghost use Rattle.exports.specs.Layout.{lent, Answers, lent-both, AnswersBoth};
-ghost use Rattle.exports.specs.Calls.{told-values, logged-values, asked-by, told-why, install-owed, install-leaves, fetch-owed, fetch-leaves, withdraw-owed, withdraw-leaves};
+ghost use Rattle.values.specs.Calls.{told-values, logged-values, asked-by, told-why, install-owed, install-leaves, fetch-owed, fetch-leaves, withdraw-owed, withdraw-leaves};
 
 const ANSWER: u16 = 64;
 

@@ -5,14 +5,14 @@ use mir.Syntax.{w64}
 use mir.Val.{Fits}
 use denote.Ref.{now}
 use Rattle.exports.proofs.Laid.{answered, not-answered}
-use Rattle.exports.proofs.Counts.{fits, check-counted}
+use Rattle.values.proofs.Counts.{fits, check-counted}
 use borrow.Author.Needs.{needs}
 use Rattle.exports.proofs.foldheron_check.Statement.{statement}
 use Rattle.exports.proofs.foldheron_check.Tie as tie
 use Rattle.exports.proofs.foldheron_check.Reads as reads
 use Rattle.exports.proofs.foldheron_check.Lts as lts
 use Rattle.exports.proofs.layout.put_values.Reads as put-values-reads
-use Rattle.exports.proofs.values.check.Reads as check-reads
+use Rattle.values.proofs.check.Reads as check-reads
 
 returns : tie.Need-returns
 returns c = not-answered 8 _ _ (c .if1 .taken)

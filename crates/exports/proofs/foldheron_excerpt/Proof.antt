@@ -5,14 +5,14 @@ use mir.Syntax.{w64}
 use mir.Val.{Fits}
 use denote.Ref.{now}
 use Rattle.exports.proofs.Laid.{answered, not-answered}
-use Rattle.exports.proofs.Counts.{fits, part-counted}
+use Rattle.values.proofs.Counts.{fits, part-counted}
 use borrow.Author.Needs.{needs}
 use Rattle.exports.proofs.foldheron_excerpt.Statement.{statement}
 use Rattle.exports.proofs.foldheron_excerpt.Tie as tie
 use Rattle.exports.proofs.foldheron_excerpt.Reads as reads
 use Rattle.exports.proofs.foldheron_excerpt.Lts as lts
 use Rattle.exports.proofs.layout.put_values.Reads as put-values-reads
-use Rattle.exports.proofs.values.excerpt.Reads as excerpt-reads
+use Rattle.values.proofs.excerpt.Reads as excerpt-reads
 
 returns : tie.Need-returns
 returns c = not-answered 4 _ _ (c .if1 .taken)

@@ -5,14 +5,14 @@ use mir.Syntax.{w64}
 use mir.Val.{Fits}
 use denote.Ref.{now}
 use Rattle.exports.proofs.Laid.{answered, not-answered, at-length, at-another, answered-both, no-block-lent, block-at-length, block-at-another}
-use Rattle.exports.proofs.Counts.{fits, fetch-counted}
+use Rattle.values.proofs.Counts.{fits, fetch-counted}
 use borrow.Author.Needs.{needs}
 use Rattle.exports.proofs.foldheron_fetch.Statement.{statement}
 use Rattle.exports.proofs.foldheron_fetch.Tie as tie
 use Rattle.exports.proofs.foldheron_fetch.Reads as reads
 use Rattle.exports.proofs.foldheron_fetch.Lts as lts
 use Rattle.exports.proofs.layout.put_values.Reads as put-values-reads
-use Rattle.exports.proofs.values.fetch.Reads as fetch-reads
+use Rattle.values.proofs.fetch.Reads as fetch-reads
 
 returns : tie.Need-returns
 returns c = (no-block-lent 3 _ _ _ (c .if1 .taken), block-at-another 3 _ _ _ _ (c .if1 .taken))

@@ -5,14 +5,14 @@ use mir.Syntax.{w64}
 use mir.Val.{Fits}
 use denote.Ref.{now}
 use Rattle.exports.proofs.Laid.{answered, not-answered, at-length, at-another}
-use Rattle.exports.proofs.Counts.{fits, begun-counted}
+use Rattle.values.proofs.Counts.{fits, begun-counted}
 use borrow.Author.Needs.{needs}
 use Rattle.exports.proofs.foldheron_fresh.Statement.{statement}
 use Rattle.exports.proofs.foldheron_fresh.Tie as tie
 use Rattle.exports.proofs.foldheron_fresh.Reads as reads
 use Rattle.exports.proofs.foldheron_fresh.Lts as lts
 use Rattle.exports.proofs.layout.put_values.Reads as put-values-reads
-use Rattle.exports.proofs.values.fresh.Reads as fresh-reads
+use Rattle.values.proofs.fresh.Reads as fresh-reads
 
 returns : tie.Need-returns
 returns c = (not-answered 2 _ _ (c .if1 .taken), at-another 2 _ _ _ (c .if1 .taken))

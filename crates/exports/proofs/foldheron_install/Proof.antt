@@ -5,14 +5,14 @@ use mir.Syntax.{w64}
 use mir.Val.{Fits}
 use denote.Ref.{now}
 use Rattle.exports.proofs.Laid.{answered, not-answered, at-length, at-another}
-use Rattle.exports.proofs.Counts.{fits, install-counted}
+use Rattle.values.proofs.Counts.{fits, install-counted}
 use borrow.Author.Needs.{needs}
 use Rattle.exports.proofs.foldheron_install.Statement.{statement}
 use Rattle.exports.proofs.foldheron_install.Tie as tie
 use Rattle.exports.proofs.foldheron_install.Reads as reads
 use Rattle.exports.proofs.foldheron_install.Lts as lts
 use Rattle.exports.proofs.layout.put_values.Reads as put-values-reads
-use Rattle.exports.proofs.values.install.Reads as install-reads
+use Rattle.values.proofs.install.Reads as install-reads
 
 returns : tie.Need-returns
 returns c = (not-answered 2 _ _ (c .if1 .taken), at-another 2 _ _ _ (c .if1 .taken))

@@ -6,7 +6,7 @@ use mir.Val.{Fits}
 use denote.Ref.{now}
 use Rattle.reaction.specs.declared.Given.the-variants.{Two}
 use Rattle.exports.proofs.Laid.{answered, not-answered, at-length, at-another}
-use Rattle.exports.proofs.Counts.{fits, instant-counted}
+use Rattle.values.proofs.Counts.{fits, instant-counted}
 use Rattle.records.specs.LogRecord.{no-room}
 use borrow.Author.Needs.{needs}
 use Rattle.exports.proofs.foldheron_instant_heard_logged.Statement.{statement}
@@ -14,7 +14,7 @@ use Rattle.exports.proofs.foldheron_instant_heard_logged.Tie as tie
 use Rattle.exports.proofs.foldheron_instant_heard_logged.Reads as reads
 use Rattle.exports.proofs.foldheron_instant_heard_logged.Lts as lts
 use Rattle.exports.proofs.layout.put_values.Reads as put-values-reads
-use Rattle.exports.proofs.values.instant_heard_logged.Reads as instant-heard-logged-reads
+use Rattle.values.proofs.instant_heard_logged.Reads as instant-heard-logged-reads
 
 returns : tie.Need-returns
 returns c = (not-answered 11 _ _ (c .if1 .taken), (at-another 11 _ _ _ (c .if1 .taken), at-another 11 _ _ _ (c .if1 .taken)))

@@ -4,16 +4,16 @@ use lib.ListN.{getD}
 use mir.Syntax.{w64}
 use mir.Val.{Fits}
 use denote.Ref.{now}
-use Rattle.exports.specs.Calls.{asked-by}
+use Rattle.values.specs.Calls.{asked-by}
 use Rattle.exports.proofs.Laid.{answered, not-answered}
-use Rattle.exports.proofs.Counts.{fits, why-counted}
+use Rattle.values.proofs.Counts.{fits, why-counted}
 use borrow.Author.Needs.{needs}
 use Rattle.exports.proofs.foldheron_reason.Statement.{statement}
 use Rattle.exports.proofs.foldheron_reason.Tie as tie
 use Rattle.exports.proofs.foldheron_reason.Reads as reads
 use Rattle.exports.proofs.foldheron_reason.Lts as lts
 use Rattle.exports.proofs.layout.put_values.Reads as put-values-reads
-use Rattle.exports.proofs.values.reason.Reads as reason-reads
+use Rattle.values.proofs.reason.Reads as reason-reads
 
 returns : tie.Need-returns
 returns c = not-answered 5 _ _ (c .if1 .taken)

@@ -1,0 +1,34 @@
+-- `values::shelved`: each case as its definition says it. Assumes nothing.
+use mathlib.Core.Path.{_∙_, sym, ap}
+use Rattle.shelf.specs.Answered.{shelved-values}
+use Rattle.values.proofs.Known.{with-number}
+use borrow.Author.Needs.{needs}
+use Rattle.values.proofs.shelved.Statement.{statement}
+use Rattle.values.proofs.shelved.Tie as tie
+use Rattle.values.proofs.shelved.Reads as reads
+use Rattle.values.proofs.shelved.Lts as lts
+use Rattle.refusals.proofs.number_of.Reads as number-of-reads
+
+enum-told : tie.Need-enum-told
+enum-told c = search needs
+
+enum-known-answer : tie.Need-enum-known-answer
+enum-known-answer c = search needs
+
+number-of-requires : tie.Need-number-of-requires
+number-of-requires c κs = search needs
+
+cast-t6 : tie.Need-cast-t6
+cast-t6 c = search needs
+
+returns : tie.Need-returns
+unfolding shelved-values
+returns c = ap shelved-values (sym (c .enum-told .given .1))
+
+returns-2 : tie.Need-returns-2
+unfolding shelved-values
+returns-2 c = with-number _ (c .number-of .ensures) ∙ ap shelved-values (sym (c .before .before .answer .given .1))
+
+pub shelved-spec : {M : Type 1} → statement M
+shelved-spec =
+    tie.close (tie.spec enum-told enum-known-answer number-of-requires cast-t6 returns returns-2)
