@@ -5,14 +5,13 @@ use mathlib.Core.List.{List, [], _∷_}
 use mathlib.Core.Option.{Option, none, some}
 use Prim.Native.Nat.{ℕ, zero, suc, _^_, _≤_, _<_}
 use native.Mathlib.Omega.{arith}
-use native.Mathlib.Decide.{ℕ-discrete}
 use lib.Dec.{T, lit≤, eqb, ltb, ltb→lt}
-use borrow.Author.Tests.{ne-eqb}
 use lib.ListN.{length, getD, take}
 use mir.Syntax.{w16}
 use mir.Val.{Fits}
-use Rattle.refusals.specs.Refusals.{number, refusals, has-number}
+use Rattle.refusals.specs.Refusals.{number, refusals, first-with, why-of}
 use Rattle.refusals.specs.declared.Why.{Why}
+use Rattle.refusals.proofs.Laws.{number-back, why-back}
 use Rattle.sets.proofs.Members.{and-left, and-right}
 use Rattle.rules.specs.States.{State}
 use Rattle.rules.specs.Rounds.{answered, not-constructive}
@@ -70,23 +69,27 @@ pub part-counted : (b : List ℕ) (n : ℕ) → Counted 4 (part-values (part-owe
 unfolding part-owed
 part-counted b n = by-reading (λ x. part-values (part-owed x n)) b (λ g. part-found (ltb n (g .statements)) _ refl) (λ k at l. record { counted = refl; small = l })
 
--- A list of refusals all of whose numbers are below 64, as the list is: a number of it is.
+-- The number of every refusal is below 64: those of the list are, and every refusal is in it.
 all-below : List Why → Bool
 all-below [] = true
 all-below (w ∷ ws) = ltb (number w) 64 && all-below ws
 
-below-in : (ws : List Why) (n : ℕ) → T (all-below ws) → T (has-number ws n) → n ≤ 63
-unfolding all-below has-number
-below-in [] n a h = absurd h
-below-in (w ∷ ws) n a h = go (ℕ-discrete n (number w)) (λ t. below-in ws n (and-right (ltb (number w) 64) (all-below ws) a) t)
+first-small : (ws : List Why) (n : ℕ) → T (all-below ws) → number (first-with ws n) ≤ 63
+unfolding all-below first-with number
+first-small [] n a = lit≤ tt
+first-small (w ∷ ws) n a = go (eqb n (number w)) (first-small ws n (and-right (ltb (number w) 64) (all-below ws) a))
   where
-    go : Dec (n ≡ number w) → (T (has-number ws n) → n ≤ 63) → n ≤ 63
-    go (yes e) rest = let l : number w < 64 = ltb→lt (number w) 64 (and-left (ltb (number w) 64) (all-below ws) a) in omega arith
-    go (no e) rest = rest (subst (λ (b : Bool). T (cond b true (has-number ws n))) (ne-eqb n (number w) e) h)
+    go : (t : Bool) → number (first-with ws n) ≤ 63 → number (cond t w (first-with ws n)) ≤ 63
+    go true l = let m : number w < 64 = ltb→lt (number w) 64 (and-left (ltb (number w) 64) (all-below ws) a) in omega (arith, m)
+    go false l = l
+
+pub why-small : (w : Why) → number w ≤ 63
+unfolding all-below number
+why-small w = subst (λ (v : Why). number v ≤ 63) (why-back w) (first-small refusals (number w) tt)
 
 number-small : (v : Verdict) (s : List ℕ) (roomless : Bool) → Leaves v s roomless → told v .number ≤ 63
-unfolding Leaves told all-below number
-number-small (refused n at) s roomless l = below-in refusals n tt l
+unfolding Leaves told
+number-small (refused n at) s roomless l = subst (λ (k : ℕ). k ≤ 63) (number-back n l) (why-small (why-of n))
 number-small (clash pair) s roomless l = lit≤ tt
 number-small (reacted b (answered outs c st r)) s roomless l = lit≤ tt
 number-small (reacted b (not-constructive outs r)) s roomless l = lit≤ tt

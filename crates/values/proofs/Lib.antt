@@ -1,3 +1,6 @@
 pub mod Known
 pub mod Counts
 pub mod Asking
+pub mod Rooms
+pub mod WholeCounts
+pub mod OneAnswer

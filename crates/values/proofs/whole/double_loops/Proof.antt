@@ -1,0 +1,24 @@
+-- `values::whole::double_loops`: the library's answer as its values, and the lent bytes as the library leaves them. Assumes nothing.
+use mathlib.Core.Path.{_∙_}
+use borrow.Author.Needs.{needs}
+use Rattle.values.proofs.whole.double_loops.Statement.{statement}
+use Rattle.values.proofs.whole.double_loops.Tie as tie
+use Rattle.values.proofs.whole.double_loops.Reads as reads
+use Rattle.values.proofs.whole.double_loops.Lts as lts
+use Rattle.foldheron.proofs.double_loops.Reads as double-loops-reads
+use Rattle.values.proofs.whole.wrote.Reads as wrote-reads
+
+double-loops-requires : tie.Need-double-loops-requires
+double-loops-requires c κs = search needs
+
+wrote-requires : tie.Need-wrote-requires
+wrote-requires c κs = search needs
+
+same-length : tie.Need-same-length
+same-length c = search needs
+
+returns : tie.Need-returns
+returns c = (c .wrote .ensures ∙ c .before .before .before .double-loops .ensures .0, c .before .before .before .double-loops .ensures .1)
+
+pub double-loops-spec : {M : Type 1} → statement M
+double-loops-spec = tie.close (tie.spec double-loops-requires wrote-requires same-length returns)
