@@ -10,7 +10,7 @@ use lib.Seq.{drop-cons, drop-length, sets}
 use borrow.Author.Tests.{eq-eqb, ne-eqb}
 use Rattle.records.specs.Numerals.{in-bytes}
 use Rattle.records.proofs.Bytes.{length-in-bytes, sets-append, sets-front}
-use Rattle.exports.specs.Layout.{laid, lent, ANSWER, Answers, BLOCK-MOST, lent-both, AnswersBoth}
+use Rattle.exports.specs.Layout.{laid, lent, ANSWER, Answers, AnswersOwed, Stays, BLOCK-MOST, lent-both, AnswersBoth}
 
 pub length-laid : (xs : List ℕ) → length (laid xs) ≡ 8 * length xs
 unfolding laid
@@ -73,6 +73,21 @@ not-answered count xs a n = record {
   answer = at-another count a (laid xs) a n;
   whole = λ d. absurd (n d);
 }
+
+-- The same where a relation settles the values; other lent bytes stay where nothing is answered.
+module _ (count : ℕ) (Owed : List ℕ → Type 0) (a : List ℕ) where
+  pub owed-answered : {xs a' : List ℕ} {r : ℕ} → length a ≡ 8 * count → Owed xs → Answers count xs a a' r → AnswersOwed count Owed a a' r
+  owed-answered {xs} l o w = record { values = λ d. (xs, o, w); unwritten = λ n. absurd (n l) }
+
+  pub owed-not-answered : (length a ≡ 8 * count → ⊥) → AnswersOwed count Owed a a ANSWER
+  owed-not-answered n = record { values = λ d. absurd (n d); unwritten = λ m. (refl, refl) }
+
+module _ (count : ℕ) (a before : List ℕ) where
+  pub stays-written : {after : List ℕ} → length a ≡ 8 * count → Stays count a before after
+  stays-written l = record { unchanged = λ n. absurd (n l) }
+
+  pub stays-unwritten : Stays count a before before
+  stays-unwritten = record { unchanged = λ n. refl }
 
 -- A block lent beside the answer, and another number of bytes for it.
 pub block-at-length : {A : Type 0} (count : ℕ) (b a : List ℕ) (x y : A) → length b ≡ BLOCK-MOST → lent count a x y ≡ lent-both count b a x y

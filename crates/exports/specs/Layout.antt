@@ -27,6 +27,15 @@ pub record Answers (count : ℕ) (values a a' : List ℕ) (r : ℕ) : Type 0 whe
   pub answer : a' ≡ lent count a (laid values) a
   pub whole : length a ≡ 8 * count → (i : ℕ) → getD values i 0 < 2 ^ 64
 
+-- The same for values that a relation settles: where as many bytes are lent as they have, values that it holds of are the answer; else nothing is written.
+pub record AnswersOwed (count : ℕ) (Owed : List ℕ → Type 0) (a a' : List ℕ) (r : ℕ) : Type 0 where
+  pub values : length a ≡ 8 * count → (xs : List ℕ) × Owed xs × Answers count xs a a' r
+  pub unwritten : (length a ≡ 8 * count → ⊥) → (r ≡ ANSWER) × (a' ≡ a)
+
+-- Other lent bytes stay where another number of bytes is lent for the answer.
+pub record Stays (count : ℕ) (a before after : List ℕ) : Type 0 where
+  pub unchanged : (length a ≡ 8 * count → ⊥) → after ≡ before
+
 -- How many bytes are lent for a block that is handed back: as many as a block has at most.
 abbrev pub BLOCK-MOST : ℕ
 BLOCK-MOST = 3086

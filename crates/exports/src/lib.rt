@@ -4,12 +4,14 @@
 mod layout;
 
 use crate::layout::put_values;
+use values::whole;
 ghost use mathlib.Core.Path.{_≡_};
 ghost use Rattle.block.specs.Format.{reading};
 ghost use Rattle.reaction.specs.Instants.{told, state-after, log-after, end-after, instant-verdict, logged-verdict, heard-verdict, heard-logged-verdict};
 ghost use Rattle.reaction.specs.declared.Given.the-variants.{All, Two};
 ghost use Rattle.foldheron.specs.Answers.{check-owed, begun-owed, state-owed, part-owed, part-values};
-ghost use Rattle.exports.specs.Layout.{lent, Answers, lent-both, AnswersBoth};
+ghost use Rattle.values.specs.Whole.{Compares, doubling-owed, doubling-leaves, ShowsMaze, room-by, corridor-owed};
+ghost use Rattle.exports.specs.Layout.{lent, Answers, AnswersOwed, Stays, lent-both, AnswersBoth};
 ghost use Rattle.values.specs.Calls.{told-values, logged-values, asked-by, told-why, install-owed, install-leaves, fetch-owed, fetch-leaves, withdraw-owed, withdraw-leaves};
 
 const ANSWER: u16 = 64;
@@ -229,6 +231,73 @@ pub extern "C" fn foldheron_withdraw(
         return ANSWER;
     }
     let values = values::withdraw(shelf, party, name);
+    put_values(answer, &values);
+    values[0] as u16
+}
+
+// 32 bytes: the number, the place, which block is turned down, and the size of the run, which is written to the front of the lent bytes.
+#[no_mangle]
+pub extern "C" fn foldheron_alike(
+    first: &[u8],
+    second: &[u8],
+    run: &mut [u8],
+    answer: &mut [u8],
+) -> u16
+    ensures { λ r. ⌜ AnswersOwed 4 (Compares (now (first .entry)) (now (second .entry)) (now (run .entry)) (now (run .exit))) (now (answer .entry)) (now (answer .exit)) r ⌝ }
+    ensures { λ _. ⌜ Stays 4 (now (answer .entry)) (now (run .entry)) (now (run .exit)) ⌝ }
+{
+    if answer.len() != 32 {
+        return ANSWER;
+    }
+    let values = whole::alike(first, second, run);
+    put_values(answer, &values);
+    values[0] as u16
+}
+
+// 24 bytes: the number, the place, and how many bytes were written to the front of the lent ones.
+#[no_mangle]
+pub extern "C" fn foldheron_double_loops(block: &[u8], out: &mut [u8], answer: &mut [u8]) -> u16
+    ensures { λ r. ⌜ Answers 3 (doubling-owed (now (block .entry)) (now (out .entry))) (now (answer .entry)) (now (answer .exit)) r ⌝ }
+    ensures { λ _. ⌜ now (out .exit) ≡ lent 3 (now (answer .entry)) (doubling-leaves (now (block .entry)) (now (out .entry))) (now (out .entry)) ⌝ }
+{
+    if answer.len() != 24 {
+        return ANSWER;
+    }
+    let values = whole::double_loops(block, out);
+    put_values(answer, &values);
+    values[0] as u16
+}
+
+// 40 bytes: the number, the place, and the signals whose rooms win, lose and draw.
+#[no_mangle]
+pub extern "C" fn foldheron_maze(block: &[u8], inputs: u64, answer: &mut [u8]) -> u16
+    ensures { λ r. ⌜ AnswersOwed 5 (ShowsMaze (now (block .entry)) inputs) (now (answer .entry)) (now (answer .exit)) r ⌝ }
+{
+    if answer.len() != 40 {
+        return ANSWER;
+    }
+    let values = whole::maze(block, inputs);
+    put_values(answer, &values);
+    values[0] as u16
+}
+
+// 48 bytes: the number, the place, which corridor, and the room that it leads to by its three numbers.
+#[no_mangle]
+pub extern "C" fn foldheron_corridor(
+    block: &[u8],
+    inputs: u64,
+    room: u16,
+    first: usize,
+    second: usize,
+    n: usize,
+    answer: &mut [u8],
+) -> u16
+    ensures { λ r. ⌜ Answers 6 (corridor-owed (now (block .entry)) inputs (room-by room first second) n) (now (answer .entry)) (now (answer .exit)) r ⌝ }
+{
+    if answer.len() != 48 {
+        return ANSWER;
+    }
+    let values = whole::corridor(block, inputs, room, first, second, n);
     put_values(answer, &values);
     values[0] as u16
 }

@@ -1,0 +1,63 @@
+-- `foldheron_double_loops`: nothing is written at another length; at the answer's, the values of the library's answer are. Assumes nothing.
+use mathlib.Core.Path.{_∙_, refl}
+use lib.ListN.{getD}
+use mir.Syntax.{w64}
+use mir.Val.{Fits}
+use denote.Ref.{now}
+use Rattle.values.proofs.Counts.{fits}
+use Rattle.values.proofs.WholeCounts.{doubling-counted}
+use Rattle.exports.proofs.Laid.{answered, not-answered, at-length, at-another}
+use borrow.Author.Needs.{needs}
+use Rattle.exports.proofs.foldheron_double_loops.Statement.{statement}
+use Rattle.exports.proofs.foldheron_double_loops.Tie as tie
+use Rattle.exports.proofs.foldheron_double_loops.Reads as reads
+use Rattle.exports.proofs.foldheron_double_loops.Lts as lts
+use Rattle.exports.proofs.layout.put_values.Reads as put-values-reads
+use Rattle.values.proofs.whole.double_loops.Reads as double-loops-reads
+
+returns : tie.Need-returns
+returns c = (not-answered 3 _ _ (c .if1 .taken), at-another 3 _ _ _ (c .if1 .taken))
+
+double-loops-requires : tie.Need-double-loops-requires
+double-loops-requires c κs = search needs
+
+slice-aggregate-put-values : tie.Need-slice-aggregate-put-values
+slice-aggregate-put-values c = search needs
+
+put-values-requires : tie.Need-put-values-requires
+put-values-requires c κs = search needs
+
+array-read-result : tie.Need-array-read-result
+array-read-result c = search needs
+
+cast-result : tie.Need-cast-result
+cast-result c = fits (c .before .before .before .before .before .before .before .double-loops .ensures .0) (doubling-counted (now (c .before .before .before .before .before .before .before .before .before .before .before .before .before .args .block)) (now (c .before .before .before .before .before .before .before .before .before .before .before .before .before .args .out)))
+
+same-length : tie.Need-same-length
+same-length c = search needs
+
+same-length-2 : tie.Need-same-length-2
+same-length-2 c = search needs
+
+returns-2 : tie.Need-returns-2
+returns-2 c =
+    let l = c .before .before .before .before .before .before .before .before .before .if1 .left in
+    let e = c .before .before .before .before .before .before .before .double-loops .ensures in (
+      answered 3 _ _ ((doubling-counted (now (c .before .before .before .before .before .before .before .before .before .before .before .before .before .args .block)) (now (c .before .before .before .before .before .before .before .before .before .before .before .before .before .args .out))) .counted) l (e .0)
+          (λ i. let f : Fits w64 (getD (c .before .before .before .before .before .before .before .double-loops .result) i 0) = search needs in f .fits) (c .before .before .put-values .ensures) refl,
+      e .1 ∙ at-length 3 _ _ _ l,
+    )
+
+pub foldheron-double-loops-spec : {M : Type 1} → statement M
+foldheron-double-loops-spec =
+    tie.close
+    (tie.spec
+    returns
+    double-loops-requires
+    slice-aggregate-put-values
+    put-values-requires
+    array-read-result
+    cast-result
+    same-length
+    same-length-2
+    returns-2)
