@@ -86,8 +86,8 @@ extern "C" {
 /* A call takes less stack than this, from its caller's frame down; 46,264 bytes were the most that was seen. */
 #define FOLDHERON_STACK_MOST 49152
 
-/* So does foldheron_alike, which keeps the pairs of states that it has found there. */
-#define FOLDHERON_ALIKE_STACK_MOST 131072
+/* foldheron_alike takes less than this: it keeps the pairs of states that it has found there. 84,728 bytes were the most that was seen. */
+#define FOLDHERON_ALIKE_STACK_MOST 98304
 
 /* Where every answer has its number and its place. */
 #define FOLDHERON_AT_NUMBER 0

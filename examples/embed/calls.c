@@ -20,6 +20,12 @@ static const uint8_t cycle[] = {14, 0, 1,  0, 1, 0, 1,  0, 0, 0, 3, 0, 0,  0, 4,
 /* pause; pause, whose two pauses clash. */
 static const uint8_t pauses[] = {14, 0, 1, 0, 1, 0, 7, 0, 0, 0, 0, 0, 0, 0, 4, 0, 21, 0, 4, 0, 17, 0, 4, 0, 17, 0};
 
+/* pause; emit O, with the first block's interface: the same block without its suspend. */
+static const uint8_t plain[] = {14, 0, 1, 0, 1, 0, 7, 0, 1, 0, 1, 0, 0, 0, 4, 0, 21, 0, 4, 0, 17, 0, 6, 0, 18, 0, 1, 0};
+
+/* present I then nothing else emit O. */
+static const uint8_t unless[] = {14, 0, 1, 0, 1, 0, 7, 0, 1, 0, 1, 0, 0, 0, 6, 0, 19, 0, 0, 0, 4, 0, 16, 0, 6, 0, 18, 0, 1, 0};
+
 /* Lent bytes with a guard on either side. */
 struct lent {
     uint8_t before[8];
@@ -73,6 +79,8 @@ static void try_layout(void)
     EXPECT(FOLDHERON_INSTALL_SIZE == 16 && FOLDHERON_FETCH_SIZE == 24 && FOLDHERON_SHELF_SIZE == 65536 && FOLDHERON_HELD_MOST == 32768);
     EXPECT(FOLDHERON_WITHDRAW_SIZE == 16 && FOLDHERON_REASON_SIZE == 40 && foldheron_number(bytes, FOLDHERON_AT_STATEMENT) == 4);
     EXPECT(FOLDHERON_WHY_REFUSED == 0 && FOLDHERON_WHY_PRESENT == 1 && FOLDHERON_WHY_NOT_EXECUTED == 2);
+    EXPECT(FOLDHERON_ALIKE_SIZE == 32 && FOLDHERON_DOUBLE_LOOPS_SIZE == 24 && FOLDHERON_MAZE_SIZE == 40 && FOLDHERON_CORRIDOR_SIZE == 48);
+    EXPECT(FOLDHERON_RUN_MOST == 1024);
 }
 
 /* The structs, against an answer whose n-th number is n. */
@@ -93,6 +101,14 @@ static void try_structs(void)
     EXPECT(r.number == 0 && r.place == 1 && r.first == 2 && r.second == 3 && r.statement == 4);
     struct foldheron_fetch_answer f = foldheron_read_fetch(bytes);
     EXPECT(f.number == 0 && f.place == 1 && f.count == 2);
+    struct foldheron_alike_answer a = foldheron_read_alike(bytes);
+    EXPECT(a.number == 0 && a.place == 1 && a.block == 2 && a.length == 3);
+    struct foldheron_double_loops_answer d = foldheron_read_double_loops(bytes);
+    EXPECT(d.number == 0 && d.place == 1 && d.count == 2);
+    struct foldheron_maze_answer m = foldheron_read_maze(bytes);
+    EXPECT(m.number == 0 && m.place == 1 && m.winning == 2 && m.losing == 3 && m.drawn == 4);
+    struct foldheron_corridor_answer w = foldheron_read_corridor(bytes);
+    EXPECT(w.number == 0 && w.place == 1 && w.way == 2 && w.room == 3 && w.first == 4 && w.second == 5);
 }
 
 /* The names, against document 01's table and what later requests add to it. */
@@ -490,6 +506,111 @@ static void try_room(void)
     EXPECT(installs(0, 960, pauses, sizeof pauses, FOLDHERON_GOOD, 0) && as_wanted());
 }
 
+/* Two blocks compared with so many bytes lent for a run: these numbers, and a run of this many sets, whose last is 1 and the others 0; no other byte of it changes. */
+static int compares(const uint8_t *first, size_t first_size, const uint8_t *second, size_t second_size, size_t room, const uint64_t *numbers)
+{
+    static uint8_t run[FOLDHERON_RUN_MOST + 8], wanted_run[sizeof run];
+    struct lent a = lend();
+    memset(run, 0xA5, sizeof run);
+    memset(wanted_run, 0xA5, sizeof wanted_run);
+    for (size_t n = 0; n < numbers[3]; n++)
+        wanted_run[n] = n + 1 == numbers[3];
+    uint16_t back = foldheron_alike(first, first_size, second, second_size, run, room, a.bytes, FOLDHERON_ALIKE_SIZE);
+    return back == numbers[0] && told(&a, FOLDHERON_ALIKE_SIZE, numbers) && memcmp(run, wanted_run, sizeof run) == 0;
+}
+
+/* The first block waits in its second instant where I is present, and the plain one does not: so a shortest run has two sets, and the first of those is 0, 1. */
+static void try_alike(void)
+{
+    static const uint8_t wide[] = {14, 0, 1, 0, 1, 0, 7, 0, 7, 0, 0, 0, 0, 0, 4, 0, 16, 0};
+    static const uint64_t same[] = {0, 0, 0, 0}, differ[] = {0, 0, 0, 2}, first[] = {1, 28, 1, 0}, second[] = {1, 28, 2, 0};
+    static const uint64_t interface[] = {23, 0, 0, 0}, seven[] = {24, 0, 0, 0}, short_run[] = {12, 0, 0, 0};
+    uint8_t run[1] = {0xA5};
+    struct lent a = lend();
+    EXPECT(compares(block, sizeof block, block, sizeof block, FOLDHERON_RUN_MOST, same) && compares(cycle, sizeof cycle, cycle, sizeof cycle, 1030, same));
+    EXPECT(compares(block, sizeof block, plain, sizeof plain, FOLDHERON_RUN_MOST, differ) && compares(plain, sizeof plain, block, sizeof block, 1030, differ));
+    EXPECT(compares(block, sizeof block - 1, block, sizeof block - 1, 0, first) && compares(plain, sizeof plain, block, sizeof block - 1, 0, second));
+    EXPECT(compares(block, sizeof block, pauses, sizeof pauses, 0, interface) && compares(wide, sizeof wide, wide, sizeof wide, 0, seven));
+    EXPECT(compares(block, sizeof block, plain, sizeof plain, FOLDHERON_RUN_MOST - 1, short_run));
+    EXPECT(foldheron_alike(block, sizeof block, plain, sizeof plain, run, 1, a.bytes, 31) == FOLDHERON_ANSWER && guarded(&a, 0) && run[0] == 0xA5);
+}
+
+/* The block with its loop bodies doubled: these bytes, or this refusal; no other lent byte changes. */
+static int doubles(const uint8_t *bytes, size_t size, size_t room, uint16_t number, size_t place, const uint8_t *doubled, size_t count)
+{
+    const uint64_t numbers[] = {number, place, count};
+    struct lent a = lend(), out = lend();
+    uint16_t back = foldheron_double_loops(bytes, size, out.bytes, room, a.bytes, FOLDHERON_DOUBLE_LOOPS_SIZE);
+    return back == number && told(&a, FOLDHERON_DOUBLE_LOOPS_SIZE, numbers) && memcmp(out.bytes, doubled, count) == 0 && guarded(&out, count);
+}
+
+/* loop: local L: pause, and the same with the body twice, each copy with a local of its own. Ten loops around a pause would have 1,024 of it. */
+static void try_double_loops(void)
+{
+    static const uint8_t loop[] = {14, 0, 1, 0, 1, 0, 7, 0, 0, 0, 0, 0, 1, 0, 4, 0, 22, 0, 6, 0, 26, 0, 0, 0, 4, 0, 17, 0};
+    static const uint8_t twice[] = {14, 0, 1, 0, 1, 0, 7, 0, 0, 0, 0, 0, 2, 0, 4, 0, 22, 0, 4, 0, 21, 0,
+                                    6, 0, 26, 0, 0, 0, 4, 0, 17, 0, 6, 0, 26, 0, 1, 0, 4, 0, 17, 0};
+    static const uint64_t same[] = {0, 0, 0, 0};
+    uint8_t nested[14 + 4 * 11] = {14, 0, 1, 0, 1};
+    struct lent a = lend();
+    for (size_t n = 0; n < 11; n++)
+        memcpy(nested + 14 + 4 * n, n < 10 ? "\4\0\26\0" : "\4\0\21\0", 4);
+    EXPECT(doubles(loop, sizeof loop, sizeof twice, 0, 0, twice, sizeof twice) && doubles(loop, sizeof loop, 120, 0, 0, twice, sizeof twice));
+    EXPECT(doubles(block, sizeof block, 120, 0, 0, block, sizeof block));
+    EXPECT(doubles(loop, sizeof loop, sizeof twice - 1, FOLDHERON_ROOM, 0, twice, 0));
+    EXPECT(doubles(block, sizeof block - 1, 0, FOLDHERON_BROKEN, 28, twice, 0) && doubles(nested, sizeof nested, 0, FOLDHERON_LIMIT, 0, twice, 0));
+    EXPECT(compares(loop, sizeof loop, twice, sizeof twice, FOLDHERON_RUN_MOST, same));
+    EXPECT(foldheron_double_loops(loop, sizeof loop, a.bytes, 42, a.bytes + 64, 23) == FOLDHERON_ANSWER && guarded(&a, 0));
+}
+
+/* A emits itself, nobody emits B, and whether O is emitted rests on O: A wins, B loses, O draws. Unless I is there, O is emitted. */
+static void try_maze(void)
+{
+    static const uint64_t rooms[] = {0, 0, 1, 4, 2}, without[] = {0, 0, 2, 1, 0}, with[] = {0, 0, 1, 2, 0};
+    static const uint64_t cut[] = {1, 28, 0, 0, 0}, input[] = {11, 0, 0, 0, 0}, form[] = {26, 0, 0, 0, 0};
+    struct lent a = lend();
+    EXPECT(foldheron_maze(cycle, sizeof cycle, 0, a.bytes, FOLDHERON_MAZE_SIZE) == 0 && told(&a, 40, rooms));
+    EXPECT(foldheron_maze(unless, sizeof unless, 0, a.bytes, FOLDHERON_MAZE_SIZE) == 0 && told(&a, 40, without));
+    EXPECT(foldheron_maze(unless, sizeof unless, 1, a.bytes, FOLDHERON_MAZE_SIZE) == 0 && told(&a, 40, with));
+    EXPECT(foldheron_maze(block, sizeof block - 1, 2, a.bytes, FOLDHERON_MAZE_SIZE) == FOLDHERON_BROKEN && told(&a, 40, cut));
+    EXPECT(foldheron_maze(block, sizeof block, 2, a.bytes, FOLDHERON_MAZE_SIZE) == FOLDHERON_INPUT && told(&a, 40, input));
+    EXPECT(foldheron_maze(block, sizeof block, 1, a.bytes, FOLDHERON_MAZE_SIZE) == FOLDHERON_FORM && told(&a, 40, form));
+    a = lend();
+    EXPECT(foldheron_maze(cycle, sizeof cycle, 0, a.bytes, 48) == FOLDHERON_ANSWER && guarded(&a, 0));
+}
+
+/* Corridor n of a room of a block with I present or not: the way that it is, and the room that it leads to. */
+static int leads(const uint8_t *bytes, size_t size, uint64_t inputs, const size_t *room, size_t n, const uint64_t *way)
+{
+    const uint64_t numbers[] = {0, 0, way[0], way[1], way[2], way[3]};
+    struct lent a = lend();
+    uint16_t back = foldheron_corridor(bytes, size, inputs, (uint16_t)room[0], room[1], room[2], n, a.bytes, FOLDHERON_CORRIDOR_SIZE);
+    return back == 0 && told(&a, FOLDHERON_CORRIDOR_SIZE, numbers);
+}
+
+/* The rooms of the cycle, whose statements are the parallel, 0, emit A, 1, present O, 2, emit O, 3, and nothing, 4; and those of the other block. */
+static void try_corridor(void)
+{
+    static const struct { size_t room[3], n; uint64_t way[4]; } in_cycle[] = {
+        {{0, 0, 9}, 0, {1, 3, 0, 0}}, {{0, 0, 9}, 1, {1, 2, 2, 0}}, {{0, 0, 9}, 2, {0, 0, 0, 0}}, {{0, 1, 0}, 0, {1, 2, 2, 1}}, {{0, 1, 0}, 1, {0, 0, 0, 0}},
+        {{2, 2, 1}, 0, {1, 0, 1, 0}}, {{2, 2, 1}, 1, {1, 1, 3, 1}}, {{2, 2, 1}, 2, {0, 0, 0, 0}}, {{1, 3, 1}, 0, {1, 3, 0, 0}}, {{1, 3, 0}, 0, {0, 0, 0, 0}},
+        {{1, 4, 1}, 0, {0, 0, 0, 0}}, {{3, 9, 9}, 0, {0, 0, 0, 0}}, {{0, 3, 0}, 0, {3, 0, 0, 0}}, {{2, 1, 0}, 0, {3, 0, 0, 0}}, {{1, 5, 0}, 0, {3, 0, 0, 0}},
+        {{1, 3, 3}, 0, {3, 0, 0, 0}}, {{4, 0, 0}, 0, {3, 0, 0, 0}}, {{65535, 0, 0}, 0, {3, 0, 0, 0}}};
+    static const uint64_t secret[] = {2, 0, 0, 0}, part[] = {1, 1, 2, 1}, given[] = {1, 3, 0, 0}, none[] = {0, 0, 0, 0};
+    static const size_t gate[] = {FOLDHERON_ROOM_GATE, 0, 1}, input[] = {FOLDHERON_ROOM_SIGNAL, 0, 0};
+    static const uint64_t cut[] = {1, 28, 0, 0, 0, 0}, bad[] = {11, 0, 0, 0, 0, 0}, form[] = {26, 0, 0, 0, 0, 0};
+    struct lent a = lend();
+    for (size_t row = 0; row < sizeof in_cycle / sizeof in_cycle[0]; row++)
+        EXPECT(leads(cycle, sizeof cycle, 0, in_cycle[row].room, in_cycle[row].n, in_cycle[row].way));
+    EXPECT(leads(unless, sizeof unless, 0, gate, 0, secret) && leads(unless, sizeof unless, 0, gate, 1, part));
+    EXPECT(leads(unless, sizeof unless, 1, input, 0, given) && leads(unless, sizeof unless, 0, input, 0, none));
+    EXPECT(foldheron_corridor(block, sizeof block - 1, 2, 4, 0, 0, 0, a.bytes, FOLDHERON_CORRIDOR_SIZE) == FOLDHERON_BROKEN && told(&a, 48, cut));
+    EXPECT(foldheron_corridor(block, sizeof block, 2, 4, 0, 0, 0, a.bytes, FOLDHERON_CORRIDOR_SIZE) == FOLDHERON_INPUT && told(&a, 48, bad));
+    EXPECT(foldheron_corridor(block, sizeof block, 1, 4, 0, 0, 0, a.bytes, FOLDHERON_CORRIDOR_SIZE) == FOLDHERON_FORM && told(&a, 48, form));
+    a = lend();
+    EXPECT(foldheron_corridor(cycle, sizeof cycle, 0, 0, 0, 0, 0, a.bytes, 40) == FOLDHERON_ANSWER && guarded(&a, 0));
+}
+
 int main(void)
 {
     try_layout();
@@ -512,6 +633,10 @@ int main(void)
     try_fetch();
     try_withdraw();
     try_room();
+    try_alike();
+    try_double_loops();
+    try_maze();
+    try_corridor();
     printf("calls: %d wrong\n", wrong);
     return wrong != 0;
 }

@@ -3,6 +3,7 @@
 
 use foldheron::{check, excerpt, fresh, instant, instant_heard, instant_heard_logged, instant_logged, name_of};
 use foldheron::{reason, Asked, Doubt, Instant, Logged, Reaction, Reason, Refusal, Summary};
+use foldheron::{alike, corridor, double_loops, maze, Corridor, Likeness, Room, Rooms, RUN_MOST};
 use foldheron::{fetch, install, withdraw, BLOCK_MOST, HELD_MOST, SHELF};
 use std::sync::atomic::{AtomicUsize, Ordering};
 
@@ -28,6 +29,12 @@ const CYCLE: [u8; 40] = [
 
 /// pause; pause, whose two pauses clash.
 const PAUSES: [u8; 26] = [14, 0, 1, 0, 1, 0, 7, 0, 0, 0, 0, 0, 0, 0, 4, 0, 21, 0, 4, 0, 17, 0, 4, 0, 17, 0];
+
+/// pause; emit O, with the first block's interface.
+const PLAIN: [u8; 28] = [14, 0, 1, 0, 1, 0, 7, 0, 1, 0, 1, 0, 0, 0, 4, 0, 21, 0, 4, 0, 17, 0, 6, 0, 18, 0, 1, 0];
+
+/// present I then nothing else emit O.
+const UNLESS: [u8; 30] = [14, 0, 1, 0, 1, 0, 7, 0, 1, 0, 1, 0, 0, 0, 6, 0, 19, 0, 0, 0, 4, 0, 16, 0, 6, 0, 18, 0, 1, 0];
 
 /// A state: the version and the statement count of its block, its phase and the first of its pauses.
 const fn state_of(version: u8, statements: u8, phase: u8, active: u8) -> [u8; 26] {
@@ -263,6 +270,61 @@ fn try_reason() {
     expect!(numbers.iter().map(Reason::number).eq([0, 10, 16]));
 }
 
+/// The first block waits in its second instant where I is present, and the plain one does not.
+fn try_alike() {
+    let mut run = [0xA5; RUN_MOST + 4];
+    let wide = [14, 0, 1, 0, 1, 0, 7, 0, 7, 0, 0, 0, 0, 0, 4, 0, 16, 0];
+    let cut = &BLOCK[..33];
+    expect!(alike(&BLOCK, &BLOCK, &mut run) == Likeness::Alike && alike(&CYCLE, &CYCLE, &mut run) == Likeness::Alike);
+    expect!(alike(cut, cut, &mut run) == Likeness::First(refused(1, 28)) && alike(&PLAIN, cut, &mut run) == Likeness::Second(refused(1, 28)));
+    expect!(alike(&BLOCK, &PAUSES, &mut run) == Likeness::Refused(refused(23, 0)));
+    expect!(alike(&wide, &wide, &mut run) == Likeness::Refused(refused(24, 0)));
+    expect!(alike(&BLOCK, &PLAIN, &mut run[..RUN_MOST - 1]) == Likeness::Refused(refused(12, 0)));
+    expect!(run == [0xA5; RUN_MOST + 4]);
+    expect!(alike(&PLAIN, &BLOCK, &mut run) == Likeness::Different(&[0, 1]));
+    expect!(run[..2] == [0, 1] && run[2..] == [0xA5; RUN_MOST + 2]);
+    let numbers = [Likeness::Alike, Likeness::Different(&[0, 1]), Likeness::Second(refused(1, 28)), Likeness::Refused(refused(25, 0))];
+    expect!(numbers.iter().map(Likeness::number).eq([0, 0, 1, 25]));
+}
+
+/// loop: local L: pause, and its body twice, each copy with a local of its own.
+fn try_double_loops() {
+    let block = [14, 0, 1, 0, 1, 0, 7, 0, 0, 0, 0, 0, 1, 0, 4, 0, 22, 0, 6, 0, 26, 0, 0, 0, 4, 0, 17, 0];
+    let twice = [
+        14, 0, 1, 0, 1, 0, 7, 0, 0, 0, 0, 0, 2, 0, 4, 0, 22, 0, 4, 0, 21, 0, 6, 0, 26, 0, 0, 0, 4, 0, 17, 0, 6, 0, 26, 0, 1, 0, 4, 0, 17, 0,
+    ];
+    let (mut out, mut run) = ([0xA5; BLOCK_MOST], [0; RUN_MOST]);
+    expect!(double_loops(&block, &mut out[..41]) == Err(refused(12, 0)) && double_loops(&BLOCK[..33], &mut out) == Err(refused(1, 28)));
+    expect!(out == [0xA5; BLOCK_MOST]);
+    expect!(double_loops(&block, &mut out) == Ok(&twice) && out[42..] == [0xA5; BLOCK_MOST - 42]);
+    expect!(alike(&block, &twice, &mut run) == Likeness::Alike);
+}
+
+/// In the cycle A wins, B loses and O draws; in the other block O is emitted unless I is there.
+fn try_maze() {
+    expect!(maze(&CYCLE, 0) == Ok(Rooms { winning: 1, losing: 4, drawn: 2 }));
+    expect!(maze(&UNLESS, 0) == Ok(Rooms { winning: 2, losing: 1, drawn: 0 }) && maze(&UNLESS, 1) == Ok(Rooms { winning: 1, losing: 2, drawn: 0 }));
+    expect!(maze(&BLOCK[..33], 2) == Err(refused(1, 28)) && maze(&BLOCK, 2) == Err(refused(11, 0)) && maze(&BLOCK, 1) == Err(refused(26, 0)));
+    let told = [
+        (Room::Signal(0), 0, Corridor::Visible(Room::Dungeon)),
+        (Room::Signal(0), 1, Corridor::Visible(Room::Gate(2, 0))),
+        (Room::Signal(0), 2, Corridor::NoMore),
+        (Room::Gate(2, 1), 0, Corridor::Visible(Room::Signal(1))),
+        (Room::Gate(2, 1), 1, Corridor::Visible(Room::Part(3, 1))),
+        (Room::Part(3, 1), 0, Corridor::Visible(Room::Dungeon)),
+        (Room::Part(3, 0), 0, Corridor::NoMore),
+        (Room::Dungeon, 0, Corridor::NoMore),
+        (Room::Signal(3), 0, Corridor::NoRoom),
+        (Room::Gate(1, 0), 0, Corridor::NoRoom),
+    ];
+    for (room, n, wanted) in told {
+        expect!(corridor(&CYCLE, 0, room, n) == Ok(wanted));
+    }
+    expect!(corridor(&UNLESS, 0, Room::Gate(0, 1), 0) == Ok(Corridor::Secret(Room::Signal(0))));
+    expect!(corridor(&UNLESS, 1, Room::Signal(0), 0) == Ok(Corridor::Visible(Room::Dungeon)));
+    expect!(corridor(&BLOCK, 1, Room::Dungeon, 0) == Err(refused(26, 0)) && corridor(&BLOCK[..33], 0, Room::Dungeon, 0) == Err(refused(1, 28)));
+}
+
 /// The names in the order of document 01's table, those of later requests, and what a refusal says of itself.
 fn try_names() {
     let names = "BROKEN,KIND,EDITION,LIMIT,SIGNAL,EXIT,SHAPE,LOOP,STATE,CLASH,INPUT,ROOM,NOT CONSTRUCTIVE,INDEX,TEXT,QUESTION,OTHER BLOCK";
@@ -289,6 +351,9 @@ fn main() {
     try_heard_logged();
     try_excerpt();
     try_reason();
+    try_alike();
+    try_double_loops();
+    try_maze();
     try_names();
     let wrong = WRONG.load(Ordering::Relaxed);
     println!("calls: {} wrong", wrong);

@@ -1,6 +1,7 @@
 /* How much stack the calls take. Each is run on a stack of its own that was painted before, on blocks as deep as a block may be: 64
- * statements on a path, with up to 6 locals, 16 traps and any loops on it, from fresh and from the states that follow. Prints how many
- * calls took more than FOLDHERON_STACK_MOST; with a word, also the most that each call took. Ends with 0 where none took more. */
+ * statements on a path, with up to 6 locals, 16 traps and any loops on it, from fresh and from the states that follow; the maze on such blocks of its form.
+ * Prints how many calls took more than FOLDHERON_STACK_MOST, and FOLDHERON_ALIKE_STACK_MOST of two blocks compared; with a word, also the most that each call
+ * took. Ends with 0 where none took more. */
 #define _XOPEN_SOURCE 600
 #include "foldheron.h"
 
@@ -8,12 +9,15 @@
 #include <string.h>
 #include <ucontext.h>
 
-enum { DEEPEST = 64, ROOM = 1 << 17, PAINT = 0xA5, CALLS = 8, SPINES = 1500 };
+enum { DEEPEST = 64, ROOM = 1 << 17, PAINT = 0xA5, SPINES = 1500 };
 enum { PRESENT = 19, SUSPEND, SEQUENCE, LOOP, PARALLEL, TRAP, EXIT, LOCAL };
 
-static const char *const names[CALLS] = {"check", "fresh", "instant", "instant_logged", "instant_heard", "instant_heard_logged", "excerpt", "reason"};
+enum { CHECK, FRESH, INSTANT, LOGGED, HEARD, HEARD_LOGGED, EXCERPT, REASON, INSTALL, FETCH, WITHDRAW, ALIKE, DOUBLE_LOOPS, MAZE, CORRIDOR, CALLS };
+static const char *const names[CALLS] = {"check",  "fresh",   "instant", "instant_logged", "instant_heard", "instant_heard_logged", "excerpt", "reason",
+                                         "install", "fetch", "withdraw", "alike", "double_loops", "maze", "corridor"};
 static uint8_t block[FOLDHERON_BLOCK_MOST], state[FOLDHERON_STATE_SIZE], record[FOLDHERON_RECORD_SIZE], painted[ROOM];
 static size_t block_size, most[CALLS];
+static unsigned mazes;
 static uint64_t inputs, absent;
 static int call, over;
 static uint16_t asked;
@@ -23,11 +27,8 @@ static const uint8_t *top;
 static ucontext_t outside, inside;
 static uint32_t chance = 1;
 
-/* The shelf's calls are numbered after the others. */
-enum { INSTALL = CALLS, FETCH, WITHDRAW, ALL };
-static const char *const shelf_names[] = {"install", "fetch", "withdraw"};
-static uint8_t shelf[FOLDHERON_SHELF_SIZE], fetched[FOLDHERON_BLOCK_MOST];
-static size_t shelf_most[ALL - CALLS];
+static uint8_t shelf[FOLDHERON_SHELF_SIZE], fetched[FOLDHERON_BLOCK_MOST], shown[FOLDHERON_RUN_MOST];
+static uint16_t room;
 
 /* A number below this one. */
 static unsigned any(unsigned below)
@@ -79,28 +80,32 @@ static void run(void)
     uint8_t a[FOLDHERON_LOGGED_SIZE];
     top = a + sizeof a;
     switch (call) {
+    case CHECK: number = foldheron_check(block, block_size, a, FOLDHERON_CHECK_SIZE); break;
+    case FRESH: number = foldheron_fresh(block, block_size, state, sizeof state, a, FOLDHERON_FRESH_SIZE); break;
+    case INSTANT: number = foldheron_instant(block, block_size, state, sizeof state, inputs, a, FOLDHERON_INSTANT_SIZE); break;
+    case LOGGED:
+        number = foldheron_instant_logged(block, block_size, state, sizeof state, inputs, record, sizeof record, 0, a, sizeof a);
+        break;
+    case HEARD: number = foldheron_instant_heard(block, block_size, state, sizeof state, inputs, absent, a, FOLDHERON_INSTANT_SIZE); break;
+    case HEARD_LOGGED:
+        number = foldheron_instant_heard_logged(block, block_size, state, sizeof state, inputs, absent, record, sizeof record, 0, a, sizeof a);
+        break;
+    case EXCERPT: number = foldheron_excerpt(block, block_size, DEEPEST - 1, a, FOLDHERON_EXCERPT_SIZE); break;
+    case REASON: number = foldheron_reason(block, block_size, state, sizeof state, inputs, absent, asked, about, a, FOLDHERON_REASON_SIZE); break;
     case INSTALL: number = foldheron_install(shelf, sizeof shelf, 0, 0, block, block_size, a, FOLDHERON_INSTALL_SIZE); break;
     case FETCH: number = foldheron_fetch(shelf, sizeof shelf, 0, 0, fetched, sizeof fetched, a, FOLDHERON_FETCH_SIZE); break;
     case WITHDRAW: number = foldheron_withdraw(shelf, sizeof shelf, 0, 0, a, FOLDHERON_WITHDRAW_SIZE); break;
-    case 0: number = foldheron_check(block, block_size, a, FOLDHERON_CHECK_SIZE); break;
-    case 1: number = foldheron_fresh(block, block_size, state, sizeof state, a, FOLDHERON_FRESH_SIZE); break;
-    case 2: number = foldheron_instant(block, block_size, state, sizeof state, inputs, a, FOLDHERON_INSTANT_SIZE); break;
-    case 3:
-        number = foldheron_instant_logged(block, block_size, state, sizeof state, inputs, record, sizeof record, 0, a, sizeof a);
-        break;
-    case 4: number = foldheron_instant_heard(block, block_size, state, sizeof state, inputs, absent, a, FOLDHERON_INSTANT_SIZE); break;
-    case 5:
-        number = foldheron_instant_heard_logged(block, block_size, state, sizeof state, inputs, absent, record, sizeof record, 0, a, sizeof a);
-        break;
-    case 6: number = foldheron_excerpt(block, block_size, DEEPEST - 1, a, FOLDHERON_EXCERPT_SIZE); break;
-    default: number = foldheron_reason(block, block_size, state, sizeof state, inputs, absent, asked, about, a, FOLDHERON_REASON_SIZE);
+    case ALIKE: number = foldheron_alike(block, block_size, block, block_size, shown, sizeof shown, a, FOLDHERON_ALIKE_SIZE); break;
+    case DOUBLE_LOOPS: number = foldheron_double_loops(block, block_size, fetched, sizeof fetched, a, FOLDHERON_DOUBLE_LOOPS_SIZE); break;
+    case MAZE: number = foldheron_maze(block, block_size, inputs, a, FOLDHERON_MAZE_SIZE); break;
+    default: number = foldheron_corridor(block, block_size, inputs, room, about, 2, 0, a, FOLDHERON_CORRIDOR_SIZE);
     }
 }
 
 /* Runs a call and counts the bytes from its caller's answer down to the lowest that is no longer painted. */
 static uint16_t measure(int which)
 {
-    size_t low = 0, *so_far = which < CALLS ? &most[which] : &shelf_most[which - CALLS];
+    size_t low = 0, limit = which == ALIKE ? FOLDHERON_ALIKE_STACK_MOST : FOLDHERON_STACK_MOST;
     call = which;
     memset(painted, PAINT, sizeof painted);
     getcontext(&inside);
@@ -112,9 +117,9 @@ static uint16_t measure(int which)
     while (low < sizeof painted && painted[low] == PAINT)
         low++;
     size_t took = (size_t)(top - (painted + low));
-    over += took > FOLDHERON_STACK_MOST;
-    if (took > *so_far)
-        *so_far = took;
+    over += took > limit;
+    if (took > most[which])
+        most[which] = took;
     return number;
 }
 
@@ -123,7 +128,7 @@ static void ask(void)
 {
     for (asked = 0; asked < 3; asked++) {
         about = asked == 1 ? 2 : any(2 * DEEPEST);
-        measure(7);
+        measure(REASON);
     }
 }
 
@@ -132,15 +137,18 @@ static void ask(void)
 static unsigned try_block(void)
 {
     unsigned answered = 0;
-    if (measure(0) != 0)
+    if (measure(CHECK) != 0)
         return 0;
-    measure(6);
-    measure(1);
+    measure(EXCERPT);
+    measure(DOUBLE_LOOPS);
+    if (any(8) == 0)
+        measure(ALIKE);
+    measure(FRESH);
     for (int n = 0; n < 4; n++) {
         inputs = n == 0 ? 2 : any(4);
         absent = any(4) & ~inputs;
         ask();
-        answered += measure(2 + (int)any(4)) == 0;
+        answered += measure(INSTANT + (int)any(4)) == 0;
     }
     return answered;
 }
@@ -153,6 +161,35 @@ static void try_shelf(void)
     measure(INSTALL);
     measure(FETCH);
     measure(WITHDRAW);
+}
+
+/* The maze's calls on a block of its form: tests, mostly of the output, which is not decided at first, and parallels on the path, with nothing in a test's other
+ * branch and an emit beside a parallel's arm. */
+static void try_maze(void)
+{
+    unsigned after[DEEPEST], waiting = 0;
+    memset(block, 0, sizeof block);
+    block_size = 0;
+    put(1, 1);
+    block[8] = 2;
+    block[10] = 1;
+    for (int at = 0; at < DEEPEST - 1; at++) {
+        unsigned kind = any(3) == 0 ? PARALLEL : PRESENT, leaf = kind == PRESENT ? 16 : 18;
+        put(kind, any(32) == 0 ? any(2) : 2);
+        if (any(2) == 0)
+            put(leaf, 2);
+        else
+            after[waiting++] = leaf;
+    }
+    put(18, 2);
+    while (waiting > 0)
+        put(after[--waiting], 2);
+    inputs = any(4);
+    mazes += measure(MAZE) == 0;
+    for (room = 0; room < 4; room++) {
+        about = room == 0 ? 2 : any(2 * DEEPEST);
+        measure(CORRIDOR);
+    }
 }
 
 /* A path of one kind, or of any: locals and traps as far as they may nest. */
@@ -180,14 +217,14 @@ int main(int count, char **words)
     for (unsigned kind = PRESENT; kind <= LOCAL; kind++)
         for (int n = 0; n < 20; n++)
             answered += try_path(kind);
-    for (int n = 0; n < SPINES; n++)
+    for (int n = 0; n < SPINES; n++) {
         answered += try_path(0);
+        try_maze();
+    }
     for (int n = 0; count > 1 && n < CALLS; n++)
         printf("%s: %lu bytes\n", names[n], (unsigned long)most[n]);
-    for (int n = 0; count > 1 && n < ALL - CALLS; n++)
-        printf("%s: %lu bytes\n", shelf_names[n], (unsigned long)shelf_most[n]);
     if (count > 1)
-        printf("%u instants answered\n", answered);
-    printf("stack: %d calls over %d bytes\n", over, FOLDHERON_STACK_MOST);
+        printf("%u instants answered, %u mazes\n", answered, mazes);
+    printf("stack: %d calls over %d bytes, or %d where two blocks are compared\n", over, FOLDHERON_STACK_MOST, FOLDHERON_ALIKE_STACK_MOST);
     return over != 0;
 }
