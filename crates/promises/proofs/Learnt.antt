@@ -23,11 +23,21 @@ use Rattle.reasons.specs.declared.asked.Asked.{Asked}
 use Rattle.foldheron.specs.declared.say_why.Reason.{Reason}
 use Rattle.foldheron.specs.Reasons.{reason-values, reason-owed}
 use Rattle.shelf.specs.declared.Shelved.{Shelved}
+use Rattle.alike.specs.declared.Likeness.{Likeness}
+use Rattle.alike.specs.Calls as alike
+use Rattle.writing.specs.declared.Wrote.{Wrote}
+use Rattle.writing.specs.Answers.{roomed, wrote-values, wrote-owed, out-owed}
+use Rattle.doubled.specs.Copies.{doubling}
+use Rattle.maze.specs.declared.Maze.{Maze}
+use Rattle.maze.specs.declared.Room.{Room}
+use Rattle.maze.specs.declared.Corridor.{Corridor}
+use Rattle.maze.specs.Views.{Views, view}
+use Rattle.maze.specs.Ways.{room-of, way-told, way-in}
 use Rattle.reaction.specs.Answers.{instant-told}
 use Rattle.refusals.specs.Refusals.{number}
 use Rattle.foldheron.specs.Answers.{check-values, check-owed, begun-values, begun-owed, state-owed, part-owed, part-lies}
 use Rattle.promises.specs.Calls.{_holds_, CheckCalled, FreshCalled, CalledFor, LoggedFor, with-set, with-two, PartCalled, ExcerptCalled, ReasonCalled}
-use Rattle.promises.specs.Calls.{InstallCalled, FetchCalled, WithdrawCalled, NumberCalled}
+use Rattle.promises.specs.Calls.{InstallCalled, FetchCalled, WithdrawCalled, NumberCalled, AlikeCalled, DoubleCalled, MazeCalled, CorridorCalled}
 
 module _ (b : List ℕ) where
   pub check-says : {r : Checked} → CheckCalled b r → check-values r ≡ check-owed (reading b)
@@ -101,3 +111,16 @@ module _ {s : List ℕ} {party name : ℕ} where
 
 pub number-says : {why : Why} {k : ℕ} → NumberCalled why k → k ≡ number why
 number-says c = c .call .learnt
+
+pub alike-says : {first second run run′ : List ℕ} {r : Likeness} → AlikeCalled first second run r run′ → alike.Owed (alike.front first second run) r run run′
+alike-says c = c .call .learnt
+
+pub double-says : {b out out′ : List ℕ} {r : Wrote} → DoubleCalled b out r out′
+    → (wrote-values r ≡ wrote-owed (roomed (doubling b) (length out))) × (out′ ≡ out-owed (roomed (doubling b) (length out)) out)
+double-says c = c .call .learnt
+
+pub maze-says : {b : List ℕ} {set : ℕ} {r : Maze} → MazeCalled b set r → Views (view b set) r
+maze-says c = c .call .learnt
+
+pub corridor-says : {b : List ℕ} {set n : ℕ} {room : Room} {r : Corridor} → CorridorCalled b set room n r → way-told r ≡ way-in (view b set) (room-of room) n
+corridor-says c = c .call .learnt

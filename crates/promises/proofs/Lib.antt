@@ -17,4 +17,7 @@ pub mod Demand1
 pub mod Heard
 pub mod ShelfAnswers
 pub mod Shelves
+pub mod Beside
+pub mod LikeRuns
+pub mod Likeness
 pub mod Promises

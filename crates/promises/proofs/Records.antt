@@ -61,7 +61,7 @@ unfolding state-record
 record-bytes v n st = laid-bytes state-widths (state-values v n (phase-of st) (word 64 (active-of st)) (word 64 (upper (active-of st))))
 
 -- No bit at or above the number of inputs, and no signal in both sets: not the refusal 11.
-none-above : (k w : ℕ) → ((n : ℕ) → T (bits w n) → n < k) → undeclared-input k w ≡ false
+pub none-above : (k w : ℕ) → ((n : ℕ) → T (bits w n) → n < k) → undeclared-input k w ≡ false
 unfolding undeclared-input
 none-above k w f = ap (λ (x : ℕ). not (eqb x 0)) (bits-ext (λ n. sym (bits-shift w k n) ∙ clear n ∙ sym (bits-zero n)))
   where

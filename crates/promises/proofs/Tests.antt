@@ -208,7 +208,7 @@ module _ (g : Good) (A : Numbers) where
       outer none q f = let z : _≡_ {A = ℕ} 0 1 = cc in absurd (omega arith)
       outer (some m) q f = inner m q (lowest 128 (clashes (g .body) A m)) refl f
 
-or-none : (x y : Bool) → (x || y) ≡ false → (x ≡ false) × (y ≡ false)
+pub or-none : (x y : Bool) → (x || y) ≡ false → (x ≡ false) × (y ≡ false)
 or-none true y e = absurd (true≢false e)
 or-none false y e = (refl, e)
 

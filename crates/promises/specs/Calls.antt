@@ -19,6 +19,11 @@ use Rattle.foldheron.specs.declared.Logged.{Logged}
 use Rattle.reasons.specs.declared.asked.Asked.{Asked}
 use Rattle.foldheron.specs.declared.say_why.Reason.{Reason}
 use Rattle.shelf.specs.declared.Shelved.{Shelved}
+use Rattle.alike.specs.declared.Likeness.{Likeness}
+use Rattle.writing.specs.declared.Wrote.{Wrote}
+use Rattle.maze.specs.declared.Maze.{Maze}
+use Rattle.maze.specs.declared.Room.{Room}
+use Rattle.maze.specs.declared.Corridor.{Corridor}
 use Rattle.reaction.specs.Answers.{instant-told}
 use Rattle.refusals.proofs.number_of.Reads as number_of
 use Rattle.foldheron.proofs.check.Reads as check
@@ -33,6 +38,10 @@ use Rattle.foldheron.proofs.reason.Reads as reason
 use Rattle.shelf.proofs.install.Reads as install
 use Rattle.shelf.proofs.fetch.Reads as fetch
 use Rattle.shelf.proofs.withdraw.Reads as withdraw
+use Rattle.alike.proofs.alike.Reads as alike
+use Rattle.copies.proofs.double_loops.Reads as double_loops
+use Rattle.maze.proofs.view.maze.Reads as maze
+use Rattle.maze.proofs.ways.corridor.Reads as corridor
 
 -- Where something lent lies in memory, and a reference to what it holds.
 pub record Place : Type 0 where
@@ -116,6 +125,23 @@ pub record FetchCalled (s : List ℕ) (party name : ℕ) (part : List ℕ) (k p 
 -- `withdraw` of a party's name on the lent shelf s answers r and leaves s′.
 pub record WithdrawCalled (s : List ℕ) (party name : ℕ) (r : Shelved) (s′ : List ℕ) : Type 0 where
   pub call : Call 1 λ κs at. withdraw.Learnt κs (at 0 holds s, (party, (name, tt))) r (at 0 holds s′, (party, (name, tt)))
+
+-- `alike` of two blocks on the lent bytes run answers r and leaves run′.
+pub record AlikeCalled (first second run : List ℕ) (r : Likeness) (run′ : List ℕ) : Type 0 where
+  pub call : Call 3 λ κs at.
+      alike.Learnt κs (at 0 holds first, (at 1 holds second, (at 2 holds run, tt))) r (at 0 holds first, (at 1 holds second, (at 2 holds run′, tt)))
+
+-- `double_loops` of the block b into the lent bytes out answers r and leaves out′.
+pub record DoubleCalled (b out : List ℕ) (r : Wrote) (out′ : List ℕ) : Type 0 where
+  pub call : Call 2 λ κs at. double_loops.Learnt κs (at 0 holds b, (at 1 holds out, tt)) r (at 0 holds b, (at 1 holds out′, tt))
+
+-- `maze` of the block b with the inputs of a set present answers r.
+pub record MazeCalled (b : List ℕ) (set : ℕ) (r : Maze) : Type 0 where
+  pub call : Call 1 λ κs at. maze.Learnt κs (at 0 holds b, (set, tt)) r (at 0 holds b, (set, tt))
+
+-- `corridor` number n of a room of that maze answers r.
+pub record CorridorCalled (b : List ℕ) (set : ℕ) (room : Room) (n : ℕ) (r : Corridor) : Type 0 where
+  pub call : Call 1 λ κs at. corridor.Learnt κs (at 0 holds b, (set, (room, (n, tt)))) r (at 0 holds b, (set, (room, (n, tt))))
 
 -- `number_of` a refusal answers k.
 pub record NumberCalled (why : Why) (k : ℕ) : Type 0 where

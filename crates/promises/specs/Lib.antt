@@ -6,3 +6,5 @@ pub mod FirstRecord
 pub mod Demand1
 pub mod Why
 pub mod Shelves
+pub mod Beside
+pub mod Likeness
