@@ -47,17 +47,17 @@ module _ (g : Good) where
   in-present (All set) f n t = below n (g .header .inputs) (λ l. f (record { signal = n; is-set = t; at-or-above = l }))
   in-present (Two p a) f n t = below n (g .header .inputs) (λ l. f (inl (record { signal = n; is-set = t; at-or-above = l })))
 
-  in-absent : (w : Given) → (Wrong w → ⊥) → (n : ℕ) → T (heard-of g w .heard-absent n) → n < g .header .inputs
+  pub in-absent : (w : Given) → (Wrong w → ⊥) → (n : ℕ) → T (heard-of g w .heard-absent n) → n < g .header .inputs
   in-absent (All set) f n t = rest-declared (block-of g) (bits set) n t
   in-absent (Two p a) f n t = below n (g .header .inputs) (λ l. f (inr (inl (record { signal = n; is-set = t; at-or-above = l }))))
 
-  in-one : g .header .inputs ≤ 64 → (w : Given) → (Wrong w → ⊥) → (n : ℕ) → T (heard-of g w .heard-present n) → T (heard-of g w .heard-absent n) → ⊥
+  pub in-one : g .header .inputs ≤ 64 → (w : Given) → (Wrong w → ⊥) → (n : ℕ) → T (heard-of g w .heard-present n) → T (heard-of g w .heard-absent n) → ⊥
   in-one few (All set) f n s t = rest-apart (block-of g) (bits set) n s t
   in-one few (Two p a) f n s t =
       let l : n < g .header .inputs = in-present (Two p a) f n s in
       f (inr (inr (record { signal = n; of-the-64 = omega arith; is-present = s; is-absent = t })))
 
-  pub declared : g .header .inputs ≤ 64 → (w : Given) → wrong-inputs (g .header .inputs) w ≡ false → Inputs g
+  unfoldable pub declared : g .header .inputs ≤ 64 → (w : Given) → wrong-inputs (g .header .inputs) w ≡ false → Inputs g
   declared few w e =
       let f = inputs-none (g .header .inputs) w e in
       record { given = w; present-declared = in-present w f; absent-declared = in-absent w f; apart = in-one few w f }
@@ -74,7 +74,7 @@ pub data ToldFrom (g : Good) : State → List Given → List Instant → Type 0 
       → instant-told r ≡ told-reaction (block-of g) (answer-from g st w) → ToldFrom g (after st (answer-from g st w)) ws rs → ToldFrom g st (w ∷ ws) (r ∷ rs)
 
 module _ (b : List ℕ) (g : Good) (e : reading b ≡ good g) where
-  few : g .header .inputs ≤ 64
+  pub few : g .header .inputs ≤ 64
   few = omega (arith, sound b g e .signals)
 
   wrong-refused : (s : List ℕ) (st : State) → Holds g s st → (w : Given) → wrong-inputs (g .header .inputs) w ≡ true → verdict b s w false ≡ refused INPUT 0

@@ -101,7 +101,7 @@ pub number-of-returns : Returns 0 number-of-kinds.ps number-of.Asked number-of-s
 number-of-returns = record { nothing-asked = λ κs a. tt; returns = λ M. number-of-met.met }
 
 -- and for all that is lent there is exactly one answer, with exactly one content of each lent byte afterwards.
-anywhere : ℕ → Place
+abbrev pub anywhere : ℕ → Place
 anywhere i = record { ptr = (0, 0); name = 0 }
 
 pub check-has-one-answer : (b : List ℕ) → ExactlyOne (CheckCalled b)

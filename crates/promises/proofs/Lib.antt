@@ -20,4 +20,6 @@ pub mod Shelves
 pub mod Beside
 pub mod LikeRuns
 pub mod Likeness
+pub mod Doubling
+pub mod MazeInstants
 pub mod Promises

@@ -81,7 +81,7 @@ pub alike-returns : Returns 3 alike-kinds.ps alike-reads.Asked alike-statement.s
 alike-returns = record { nothing-asked = λ κs a. tt; returns = λ M. alike-met.met }
 
 -- A block has one reading.
-one-reading : (b : List ℕ) (g x : Good) → reading b ≡ good g → reading b ≡ good x → x ≡ g
+pub one-reading : (b : List ℕ) (g x : Good) → reading b ≡ good g → reading b ≡ good x → x ≡ g
 one-reading b g x e q = let d : good x ≡ good g = sym q ∙ e in cc
 
 module _ (first second : List ℕ) where

@@ -28,7 +28,7 @@ use Rattle.reaction.specs.declared.Given.the-variants.{All, Two}
 use Rattle.promises.specs.Promised.{Holds, Inputs}
 
 -- Bytes written.
-no-bytes : Bytes []
+pub no-bytes : Bytes []
 no-bytes = record { byte = λ i. omega arith }
 
 more-bytes : (x : ℕ) (xs : List ℕ) → x < 256 → Bytes xs → Bytes (x ∷ xs)
@@ -41,11 +41,11 @@ more-bytes x xs h r = record { byte = at }
 rest-bytes : (x : ℕ) (xs : List ℕ) → Bytes (x ∷ xs) → Bytes xs
 rest-bytes x xs r = record { byte = λ i. r .byte (suc i) }
 
-both-bytes : (xs ys : List ℕ) → Bytes xs → Bytes ys → Bytes (xs ++ ys)
+pub both-bytes : (xs ys : List ℕ) → Bytes xs → Bytes ys → Bytes (xs ++ ys)
 both-bytes [] ys f h = h
 both-bytes (x ∷ xs) ys f h = more-bytes x (xs ++ ys) (f .byte 0) (both-bytes xs ys (rest-bytes x xs f) h)
 
-in-bytes-bytes : (n x : ℕ) → Bytes (in-bytes n x)
+pub in-bytes-bytes : (n x : ℕ) → Bytes (in-bytes n x)
 unfolding in-bytes
 in-bytes-bytes zero x = no-bytes
 in-bytes-bytes (suc n) x = more-bytes (x % 256) (in-bytes n (x / 256)) (omega arith) (in-bytes-bytes n (x / 256))

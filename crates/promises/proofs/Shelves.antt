@@ -2,7 +2,7 @@
 -- proved in the file that the `use` lines name. Assumes nothing.
 use mathlib.Core.Path.{_≡_, refl, sym, ap, _∙_, subst}
 use mathlib.Core.Logic.{_≢_}
-use mathlib.Core.List.{List, [], _∷_}
+use mathlib.Core.List.{List, []}
 use Prim.Native.Nat.{ℕ, zero, suc, _+_, _<_}
 use Rattle.records.specs.Numerals.{Bytes}
 use Rattle.shelf.specs.Entries.{size, in-use, shelf-of, own, entries}
@@ -31,6 +31,7 @@ use Rattle.promises.specs.Calls.{Place, InstallCalled, FetchCalled, With
 use Rattle.promises.specs.Tests.{First}
 use Rattle.promises.specs.Demand1.{Returns, ExactlyOne, number-in, place-in}
 use Rattle.promises.specs.Shelves.{ShelfOf, install-tests, fetch-tests, withdraw-tests, PlacedInBlock, ShelfCalled, installs, ShelfCalls, told-party, heard, answer-of}
+use Rattle.promises.proofs.Demand1.{anywhere}
 use Rattle.promises.proofs.Learnt.{install-says, fetch-part, fetch-number, fetch-place, withdraw-says}
 use Rattle.promises.proofs.ShelfAnswers.{install-first, fetch-first, withdraw-first, install-placed, shelved-told-apart, an-install, a-withdrawal, calls-are, last-is}
 
@@ -45,9 +46,6 @@ pub withdraw-returns : Returns 1 withdraw-kinds.ps withdraw-reads.Asked withdraw
 withdraw-returns = record { nothing-asked = λ κs a. tt; returns = λ M. withdraw-met.met }
 
 -- and for all that is lent there is exactly one answer, with exactly one content of each lent byte afterwards.
-anywhere : ℕ → Place
-anywhere i = record { ptr = (0, 0); name = 0 }
-
 pub install-has-one-answer : (s : List ℕ) (party name : ℕ) (b : List ℕ) → ExactlyOne (λ (x : Shelved × List ℕ). InstallCalled s party name b (x .0) (x .1))
 install-has-one-answer s party name b =
     let a = an-install s party name b in

@@ -8,3 +8,5 @@ pub mod Why
 pub mod Shelves
 pub mod Beside
 pub mod Likeness
+pub mod Doubling
+pub mod Mazes
