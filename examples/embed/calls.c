@@ -535,6 +535,36 @@ static void try_alike(void)
     EXPECT(foldheron_alike(block, sizeof block, plain, sizeof plain, run, 1, a.bytes, 31) == FOLDHERON_ANSWER && guarded(&a, 0) && run[0] == 0xA5);
 }
 
+/* Six arms in parallel, each a loop of so many pauses that its own input suspends: one state before the first instant, then that many to the sixth power. */
+static size_t build_arms(uint8_t *bytes, unsigned pauses_each)
+{
+    static const uint8_t head[] = {14, 0, 1, 0, 1, 0, 7, 0, 6, 0, 0, 0, 0, 0};
+    size_t size = sizeof head;
+    memcpy(bytes, head, sizeof head);
+    for (uint8_t arm = 0; arm < 6; arm++) {
+        const uint8_t above[] = {4, 0, 23, 0, 6, 0, 20, 0, arm, 0, 4, 0, 22, 0}, more[] = {4, 0, 21, 0, 4, 0, 17, 0};
+        size_t from = arm == 5 ? 4 : 0;
+        memcpy(bytes + size, above + from, sizeof above - from);
+        size += sizeof above - from;
+        for (unsigned n = 1; n < pauses_each; n++, size += sizeof more)
+            memcpy(bytes + size, more, sizeof more);
+        memcpy(bytes + size, more + 4, 4);
+        size += 4;
+    }
+    return size;
+}
+
+/* 730 pairs of states of a block with itself are compared; 4,097 are too many. */
+static void try_pairs(void)
+{
+    static const uint64_t same[] = {0, 0, 0, 0}, pairs[] = {25, 0, 0, 0};
+    uint8_t arms[FOLDHERON_BLOCK_MOST];
+    size_t size = build_arms(arms, 3);
+    EXPECT(size == 214 && compares(arms, size, arms, size, FOLDHERON_RUN_MOST, same));
+    size = build_arms(arms, 4);
+    EXPECT(size == 262 && compares(arms, size, arms, size, FOLDHERON_RUN_MOST, pairs));
+}
+
 /* The block with its loop bodies doubled: these bytes, or this refusal; no other lent byte changes. */
 static int doubles(const uint8_t *bytes, size_t size, size_t room, uint16_t number, size_t place, const uint8_t *doubled, size_t count)
 {
@@ -634,6 +664,7 @@ int main(void)
     try_withdraw();
     try_room();
     try_alike();
+    try_pairs();
     try_double_loops();
     try_maze();
     try_corridor();
