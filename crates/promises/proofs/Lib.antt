@@ -22,4 +22,5 @@ pub mod LikeRuns
 pub mod Likeness
 pub mod Doubling
 pub mod MazeInstants
+pub mod Mazes
 pub mod Promises
