@@ -1,15 +1,15 @@
 -- The claim on bytes: what is written reads back good, as the doubled block with its header, and from fresh any run of it and of the block
--- that was read is the same. By what a good reading gives, and by reading back what was written. Assumes nothing.
+-- that was read is the same; over a limit the reading is 4. By what a good reading gives, and by reading back what was written. Assumes nothing.
 use mathlib.Core.Path.{_≡_, refl, sym, ap, _∙_, subst}
 use mathlib.Core.Bool.{Bool, true, false, cond}
 use mathlib.Core.List.{List, map}
 use Prim.Native.Nat.{ℕ}
 use native.Mathlib.Omega.{arith}
 use lib.Dec.{T}
-use Rattle.sets.proofs.Members.{of-true}
+use Rattle.sets.proofs.Members.{of-true, of-false}
 use Rattle.rules.specs.States.{fresh}
 use Rattle.theorems.specs.Traces.{InputSet, run}
-use Rattle.block.specs.Format.{LIMIT, Good, good, reading}
+use Rattle.block.specs.Format.{LIMIT, Good, good, turned-down, reading}
 use Rattle.block.proofs.GoodReadings.{sound}
 use Rattle.likeness.specs.Runs.{SameRun}
 use Rattle.likeness.proofs.Runs.{heard-there}
@@ -17,9 +17,9 @@ use Rattle.records.specs.Numerals.{Bytes}
 use Rattle.writing.specs.Answers.{Writing, writes, refuses}
 use Rattle.writing.specs.Written.{block-bytes, written}
 use Rattle.writing.proofs.Same.{good-writable}
-use Rattle.writing.proofs.Back.{read-back}
+use Rattle.writing.proofs.Back.{read-back, read-over}
 use Rattle.doubled.specs.Copies.{doubled, doubled-header, within-limits, doubled-writing, doubling, doubling-of}
-use Rattle.doubled.proofs.Runs.{Sane, block-of, doubled-writable, from-fresh-any-run-is-the-same}
+use Rattle.doubled.proofs.Runs.{Sane, block-of, doubled-orderly, doubled-writable, writable-within, from-fresh-any-run-is-the-same}
 
 -- What is written for a good block.
 writes-limit : {P : Type 0} {bs : List ℕ} → refuses LIMIT 0 ≡ writes bs → P
@@ -38,6 +38,13 @@ module _ (b : List ℕ) (bytes : Bytes b) (g : Good) (read : reading b ≡ good 
       → SameRun (run (block-of (g .header) (g .body)) fresh givens)
       (run (block-of (g .header) (doubled (g .header) (g .body))) fresh (map (heard-there (block-of (g .header) (g .body)) (doubled (g .header) (g .body))) givens))
   runs-are-the-same = from-fresh-any-run-is-the-same (g .header) (g .body) sane
+
+  -- Where the doubled block passes a limit, reading its bytes gives 4.
+  pub over-a-limit-reads-4 : within-limits (doubled-header (g .header) (g .body)) (doubled (g .header) (g .body)) ≡ false
+      → (at : ℕ) × (reading (block-bytes (doubled-header (g .header) (g .body)) (doubled (g .header) (g .body))) ≡ turned-down LIMIT at)
+  over-a-limit-reads-4 e =
+      read-over (doubled-header (g .header) (g .body)) (doubled (g .header) (g .body)) (doubled-orderly (g .header) (g .body) sane)
+      (λ w. of-false e (writable-within (g .header) (g .body) sane w))
 
   module _ (bs : List ℕ) (w : doubling b ≡ writes bs) where
     its-writing : (within-limits (doubled-header (g .header) (g .body)) (doubled (g .header) (g .body)) ≡ true)

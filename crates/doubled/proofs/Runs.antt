@@ -1,6 +1,6 @@
 -- From fresh, any run of a good block and of its doubled block is the same: final statuses, codes, rounds and NOT CONSTRUCTIVE. The
 -- doubled block is a copy that passes the check, and a state of the one stands for a state of the other: never both copies of a loop
--- body are active, since the doubled block's state is legal. And where it is within the limits it can be written. Assumes nothing.
+-- body are active, since the doubled block's state is legal. And it can be written exactly where it is within the limits. Assumes nothing.
 use mathlib.Core.Path.{_≡_, refl, sym, _∙_, ap, subst, subst⁻¹}
 use mathlib.Core.Logic.{_⊎_, inl, inr}
 use mathlib.Core.Bool.{Bool, true, false, _&&_, _||_}
@@ -8,10 +8,10 @@ use mathlib.Core.List.{List, map}
 use Prim.Native.Nat.{ℕ, _+_, _≤_, _<_}
 use native.Mathlib.Nat.{zero-add, le-refl}
 use native.Mathlib.Omega.{arith}
-use lib.Dec.{T, ltb, leb, leb→le, ltb→lt}
+use lib.Dec.{T, ltb, leb, leb→le, le→leb, ltb→lt}
 use lib.ListN.{length, getD}
 use Rattle.sets.specs.Numbers.{Numbers, empty, listed}
-use Rattle.sets.proofs.Members.{is-true, of-true, and-left, and-right, or-left, or-out}
+use Rattle.sets.proofs.Members.{is-true, of-true, and-in, and-left, and-right, or-left, or-out}
 use Rattle.rules.specs.Statements.{Block, Stmt, pauses, from, Numbered, Trapped}
 use Rattle.rules.specs.Instant.{held, started}
 use Rattle.rules.specs.Loops.{loops-pass}
@@ -28,6 +28,7 @@ use Rattle.likeness.proofs.Forms.{like-done}
 use Rattle.likeness.proofs.Images.{image-closed}
 use Rattle.likeness.proofs.Runs.{declared, with-body, heard-there, fresh-run-same}
 use Rattle.writing.specs.Written.{Writable}
+use Rattle.writing.proofs.Back.{Orderly}
 use Rattle.doubled.specs.Copies.{copies, renamed, itself, doubled, doubled-header, within-limits}
 use Rattle.doubled.proofs.Copied.{Copy, copy-into, copy-trapped, copy-passes}
 use Rattle.doubled.proofs.Twins.{Stands, started-like, resumed-like}
@@ -87,7 +88,7 @@ module _ (h : Header) (t : Stmt) (sane : Sane h t) where
     where
       to : (m : ℕ) → T (B m && listed (pauses t′) m) → T (A (origin m) && listed (pauses t) (origin m))
       to m s =
-          Rattle.sets.proofs.Members.and-in (A (origin m)) (listed (pauses t) (origin m)) (f .there m (and-left (B m) (listed (pauses t′) m) s))
+          and-in (A (origin m)) (listed (pauses t) (origin m)) (f .there m (and-left (B m) (listed (pauses t′) m) s))
           (copy-into is-copy m (and-right (B m) (listed (pauses t′) m) s))
 
       back-to : (n : ℕ) → T (A n && listed (pauses t) n) → (m : ℕ) × T (B m && listed (pauses t′) m) × (origin m ≡ n)
@@ -95,7 +96,7 @@ module _ (h : Header) (t : Stmt) (sane : Sane h t) where
           let x = f .back n (and-left (A n) (listed (pauses t) n) s) in
           let l : x .0 < length (pauses t′) = r .in-block (x .0) (x .1) in
           let i = subst⁻¹ (λ (xs : List ℕ). T (listed xs (x .0))) doubled-numbered (from-in 0 (length (pauses t′)) (x .0) (omega arith) (omega arith)) in
-          (x .0, Rattle.sets.proofs.Members.and-in (B (x .0)) (listed (pauses t′) (x .0)) (x .1) i, x .2)
+          (x .0, and-in (B (x .0)) (listed (pauses t′) (x .0)) (x .1) i, x .2)
 
   steps-like : (st st′ : State) → SamePhase (Image origin) st st′ → Legal t′ st′ → Like (Image origin) (declared (block-of h t)) itself (step t st) (step t′ st′)
   unfolding step Legal started
@@ -120,27 +121,53 @@ module _ (h : Header) (t : Stmt) (sane : Sane h t) where
   unfolding doubled
   next-there = renamed-next itself (h .inputs + h .outputs) (copies 0 t)
 
-  -- Within the limits the doubled block can be written.
+  -- All of the doubled block is in order but, it may be, the limits;
+  pub doubled-orderly : Orderly (doubled-header h t) t′
+  unfolding doubled-header
+  doubled-orderly = record {
+    version-fits = sane .writable .version-fits;
+    interface = omega (arith, sane .writable .signals);
+    trapped = copy-trapped is-copy 0 (sane .writable .trapped);
+    pauses-numbered = doubled-numbered;
+    scoped = scoped-there;
+    locals-counted = refl;
+    locals-next = next-there;
+    loops = is-true (loops-pass t′) (copy-passes is-copy loops-good .passes);
+  }
+
+  -- within them it can be written,
   pub doubled-writable : T (within-limits (doubled-header h t) t′) → Writable (doubled-header h t) t′
-  unfolding within-limits doubled-header
+  unfolding within-limits
   doubled-writable w =
       let d = doubled-header h t in
+      let o = doubled-orderly in
       let w₁ = and-right (leb (d .inputs + d .outputs + d .locals) 64) _ w in
       let w₂ = and-right (leb (statements t′) 512) _ w₁ in
       let w₃ = and-right (leb (length (pauses t′)) 128) _ w₂ in
       let w₄ = and-right (leb (nested-traps t′) 16) _ w₃ in
       record {
-        version-fits = sane .writable .version-fits;
+        version-fits = o .version-fits;
         signals = leb→le _ 64 (and-left (leb (d .inputs + d .outputs + d .locals) 64) _ w);
         few-statements = leb→le _ 512 (and-left (leb (statements t′) 512) _ w₁);
         few-pauses = leb→le _ 128 (and-left (leb (length (pauses t′)) 128) _ w₂);
         traps-nested = leb→le _ 16 (and-left (leb (nested-traps t′) 16) _ w₃);
         locals-nested = leb→le _ 6 (and-left (leb (nested-locals t′) 6) _ w₄);
         paths = leb→le _ 64 (and-right (leb (nested-locals t′) 6) _ w₄);
-        trapped = copy-trapped is-copy 0 (sane .writable .trapped);
-        pauses-numbered = doubled-numbered;
-        scoped = scoped-there;
-        locals-counted = refl;
-        locals-next = next-there;
-        loops = is-true (loops-pass t′) (copy-passes is-copy loops-good .passes);
+        trapped = o .trapped;
+        pauses-numbered = o .pauses-numbered;
+        scoped = o .scoped;
+        locals-counted = o .locals-counted;
+        locals-next = o .locals-next;
+        loops = o .loops;
       }
+
+  -- and only within them.
+  pub writable-within : Writable (doubled-header h t) t′ → T (within-limits (doubled-header h t) t′)
+  unfolding within-limits
+  writable-within w =
+      let d = doubled-header h t in
+      and-in (leb (d .inputs + d .outputs + d .locals) 64) _ (le→leb _ 64 (w .signals))
+      (and-in (leb (statements t′) 512) _ (le→leb _ 512 (w .few-statements))
+      (and-in (leb (length (pauses t′)) 128) _ (le→leb _ 128 (w .few-pauses))
+      (and-in (leb (nested-traps t′) 16) _ (le→leb _ 16 (w .traps-nested))
+      (and-in (leb (nested-locals t′) 6) _ (le→leb _ 6 (w .locals-nested)) (le→leb _ 64 (w .paths))))))
