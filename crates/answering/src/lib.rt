@@ -1,5 +1,6 @@
 // The public calls, each answered with a line on standard output: the name of the call, every number of its answer, and every byte that was lent to be
 // written, as it is after the call; of a part that comes back its bytes. reference/README.md says how the lines are written.
+mod blocks;
 mod shelves;
 mod text;
 
@@ -15,15 +16,15 @@ pub struct Case {
     pub block: usize,
     // Of a call on a shelf the party.
     pub inputs: u64,
-    // The end of a log, the number of an excerpt, what a question is about, or a name on a shelf.
+    // The end of a log, the number of an excerpt, what a question is about, a name on a shelf, or how many bytes are lent for an output.
     pub other: u64,
-    // The inputs absent, or the size of a shelf.
+    // The inputs absent, or the size of a shelf or of the second block.
     pub third: u64,
-    // Which question, or how many bytes of a shelf stand in the file, before the zeros.
+    // Which question, or how many bytes of a shelf stand in the file, before the zeros; of a second block all.
     pub fourth: u64,
 }
 
-// Answers a call on no shelf; tells whether the line was written.
+// Answers a call that takes no shelf and no second block; tells whether the line was written.
 pub fn answer(case: Case, block: &[u8], state: &mut [u8], log: &mut [u8]) -> bool {
     line(case, block, state, log);
     put(b"\n")
@@ -47,22 +48,25 @@ fn line(case: Case, block: &[u8], state: &mut [u8], log: &mut [u8]) {
             case.fourth,
             case.other,
         ),
+        12 => blocks::maze(block, case.inputs),
+        14 => blocks::written(kind, block, b"", case.other as usize),
         _ => no_call(),
     }
 }
 
-// The same for a call on a shelf.
-pub fn answer_on_shelf(case: Case, block: &[u8], shelf: &mut [u8]) -> bool {
-    line_on_shelf(case, block, shelf);
+// The same for a call that takes a shelf or a second block beside the first.
+pub fn answer_beside(case: Case, block: &[u8], beside: &mut [u8]) -> bool {
+    line_beside(case, block, beside);
     put(b"\n")
 }
 
-fn line_on_shelf(case: Case, block: &[u8], shelf: &mut [u8]) {
+fn line_beside(case: Case, block: &[u8], beside: &mut [u8]) {
     let kind = case.kind;
     match kind {
-        9 => shelves::install(shelf, case.inputs, case.other, block),
-        10 => shelves::fetch(shelf, case.inputs, case.other),
-        11 => shelves::withdraw(shelf, case.inputs, case.other),
+        9 => shelves::install(beside, case.inputs, case.other, block),
+        10 => shelves::fetch(beside, case.inputs, case.other),
+        11 => shelves::withdraw(beside, case.inputs, case.other),
+        13 => blocks::written(kind, block, beside, case.other as usize),
         _ => no_call(),
     }
 }

@@ -2,7 +2,7 @@
 use crate::text::put;
 use crate::text::put_bytes;
 use crate::text::put_numbers;
-use crate::text::put_shelf;
+use crate::text::put_until;
 use foldheron::Shelved;
 use foldheron::number_of;
 
@@ -10,14 +10,14 @@ pub(crate) fn install(shelf: &mut [u8], party: u64, name: u64, block: &[u8]) {
     let answer = foldheron::install(shelf, two_bytes(party), two_bytes(name), block);
     put(b"install");
     put_answer(answer);
-    put_shelf(shelf);
+    put_until(shelf, 0);
 }
 
 pub(crate) fn withdraw(shelf: &mut [u8], party: u64, name: u64) {
     let answer = foldheron::withdraw(shelf, two_bytes(party), two_bytes(name));
     put(b"withdraw");
     put_answer(answer);
-    put_shelf(shelf);
+    put_until(shelf, 0);
 }
 
 // What the call writes number and place into holds something else before.

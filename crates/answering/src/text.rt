@@ -90,20 +90,20 @@ fn digit(d: u8) -> u8
     if d < 10 { 48 + d } else { 87 + d }
 }
 
-// A shelf by its bytes up to the last that is not 0, and how many zeros come after it.
-pub(crate) fn put_shelf(shelf: &[u8]) {
-    let stands = standing(shelf);
-    put_bytes(&shelf[..stands]);
+// Bytes up to the last that is not the rest's, and how many of the rest come after it.
+pub(crate) fn put_until(bytes: &[u8], rest: u8) {
+    let stands = standing(bytes, rest);
+    put_bytes(&bytes[..stands]);
     put(b"+");
-    put_hex((shelf.len() - stands) as u64);
+    put_hex((bytes.len() - stands) as u64);
 }
 
-fn standing(shelf: &[u8]) -> usize
-    ensures { λ r. ⌜ Counts r (now (shelf .entry)) ⌝ }
+fn standing(bytes: &[u8], rest: u8) -> usize
+    ensures { λ r. ⌜ Counts r (now (bytes .entry)) ⌝ }
 {
-    let mut count = shelf.len();
+    let mut count = bytes.len();
     while 0 < count {
-        if shelf[count - 1] != 0 {
+        if bytes[count - 1] != rest {
             break;
         }
         count -= 1;

@@ -1,5 +1,7 @@
 // The answers of the calls on no shelf as numbers, in the order of a line of the comparison: a refusal's number comes first, 0 where there is none, and what is
 // not named is 0.
+pub mod blocks;
+
 use foldheron::Asked;
 use foldheron::Begun;
 use foldheron::Checked;
@@ -192,7 +194,7 @@ fn clashed(first: u16, second: u16, end: u64) -> [u64; 11] {
     n
 }
 
-fn refused(number: u16, place: usize) -> [u64; 11] {
+pub(crate) fn refused(number: u16, place: usize) -> [u64; 11] {
     let mut n = [0u64; 11];
     n[NUMBER] = number as u64;
     n[PLACE] = place as u64;

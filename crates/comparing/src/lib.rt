@@ -1,7 +1,7 @@
 // Answers the cases of a file, each with a line on standard output. reference/README.md says how cases and lines are written.
 //
-// Memory is constant: one case is held at a time, with a block and a shelf of at most 131,072 bytes each, a state of at most 64 and a log of at most 512. A file
-// that ends within a case, or holds a longer one, gets the line `cut`, and nothing after that is read.
+// Memory is constant: one case is held at a time, with a block and a shelf or second block of at most 131,072 bytes each, a state of at most 64 and a log of at
+// most 512. A file that ends within a case, or holds a longer one, gets the line `cut`, and nothing after that is read.
 mod head;
 
 use answering::Case;
@@ -77,18 +77,20 @@ fn answer_block(fd: i32, case: Case, block: &mut [u8]) -> bool {
     if io::read_full(fd, block) < block.len() {
         return cut();
     }
-    if is_on_shelf(case.kind) {
-        let mut shelf = [0u8; 131072];
-        return answer_on_shelf(fd, case, block, &mut shelf);
+    if has_beside(case.kind) {
+        let mut beside = [0u8; 131072];
+        return answer_beside(fd, case, block, &mut beside);
     }
     let mut state = [0u8; 64];
     let mut log = [0u8; 512];
     answer_lent(fd, case, block, &mut state, &mut log)
 }
 
-fn is_on_shelf(kind: u64) -> bool {
+// Whether a shelf or a second block stands behind the block.
+fn has_beside(kind: u64) -> bool {
     match kind {
         9..=11 => true,
+        13 => true,
         _ => false,
     }
 }
@@ -116,25 +118,25 @@ fn answer_read(fd: i32, case: Case, block: &[u8], state: &mut [u8], log: &mut [u
     is_told(answering::answer(case, block, state, log))
 }
 
-// Takes of the room that there is what the shelf has.
-fn answer_on_shelf(fd: i32, case: Case, block: &[u8], room: &mut [u8]) -> bool {
+// Takes of the room that there is what the shelf or the second block has.
+fn answer_beside(fd: i32, case: Case, block: &[u8], room: &mut [u8]) -> bool {
     let size = case.third as usize;
     let stands = case.fourth as usize;
     if size > room.len() {
         return cut();
     }
-    answer_shelf(fd, case, block, &mut room[..size], stands)
+    answer_standing(fd, case, block, &mut room[..size], stands)
 }
 
 // Of a shelf the zeros at its end do not stand in the file.
-fn answer_shelf(fd: i32, case: Case, block: &[u8], shelf: &mut [u8], stands: usize) -> bool {
-    if stands > shelf.len() {
+fn answer_standing(fd: i32, case: Case, block: &[u8], beside: &mut [u8], stands: usize) -> bool {
+    if stands > beside.len() {
         return cut();
     }
-    if io::read_full(fd, &mut shelf[..stands]) < stands {
+    if io::read_full(fd, &mut beside[..stands]) < stands {
         return cut();
     }
-    is_told(answering::answer_on_shelf(case, block, shelf))
+    is_told(answering::answer_beside(case, block, beside))
 }
 
 // The line of a case that is cut short or too long for this program; nothing can come after it.

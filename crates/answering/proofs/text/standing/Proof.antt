@@ -1,4 +1,4 @@
--- `answering::text::standing` meets its contract. The loop's invariant: the count is within the shelf. The measure is the count. Assumes nothing.
+-- `answering::text::standing` meets its contract. The loop's invariant: the count is within the bytes. The measure is the count. Assumes nothing.
 use Prim.Native.Nat.{_≤_}
 use lib.ListN.{length}
 use borrow.Author.Needs.{needs}
@@ -7,10 +7,10 @@ use Rattle.answering.proofs.text.standing.Statement.{statement}
 use Rattle.answering.proofs.text.standing.Tie as tie
 
 abbrev Inv-loop : tie.InvT-loop
-Inv-loop shelf count₀ count = count ≤ length shelf
+Inv-loop bytes rest count₀ count = count ≤ length bytes
 
 abbrev μ-loop : tie.MeasureT-loop
-μ-loop shelf count₀ count = count
+μ-loop bytes rest count₀ count = count
 
 loop-holds : tie.Need-loop-holds Inv-loop μ-loop
 loop-holds c = search needs

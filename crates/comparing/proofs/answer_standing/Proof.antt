@@ -1,9 +1,9 @@
--- `comparing::answer_shelf` is safe: the part that is read is no longer than the shelf. Assumes nothing.
+-- `comparing::answer_standing` is safe: the part that is read is no longer than what is lent. Assumes nothing.
 use native.Mathlib.Omega.{arith}
 use lib.ListN.{length-take}
 use borrow.Author.Needs.{needs}
-use Rattle.comparing.proofs.answer_shelf.Statement.{statement}
-use Rattle.comparing.proofs.answer_shelf.Tie as tie
+use Rattle.comparing.proofs.answer_standing.Statement.{statement}
+use Rattle.comparing.proofs.answer_standing.Tie as tie
 
 cut-requires : tie.Need-cut-requires
 cut-requires c κs = search needs
@@ -29,8 +29,8 @@ same-length c = search needs
 returns-2 : tie.Need-returns-2
 returns-2 c = search needs
 
-answer-on-shelf-requires : tie.Need-answer-on-shelf-requires
-answer-on-shelf-requires c κs = search needs
+answer-beside-requires : tie.Need-answer-beside-requires
+answer-beside-requires c κs = search needs
 
 is-told-requires : tie.Need-is-told-requires
 is-told-requires c κs = search needs
@@ -41,8 +41,8 @@ same-length-2 c = search needs
 returns-3 : tie.Need-returns-3
 returns-3 c = search needs
 
-pub answer-shelf-spec : {M : Type 1} → statement M
-answer-shelf-spec =
+pub answer-standing-spec : {M : Type 1} → statement M
+answer-standing-spec =
     tie.close
     (tie.spec
     cut-requires
@@ -53,7 +53,7 @@ answer-shelf-spec =
     cut-requires-2
     same-length
     returns-2
-    answer-on-shelf-requires
+    answer-beside-requires
     is-told-requires
     same-length-2
     returns-3)
