@@ -41,16 +41,33 @@ fn statement(page: &mut [u8], at: usize, kind: u16, operand: u16) -> usize {
     put_record(page, at, kind, operand)
 }
 
-// Records from pairs of kind and operand.
+// The same record so many times, while there is room.
+fn repeated(page: &mut [u8], at: usize, times: u16, kind: u16, operand: u16) -> usize {
+    let mut to = at;
+    let mut i: u16 = 0;
+    while i < times {
+        to = statement(page, to, kind, operand);
+        i += 1;
+    }
+    to
+}
+
+// Records from triples: how many times, kind and operand.
 fn records(page: &mut [u8], given: &[u16], count: usize) -> usize {
     let mut at = header(page, word(given, 3), word(given, 4), word(given, 5));
     let mut i: usize = 6;
     while i < count {
-        at = statement(page, at, word(given, i), word(given, i + 1));
-        if count - i < 2 {
+        if count - i < 3 {
             return at;
         }
-        i += 2;
+        at = repeated(
+            page,
+            at,
+            word(given, i),
+            word(given, i + 1),
+            word(given, i + 2),
+        );
+        i += 3;
     }
     at
 }
@@ -66,8 +83,8 @@ fn bytes(page: &mut [u8], given: &[u16], count: usize) -> usize {
     at
 }
 
-// The block of a case, by its form, the third of the given numbers. 0: inputs, outputs, locals, then kind and operand of each statement.
-// 1: bytes. 2: how many bytes, all 0.
+// The block of a case, by its form, the third of the given numbers. 0: inputs, outputs, locals, then for the statements how many times, kind and
+// operand. 1: bytes. 2: how many bytes, all 0.
 pub fn block(page: &mut [u8], given: &[u16], count: usize) -> usize {
     match word(given, 2) {
         0 => records(page, given, count),
@@ -87,14 +104,10 @@ fn inside(page: &mut [u8], at: usize, two: bool) -> usize {
 }
 
 // A block of so many suspends one inside the other, and inside them a nothing, or two in a sequence: 18 bytes and 6 for each suspend, or 8 more.
-pub fn chain(page: &mut [u8], suspends: usize, two: bool) -> usize {
-    let mut at = header(page, 1, 0, 0);
-    let mut i: usize = 0;
-    while i < suspends {
-        at = statement(page, at, 20, 0);
-        i += 1;
-    }
-    inside(page, at, two)
+pub fn chain(page: &mut [u8], suspends: u16, two: bool) -> usize {
+    let at = header(page, 1, 0, 0);
+    let to = repeated(page, at, suspends, 20, 0);
+    inside(page, to, two)
 }
 
 // A state record by its version, statement count, phase and the lowest byte of its pauses.
