@@ -1,5 +1,7 @@
 //! Texts beside a second way to read them: what may still follow, kept as all the stacks of symbols that are due. And the calls on texts.
 
+use std::io::{self, Read, Write};
+
 use crate::block::{decode, encode_tokens, Block, Form, Header, Token};
 use crate::cases::{some_edge_block, spoil, with_version, Call, Case};
 use crate::chance::Chance;
@@ -206,6 +208,20 @@ impl Counts {
             self.back(&bytes, &block, chance);
         }
     }
+}
+
+/// Reads a text from standard input and writes the block that it is; says why where there is none.
+pub fn print_block() -> bool {
+    let (mut text, mut bytes) = (Vec::new(), [0; 3086]);
+    let (answer, size) = match io::stdin().read_to_end(&mut text) {
+        Ok(_) => read_text(&text, &mut bytes, Fault::None),
+        Err(_) => return false,
+    };
+    if answer.number != 0 {
+        eprintln!("refused with {} at {}", answer.number, answer.place);
+        return false;
+    }
+    io::stdout().write_all(&bytes[..size]).is_ok()
 }
 
 /// Every short text, and random ones read back; false if a place or a block differs.

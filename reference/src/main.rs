@@ -19,6 +19,7 @@ mod converts;
 mod counts;
 mod double;
 mod doubles;
+mod drawn;
 mod edge_calls;
 mod edge_limits;
 mod edges;
@@ -83,9 +84,12 @@ const USAGE: &str = "subcommands:
   arrows            reads such instants with what a program says that they wait for, and says whether it is true
   shelf [CALLS N SEED]  a shelf beside its model: all histories of CALLS calls (4) on a small one, N random ones (60, seed 1)
   maze [SIZE N SEED]  mazes beside the rounds: all blocks of the form up to SIZE statements (8) and N random ones (4000, seed 1)
+  boards [N SEED MOST]  N blocks (100, seed 1) of which there is a maze, of MOST rooms (120) at most, each with an input set
+  drawn             reads such blocks with the pages on which a program draws their mazes, and says whether they are true
   alike [SIZE N SEED]  two blocks beside classes of states: all pairs up to SIZE statements (4), N random ones (3000, seed 1)
   copies [SIZE N SEED]  blocks beside doubled ones: all with a loop up to SIZE statements (6), N random ones (2000, seed 1)
   text [MORE N SEED]  every text of up to MORE tokens (5) after the header, and N random blocks (2000, seed 1) read back
+  read              reads a text from standard input and writes the block's bytes
   convert [SIZE N SEED]  edition 2 beside its conversion: all up to SIZE statements (5), N random ones (3000, seed 1)
   bite [CASES]      a case for each fault
   run FOLDER        the run program
@@ -130,9 +134,12 @@ fn main() {
         Some("arrows") => arrows::print_arrows(),
         Some("shelf") => shelves::print_shelf(number(1, 4) as usize, number(2, 60) as usize, number(3, 1)),
         Some("maze") => mazes::print_maze(number(1, 8) as usize, number(2, 4000) as usize, number(3, 1)),
+        Some("boards") => drawn::print_boards(number(1, 100) as usize, number(2, 1), number(3, 120) as usize),
+        Some("drawn") => drawn::print_drawn(),
         Some("alike") => alikes::print_alike(number(1, 4) as usize, number(2, 3000) as usize, number(3, 1)),
         Some("copies") => doubles::print_copies(number(1, 6) as usize, number(2, 2000) as usize, number(3, 1)),
         Some("text") => kernels::print_text(number(1, 5) as usize, number(2, 2000) as usize, number(3, 1)),
+        Some("read") => kernels::print_block(),
         Some("convert") => converts::print_convert(number(1, 5) as usize, number(2, 3000) as usize, number(3, 1)),
         Some("older") => older::print_older(number(1, 40_000) as usize, number(2, 1)),
         Some("older-smallest") => older::print_smallest(number(1, 1)),

@@ -10,7 +10,7 @@ use crate::values::{signal_bit, signal_bits};
 pub const FORM: u16 = 26;
 
 /// A corridor: whether it is visible, and the room that it leads to.
-type Corridor = (bool, usize);
+pub type Corridor = (bool, usize);
 
 /// The rooms by number, each as its corridors. Room 0 is the dungeon, which has none; room n + 1 is that of signal n.
 pub struct Maze {
@@ -82,6 +82,11 @@ impl Maze {
             maze.rooms[a as usize + 1] = seen;
         }
         maze
+    }
+
+    /// Rooms that somebody else made, to be solved.
+    pub fn of(rooms: Vec<Vec<Corridor>>) -> Maze {
+        Maze { rooms, signals: 0, fault: Fault::None }
     }
 
     fn room(&mut self, corridors: Vec<Corridor>) -> usize {
