@@ -4,6 +4,7 @@ mod args;
 mod block;
 mod cause;
 mod commands;
+mod draw;
 mod files;
 mod hash;
 mod json;

@@ -9,6 +9,7 @@ pub mod check;
 pub mod excerpt;
 pub mod help;
 pub mod log;
+pub mod maze;
 pub mod names;
 pub mod shelf;
 pub mod show;
@@ -26,11 +27,12 @@ pub struct Command {
     pub run: fn(&Words, &mut Out) -> Outcome<Status>,
 }
 
-pub static COMMANDS: [&Command; 10] = [
+pub static COMMANDS: [&Command; 11] = [
     &check::COMMAND,
     &show::COMMAND,
     &crate::run::COMMAND,
     &crate::why::COMMAND,
+    &maze::COMMAND,
     &excerpt::COMMAND,
     &state::COMMAND,
     &log::COMMAND,
