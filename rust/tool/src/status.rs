@@ -22,7 +22,7 @@ const MEANINGS: [(Status, u8, &str); 8] = [
     (InstantRefused, 3, "some instant, or a state, was refused (9 to 13, 17)"),
     (Short, 4, "the inputs end within a set; every whole set was run"),
     (File, 5, "a file, or standard output, could not be read or written"),
-    (Refused, 8, "something else asked was refused (14, 16, 18 to 22; a log that is none, or another block's; names that do not fit)"),
+    (Refused, 8, "something else asked was refused (14, 16, 18 to 22, 26; a log that is none, or another block's; names that do not fit)"),
     (NotExpected, 9, "not as expected: with run --expect, 9 stands in place of 1, 3 and 4, but for a refused state of --from"),
 ];
 
