@@ -47,7 +47,7 @@ pub struct Place {
     pub best: Option<usize>,
 }
 
-/// The signals' rooms come first, by their numbers.
+/// The signals' rooms come first, by their numbers, where all are there.
 pub struct Board {
     pub places: Vec<Place>,
 }
@@ -113,6 +113,26 @@ impl Board {
         match place.end {
             End::Wins => open.filter(|(_, way)| self.wins(way) == Some(true)).min_by_key(|(k, way)| (self.places[way.to].moves, *k)).map(|(k, _)| k),
             _ => open.max_by_key(|(k, way)| (self.places[way.to].moves, usize::MAX - *k)).map(|(k, _)| k),
+        }
+    }
+
+    /// Leaves out every room to which no walk from this one leads.
+    pub fn keep_from(&mut self, start: usize) {
+        let mut kept = vec![false; self.places.len()];
+        let mut due = vec![start];
+        while let Some(n) = due.pop() {
+            if !std::mem::replace(&mut kept[n], true) {
+                due.extend(self.places[n].ways.iter().map(|way| way.to));
+            }
+        }
+        let mut numbers = vec![0; kept.len()];
+        for (number, n) in (0..kept.len()).filter(|n| kept[*n]).enumerate() {
+            numbers[n] = number;
+        }
+        let places = std::mem::take(&mut self.places);
+        for (place, _) in places.into_iter().zip(&kept).filter(|(_, is_kept)| **is_kept) {
+            let ways = place.ways.iter().map(|way| Way { to: numbers[way.to], ..*way }).collect();
+            self.places.push(Place { ways, ..place });
         }
     }
 

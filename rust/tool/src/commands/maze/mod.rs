@@ -30,7 +30,7 @@ pub static COMMAND: Command = Command {
     call: "FILE [--in SET] [--room NAME] [--dot | --svg | --html | --json] [--names FILE | --no-names]",
     options: &[
         with("--in", "SET", "the inputs of the first instant in words, as run takes them, each of them heard; - for none. A block without inputs needs no set"),
-        with("--room", "NAME", "a play from this room, move by move: a signal's, or as 'gate 2 of O', 'part 3 of O', 'dungeon'"),
+        with("--room", "NAME", "a play from this room, move by move: a signal's, or as 'gate 2 of O', 'part 3 of O', 'dungeon'; with --dot, --svg or\n--html only the rooms that can be walked to from there"),
         flag("--dot", "the maze as a graph for the program dot"),
         flag("--svg", "the maze as a picture"),
         flag("--html", "a page on which the maze is walked, with the picture; it needs nothing else"),
@@ -63,15 +63,12 @@ pub struct Asked {
 fn run(words: &Words, out: &mut Out) -> Outcome<Status> {
     let [word] = words.exactly(["the block's file"])?;
     let form = words.at_most_one(&["--dot", "--svg", "--html", "--json"])?;
-    if let (true, Some(form @ ("--dot" | "--svg" | "--html"))) = (words.has("--room"), form) {
-        return Err(Trouble::call(format!("--room and {} do not go together: {} has every room", form, form)));
-    }
     let block = match block::load_or_tell(words, word, out)? {
         Some(block) => block,
         None => return Ok(Status::BlockRefused),
     };
     let inputs = inputs(words, &block)?;
-    let asked = match Asked::of(block, inputs) {
+    let mut asked = match Asked::of(block, inputs) {
         Ok(asked) => asked,
         Err((block, why)) => return turned_down(&block, inputs, &why, form, out),
     };
@@ -79,13 +76,22 @@ fn run(words: &Words, out: &mut Out) -> Outcome<Status> {
     match (form, room) {
         (Some("--json"), None) => out.line(&object::whole(&asked)),
         (Some("--json"), Some(room)) => out.line(&object::play(&asked, room)),
-        (Some("--dot"), _) => dot::told(&asked, out),
-        (Some("--svg"), _) => out.text(&picture::file(&asked)),
-        (Some(_), _) => out.text(&page::told(&asked)),
         (None, None) => words::whole(&asked, out),
         (None, Some(room)) => words::play(&asked, room, out),
+        (Some(form), room) => {
+            room.map(|room| asked.board.keep_from(room));
+            drawn(&asked, form, out)
+        }
     }?;
     Ok(Status::Good)
+}
+
+fn drawn(asked: &Asked, form: &str, out: &mut Out) -> Outcome<()> {
+    match form {
+        "--dot" => dot::told(asked, out),
+        "--svg" => out.text(&picture::file(asked)),
+        _ => out.text(&page::told(asked)),
+    }
 }
 
 /// The one set of inputs.

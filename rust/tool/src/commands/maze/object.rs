@@ -1,6 +1,6 @@
 //! The maze, a play, or a refusal, as an object.
 
-use super::board::End;
+use super::board::{End, Place};
 use super::play::{self, Who};
 use super::Asked;
 use crate::block::Block;
@@ -24,7 +24,11 @@ pub fn refused(block: &Block, inputs: u64, why: &Refusal, broken: Option<&(usize
 
 pub fn whole(asked: &Asked) -> String {
     let labels = &asked.block.labels;
-    let such = |end: End| (0..labels.outputs().end).filter(|n| asked.board.places[*n].end == end).map(|n| labels.signal(n)).collect::<Vec<_>>();
+    let signal = |place: &Place| match place.room {
+        Room::Signal(s) => Some(labels.signal(s)),
+        _ => None,
+    };
+    let such = |end: End| asked.board.places.iter().filter(|place| place.end == end).filter_map(signal).collect::<Vec<_>>();
     let object = head(&asked.block, asked.inputs, 0).texts("winning", &such(End::Wins)).texts("losing", &such(End::Loses)).texts("drawn", &such(End::Draws));
     object.objects("rooms", (0..asked.board.places.len()).map(|n| room(asked, n)).collect()).done()
 }

@@ -61,7 +61,8 @@
   function turn() {
     var at = now(), room = rooms[at.room];
     if (!room.corridors.length) return 'The ' + at.who + ' is in ' + called(at.room) + ' and cannot move: the ' + other(at.who) + ' wins.';
-    var before = past.slice(0, -1).some(function (then) { return then.room === at.room && then.who === at.who; });
+    var since = past.map(function (then) { return !then.by; }).lastIndexOf(true);
+    var before = past.slice(since, -1).some(function (then) { return then.room === at.room && then.who === at.who; });
     return 'The ' + at.who + ' is to move in ' + called(at.room) + (before ? ', again.' : '.');
   }
 
