@@ -6,7 +6,7 @@ use super::Graph;
 /// How much is done at most, in links that are looked at: a large graph gets fewer sweeps.
 const WORK: usize = 1_500_000;
 
-pub fn untangle(graph: &mut Graph) {
+pub(super) fn untangle(graph: &mut Graph) {
     let links: usize = graph.down.iter().map(Vec::len).sum();
     let sweeps = (WORK / (links + graph.widths.len() + 1)).clamp(1, 32);
     begin(graph);

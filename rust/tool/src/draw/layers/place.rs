@@ -6,7 +6,7 @@ use super::Graph;
 const WORK: usize = 3_000_000;
 
 /// The middles, with the leftmost box at the left edge.
-pub fn columns(graph: &Graph) -> Vec<f64> {
+pub(super) fn columns(graph: &Graph) -> Vec<f64> {
     let mut columns = vec![0.0; graph.widths.len()];
     for layer in &graph.layers {
         let mut x = 0.0;
