@@ -102,7 +102,10 @@
     by('turn').textContent = turn();
     by('told').textContent = told;
     by('back').disabled = past.length < 2;
+    var held = by('ways').contains(document.activeElement);
     list(by('ways'), rooms[at.room].corridors, wayButton);
+    // Who goes by keys stays where the corridors are.
+    if (held) (by('ways').querySelector('button') || by('back')).focus();
     list(by('moves'), past.map(moved), line);
     Object.keys(drawn).forEach(function (id) { drawn[id].classList.toggle('here', id === at.room); });
     Object.keys(corridors).forEach(function (id) {
@@ -112,6 +115,7 @@
       });
     });
     token(at);
+    if (large) drawn[at.room].scrollIntoView({ block: 'center', inline: 'center' });
     clearTimeout(waiting);
     if (by('alone').checked && at.who === 'opponent' && rooms[at.room].corridors.length) waiting = setTimeout(function () { take(rooms[at.room].best); }, 900);
   }
@@ -149,6 +153,10 @@
     root.setAttribute('data-light', isLight ? 'off' : 'on');
   }
 
+  // A picture that could not be read on one screen keeps its size, and is scrolled.
+  var natural = picture.viewBox.baseVal, large = natural.width > 1900 || natural.height > 1900;
+  if (large) picture.style.cssText = 'width:' + natural.width + 'px;max-height:none';
+  if (large) picture.parentNode.style.maxHeight = 'calc(100vh - 110px)';
   picture.removeAttribute('role');
   picture.querySelectorAll('.room').forEach(prepare);
   picture.querySelectorAll('.corridor').forEach(function (way) {
