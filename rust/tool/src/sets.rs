@@ -49,6 +49,12 @@ pub fn changed_inputs(now: Given, before: Option<Given>, name: impl Fn(usize) ->
     words.join(" ")
 }
 
+/// Sets in the words of --in.
+pub fn in_words(sets: &[Given], labels: &Labels) -> String {
+    let words: Vec<String> = sets.iter().map(|set| changed_inputs(*set, None, |n| labels.input(n))).collect();
+    words.join("; ")
+}
+
 /// A set's members as a list in a sentence.
 pub fn sentence(set: u64, name: impl Fn(usize) -> String) -> String {
     listed(&members(set).map(name).collect::<Vec<_>>())
@@ -202,6 +208,12 @@ mod tests {
         assert_eq!(changed_inputs(given(0b0001, 0b0110), Some(given(0b0010, 0)), name), "+i0 ?i1 ?i2");
         assert_eq!(changed_inputs(given(0b0011, 0), Some(given(0b1000, 0b0101)), name), "i0 +i1 -i3");
         assert_eq!([changed_inputs(given(0, 3), None, name), changed_inputs(given(0, 0), Some(given(0, 3)), name)], ["?i0 ?i1", "-"]);
+    }
+
+    #[test]
+    fn as_they_are_parsed() {
+        let text = "DEMAND; DEMAND i1; -; ?DEMAND; i63";
+        assert_eq!(in_words(&parse(text, &labels()).unwrap(), &labels()), text);
     }
 
     #[test]

@@ -20,13 +20,13 @@ pub static COMMAND: Command = Command {
     call: "[--to FILE] [--over] FILE [NAME..]",
     options: &[
         with("--to", "FILE", "write the names into FILE, not beside the block"),
-        flag("--over", "write them although signals that have a name there would lose it"),
+        flag("--over", "write them although signals that have a name there would lose it, or the names there are another block's"),
     ],
     more: "The names stand in the order of the signals: the inputs, the outputs, the locals; - leaves one without a name, and so do\n\
            names that are not given. A name is letters, digits and _, a letter first, 32 at most. The names of block.bin are\n\
            kept beside it in block.names, with the block's version, its statement count and the SHA-256 of its bytes: with\n\
-           another block they are not used. Where a signal that has a name there would be without one, nothing is written but with\n\
-           --over. Without a NAME the command prints what each signal is called.\n",
+           another block they are not used. Where a signal that has a name there would be without one, or where the names there are\n\
+           another block's, nothing is written but with --over. Without a NAME the command prints what each signal is called.\n",
     run,
 };
 
@@ -41,20 +41,27 @@ fn run(words: &Words, out: &mut Out) -> Outcome<Status> {
         block.labels.give(signal, &name.to_string_lossy()).map_err(|why| Trouble::call(format!("name {}: {}", signal + 1, why)))?;
     }
     let to = place(words, &path)?;
-    if !words.has("--over") {
-        look_for_dropped(&to, &block)?;
-    }
+    may_be_written(&to, &block, words.has("--over"))?;
     replace(&to, names::written(&block.bytes, &block.summary, &block.labels).as_bytes())?;
     out.line(&format!("{}: {} written", files::shown(&to), counted(given.iter().filter(|name| *name != "-").count() as u64, "name")))?;
     Ok(Status::Good)
 }
 
-/// That no signal loses the name that it has in the file that is written over.
-fn look_for_dropped(to: &Path, block: &Block) -> Outcome<()> {
-    let text = String::from_utf8_lossy(&files::first(to, names::MOST).unwrap_or_default()).into_owned();
-    let before = match names::read(&text, &block.bytes, &block.summary) {
+/// That the file holds names or nothing, and, but where that is asked for, not another block's nor one that a signal would lose.
+pub fn may_be_written(to: &Path, block: &Block, over: bool) -> Outcome<()> {
+    let bytes = files::first(to, names::MOST).unwrap_or_default();
+    if to.exists() && !bytes.is_empty() && !bytes.starts_with(names::FIRST.as_bytes()) {
+        return Err(Trouble::call(format!("{} is there and holds no names: it is left as it is", files::shown(to))));
+    }
+    if over || bytes.is_empty() {
+        return Ok(());
+    }
+    let before = match names::read(&String::from_utf8_lossy(&bytes), &block.bytes, &block.summary) {
         Ok(before) => before,
-        Err(_) => return Ok(()),
+        Err(why) => {
+            let trouble = Trouble::call(format!("{} has names that are not this block's: {}", files::shown(to), why));
+            return Err(trouble.advise("say --over to write over them, or --to FILE to write elsewhere; nothing is written"));
+        }
     };
     let dropped: Vec<String> = (0..before.signals()).filter(|n| block.labels.name(*n).is_none()).filter_map(|n| before.name(n).map(str::to_string)).collect();
     if dropped.is_empty() {
@@ -76,15 +83,11 @@ fn print(words: &Words, file: &OsStr, out: &mut Out) -> Outcome<Status> {
     Ok(Status::Good)
 }
 
-/// Where the names are written: never over the block itself, nor over another file than names.
+/// Where the names are written.
 fn place(words: &Words, block: &Path) -> Outcome<PathBuf> {
     let to = words.value("--to").map_or_else(|| names::beside(block), PathBuf::from);
     if block == Path::new(files::STDIN) && !words.has("--to") {
         return Err(Trouble::call("a block from standard input has no place beside it: say --to FILE"));
-    }
-    let there = files::first(&to, names::FIRST.len()).unwrap_or_default();
-    if to.exists() && !there.is_empty() && there != names::FIRST.as_bytes() {
-        return Err(Trouble::call(format!("{} is there and holds no names: it is left as it is", files::shown(&to))));
     }
     Ok(to)
 }

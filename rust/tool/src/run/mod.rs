@@ -6,7 +6,7 @@ mod expect;
 mod inputs;
 mod json;
 pub mod keep;
-mod plain;
+pub mod plain;
 mod progress;
 mod style;
 mod waits;

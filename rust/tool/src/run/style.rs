@@ -75,7 +75,7 @@ pub trait Style {
 /// The style of a run: what is asked for, and the comparison with it.
 pub fn of<'a>(asked: &Asked, block: &'a Block) -> Outcome<Box<dyn Style + 'a>> {
     let form: Option<Box<dyn Style + 'a>> = asked.form().map(|form| match form {
-        Form::Table => Box::new(Table::new(&block.labels, asked.from.is_none())) as Box<dyn Style + 'a>,
+        Form::Table => Box::new(Table::new(block, asked.from.is_none())) as Box<dyn Style + 'a>,
         Form::Plain => Box::new(Plain),
         Form::Csv => Box::new(Csv { labels: &block.labels }),
         Form::Json => Box::new(Json { labels: Some(&block.labels) }),

@@ -1,7 +1,7 @@
 //! The table that a person reads: inputs and outputs by name with what changed marked, and refusals in words.
 
 use super::style::{short, Step, Style, Tally};
-use crate::block::Report;
+use crate::block::{Block, Report};
 use crate::labels::Labels;
 use crate::layout::State;
 use crate::output::Out;
@@ -10,7 +10,9 @@ use crate::sets::{changed, changed_inputs, pauses, sentence, Given, UNKNOWN};
 use crate::table::{self, Column, Side};
 use crate::trouble::Outcome;
 use crate::walk::{counted, grouped};
+use crate::why::{how_to_ask, FEW};
 use foldheron::{Doubt, Instant};
+use std::path::Path;
 
 /// A column of signals is at most so wide, so that the table has 80 columns; a longer list pushes what is to its right.
 const WIDEST: usize = 22;
@@ -21,6 +23,10 @@ pub struct Table<'a> {
     /// The inputs of the instant before, and the outputs of the last one that was answered.
     inputs: Option<Given>,
     outputs: Option<u64>,
+    /// The sets up to the first 13, as far as they are advised to ask with, and how to ask why it is one.
+    sets: Option<Vec<Given>>,
+    asking: Option<String>,
+    path: &'a Path,
 }
 
 /// The code with its word.
@@ -55,9 +61,31 @@ pub fn columns(labels: &Labels, first: &'static str, has_pauses: bool) -> Vec<Co
 
 impl<'a> Table<'a> {
     /// The table of a run; from fresh nothing was present before it, and after a saved state nobody knows.
-    pub fn new(labels: &'a Labels, is_fresh: bool) -> Table<'a> {
-        let table = table::Table::new(columns(labels, "instant", true));
-        Table { labels, table, inputs: Some(Given::default()).filter(|_| is_fresh), outputs: Some(0).filter(|_| is_fresh) }
+    pub fn new(block: &'a Block, is_fresh: bool) -> Table<'a> {
+        let table = table::Table::new(columns(&block.labels, "instant", true));
+        let begun = Some(()).filter(|_| is_fresh);
+        Table {
+            labels: &block.labels,
+            table,
+            inputs: begun.map(|_| Given::default()),
+            outputs: begun.map(|_| 0),
+            sets: begun.map(|_| Vec::new()),
+            asking: None,
+            path: &block.path,
+        }
+    }
+
+    /// Keeps how to ask about the first 13.
+    fn ask(&mut self, step: &Step) {
+        if self.asking.is_some() {
+            return;
+        }
+        if let Some(sets) = self.sets.as_mut().filter(|sets| sets.len() <= FEW) {
+            sets.push(step.inputs);
+        }
+        if step.answer.number() == 13 {
+            self.asking = Some(how_to_ask(step.number, self.path, self.sets.as_deref(), self.labels));
+        }
     }
 
     /// Why an instant was refused, in a line under its outputs.
@@ -104,6 +132,7 @@ impl Style for Table<'_> {
         let number = step.number.to_string();
         let inputs = changed_inputs(step.inputs, self.inputs, |n| labels.input(n));
         self.inputs = Some(step.inputs);
+        self.ask(step);
         let reaction = match &step.answer {
             Instant::Answered(reaction) => reaction,
             refused => {
@@ -135,6 +164,9 @@ impl Style for Table<'_> {
             (true, true) => out.line("+ came, - went, ? not heard, x no outputs")?,
             (true, false) => out.line("+ came, - went, x no outputs")?,
             _ => {}
+        }
+        if let Some(asking) = &self.asking {
+            out.line(asking)?;
         }
         if tally.has_unsettled {
             out.line("of a 13 with inputs not heard --waits says which input, or which two, would settle it")?;

@@ -21,7 +21,7 @@ use crate::run::keep;
 use crate::sets::{self, Given};
 use crate::status::Status;
 use crate::trouble::{Outcome, Trouble};
-use crate::walk::{walk, Statement};
+use crate::walk::{grouped, walk, Statement};
 use foldheron::{reason, Asked, Instant, Reason};
 use meaning::{Event, Meaning, Run};
 use reach::Reach;
@@ -56,6 +56,18 @@ named test or to an input that is not heard. A test that is not reached yet, for
 
 Where the thing asked about is not so it is refused with 16, and what is so is told. Status 0 means that the question was answered.
 ";
+
+/// Sets that fit on a line of advice.
+pub const FEW: usize = 8;
+
+/// How to ask why an instant was refused with 13: with the sets up to it from fresh, where they are known and few.
+pub fn how_to_ask(instant: u64, path: &Path, sets: Option<&[Given]>, labels: &Labels) -> String {
+    let call = format!("why instant {} is refused: foldheron why {} --in", grouped(instant), files::printable(&path.to_string_lossy()));
+    match sets.filter(|sets| sets.len() <= FEW) {
+        Some(sets) => format!("{} \"{}\"", call, sets::in_words(sets, labels)),
+        None => format!("{} SETS, with the sets up to it, or --from the state before it", call),
+    }
+}
 
 /// An instant that is asked about: the state in which it begins, its inputs, what it came to, and the question.
 pub struct Question {
