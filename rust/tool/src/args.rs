@@ -60,7 +60,7 @@ impl Words {
     }
 }
 
-/// Sorts the words that follow a command's name. After `--` every word is free.
+/// Sorts the words that follow a command's name. After `--` every word is free, and -o is short for --to.
 pub fn sort(options: &'static [Opt], words: &[OsString]) -> Outcome<Words> {
     let mut sorted = Words::default();
     let mut rest = words.iter();
@@ -92,6 +92,7 @@ fn parted(word: &OsStr) -> (String, Option<OsString>) {
 }
 
 fn find(options: &'static [Opt], name: &str) -> Outcome<&'static Opt> {
+    let name = if name == "-o" { "--to" } else { name };
     options.iter().find(|option| option.name == name).ok_or_else(|| {
         let trouble = Trouble::call(format!("there is no option {}", name));
         match nearest(name, options.iter().map(|option| option.name)) {

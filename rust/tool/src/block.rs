@@ -8,6 +8,7 @@ use crate::labels::Labels;
 use crate::names;
 use crate::output::Out;
 use crate::refusal;
+use crate::replace::replace;
 use crate::status::Status;
 use crate::trouble::{Outcome, Trouble};
 use crate::walk::counted;
@@ -112,4 +113,21 @@ impl Report {
 /// Whether a file holds a good block. What has no end, or has to be waited for, is not looked at.
 pub fn is_good(path: &Path) -> bool {
     files::size(path).is_some() && files::block(path).map_or(false, |bytes| check(&bytes).is_ok())
+}
+
+/// Writes a block into a file, where it may.
+pub fn put(to: &Path, block: &[u8], over: bool) -> Outcome<()> {
+    may_be_put(to, block, over)?;
+    replace(to, block)
+}
+
+/// A block is written into a file that is not there, that is empty or has these bytes; over another block only if that is asked for.
+pub fn may_be_put(to: &Path, block: &[u8], over: bool) -> Outcome<()> {
+    let is_free = matches!(files::size(to), None | Some(0)) || files::block(to)? == block;
+    if is_free || over && is_good(to) {
+        return Ok(());
+    }
+    let left = if over { "is there and is no good block" } else { "is there, with other bytes" };
+    let trouble = Trouble::call(format!("{} {}: it is left as it is", files::shown(to), left));
+    Err(if over { trouble } else { trouble.advise("with --over the block takes its place, where it is a good block") })
 }

@@ -27,6 +27,9 @@ pub fn advice(number: u16) -> &'static str {
         12 => "lend a longer log, or begin a new one",
         13 => "the remedy is in the block: a pause between the test and the emit, or an input that decides",
         14 => "ask for a lower number: foldheron show has them",
+        23 => "compare blocks with the same interface only",
+        24 => "there is no way to compare them so: hold the number to the bytes of the file",
+        25 => "take a new version number for the new block",
         _ => "see the guide",
     }
 }

@@ -8,21 +8,24 @@ pub enum Status {
     InstantRefused,
     Short,
     File,
+    Different,
+    CannotTell,
     Refused,
     NotExpected,
 }
 
 use Status::*;
 
-/// Number and meaning. 6 and 7 are kept for the comparison of two blocks.
-const MEANINGS: [(Status, u8, &str); 8] = [
+const MEANINGS: [(Status, u8, &str); 10] = [
     (Good, 0, "all good"),
     (BlockRefused, 1, "a block was refused (1 to 8)"),
     (WrongCall, 2, "wrong call; nothing was written"),
     (InstantRefused, 3, "some instant, or a state, was refused (9 to 13, 17)"),
     (Short, 4, "the inputs end within a set; every whole set was run"),
     (File, 5, "a file, or standard output, could not be read or written"),
-    (Refused, 8, "something else asked was refused (14, 16, 18 to 22, 26; a log that is none, or another block's; names that do not fit)"),
+    (Different, 6, "two blocks are not alike"),
+    (CannotTell, 7, "whether two blocks are alike cannot be told (25)"),
+    (Refused, 8, "something else asked was refused (14, 16, 18 to 24; a log that is none, or another block's; names that do not fit)"),
     (NotExpected, 9, "not as expected: with run --expect, 9 stands in place of 1, 3 and 4, but for a refused state of --from"),
 ];
 
@@ -37,6 +40,7 @@ impl Status {
             0 => Good,
             1..=8 => BlockRefused,
             9..=13 | 17 => InstantRefused,
+            25 => CannotTell,
             _ => Refused,
         }
     }
@@ -83,5 +87,10 @@ mod tests {
     #[test]
     fn numbers_of_the_shelf() {
         assert!((18..23).all(|number| Status::of(number) == Refused));
+    }
+
+    #[test]
+    fn numbers_of_two_blocks() {
+        assert_eq!([23, 24, 25].map(|number| Status::of(number).number()), [8, 8, 7]);
     }
 }

@@ -6,11 +6,13 @@ use crate::status::Status;
 use crate::trouble::{Outcome, Trouble};
 
 pub mod check;
+pub mod copies;
 pub mod excerpt;
 pub mod help;
 pub mod log;
 pub mod maze;
 pub mod names;
+pub mod same;
 pub mod shelf;
 pub mod show;
 pub mod state;
@@ -27,13 +29,15 @@ pub struct Command {
     pub run: fn(&Words, &mut Out) -> Outcome<Status>,
 }
 
-pub static COMMANDS: [&Command; 11] = [
+pub static COMMANDS: [&Command; 12] = [
     &check::COMMAND,
     &show::COMMAND,
     &crate::run::COMMAND,
     &crate::why::COMMAND,
     &maze::COMMAND,
     &excerpt::COMMAND,
+    &same::COMMAND,
+    &copies::COMMAND,
     &state::COMMAND,
     &log::COMMAND,
     &names::COMMAND,

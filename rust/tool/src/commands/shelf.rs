@@ -246,7 +246,7 @@ fn fetch(path: &Path, words: &Words, out: &mut Out) -> Outcome<Status> {
         Err(why) => return turned_down(&shelf, asked, why, &[], words, out),
     };
     let to = files::block_path(word);
-    put(&to, block, words.has("--over"))?;
+    block::put(&to, block, words.has("--over"))?;
     if words.has("--json") {
         return done(&about(asked, block).text("sha256", &sha256(block)).text("file", &to.to_string_lossy()).done(), out);
     }
@@ -268,15 +268,4 @@ fn withdraw(path: &Path, words: &Words, out: &mut Out) -> Outcome<Status> {
         }
         Err(why) => turned_down(&shelf, asked, why, &[], words, out),
     }
-}
-
-/// Writes a block into a file that is not there, that is empty or has these bytes; over another block only if that is asked for.
-fn put(to: &Path, block: &[u8], over: bool) -> Outcome<()> {
-    let is_free = matches!(files::size(to), None | Some(0)) || files::block(to)? == block;
-    if is_free || over && block::is_good(to) {
-        return replace(to, block);
-    }
-    let left = if over { "is there and is no good block" } else { "is there, with other bytes" };
-    let trouble = Trouble::call(format!("{} {}: it is left as it is", shown(to), left));
-    Err(if over { trouble } else { trouble.advise("with --over the block takes its place, where it is a good block") })
 }
