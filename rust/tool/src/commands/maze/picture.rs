@@ -45,8 +45,11 @@ fn about(asked: &Asked) -> String {
 
 fn drawn(asked: &Asked, heads: &[Words]) -> Picture {
     let labels: Vec<Vec<Words>> = (0..asked.board.places.len()).map(|n| label(asked, n)).collect();
-    let sizes: Vec<(f64, f64)> = asked.board.places.iter().zip(&labels).enumerate().map(|(n, (place, lines))| (wide(asked, n, place, lines), 12.0 + LINE * lines.len() as f64)).collect();
     let arrows: Vec<(usize, usize)> = asked.board.places.iter().enumerate().flat_map(|(from, place)| place.ways.iter().map(move |way| (from, way.to))).collect();
+    let mut ends: Vec<usize> = asked.board.places.iter().map(|place| place.ways.len()).collect();
+    arrows.iter().for_each(|(_, to)| ends[*to] += 1);
+    let all = asked.board.places.iter().zip(&labels).zip(&ends);
+    let sizes: Vec<(f64, f64)> = all.map(|((place, lines), ends)| (wide(place, lines, *ends), 12.0 + LINE * lines.len() as f64)).collect();
     let laid = lay(&sizes, &arrows, |n| matches!(asked.board.places[n].room, Room::Signal(_)));
     let inner = heads.iter().map(Words::width).fold(laid.width.max(LEAST), f64::max);
     let top = MARGIN + 26.0 * heads.len() as f64;
@@ -77,15 +80,14 @@ fn label(asked: &Asked, n: usize) -> Vec<Words> {
 }
 
 /// Wide enough for its lines, and for the corridors that begin and end there.
-fn wide(asked: &Asked, n: usize, place: &Place, lines: &[Words]) -> f64 {
+fn wide(place: &Place, lines: &[Words], ends: usize) -> f64 {
     let side = match outline(place) {
         Outline::Pointed => POINT + 8.0,
         Outline::Barred => 28.0,
         _ => 12.0,
     };
-    let into = asked.board.places.iter().flat_map(|other| &other.ways).filter(|way| way.to == n).count();
-    let ends = 40.0 + 11.0 * ((into + place.ways.len()) as f64).min(120.0);
-    lines.iter().map(Words::width).fold(0.0, f64::max).max(ends - 2.0 * side) + 2.0 * side
+    let least = 40.0 + 11.0 * (ends as f64).min(120.0);
+    least.max(lines.iter().map(Words::width).fold(0.0, f64::max) + 2.0 * side)
 }
 
 fn outline(place: &Place) -> Outline {
