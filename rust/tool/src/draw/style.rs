@@ -37,7 +37,8 @@ fn rules(before: &str, which: fn(&Tone) -> &'static str) -> String {
 
 /// The rules of a picture that stands alone.
 pub fn sheet() -> String {
-    format!("{}@media screen and (prefers-color-scheme:dark){{\n{}}}\n", rules("", |tone| tone.light), rules("", |tone| tone.dark))
+    // A browser that darkens by itself leaves alone what says that it can.
+    format!(".picture{{color-scheme:light dark}}\n{}@media screen and (prefers-color-scheme:dark){{\n{}}}\n", rules("", |tone| tone.light), rules("", |tone| tone.dark))
 }
 
 /// The same for a page on which a reader may choose: `data-light` on the root is `on` or `off`.
