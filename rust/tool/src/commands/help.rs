@@ -51,7 +51,7 @@ pub fn all(out: &mut Out) -> Outcome<Status> {
         out.line(&format!("  foldheron {:8} {}", command.name, command.does))?;
     }
     out.text("\nfoldheron help SUBCOMMAND, or foldheron SUBCOMMAND --help, says more; foldheron --version says which this is.\n")?;
-    out.text("Where a block's file is asked for, a folder stands for the block.bin in it, and - for standard input.\n\n")?;
+    out.text("Where a block's file is asked for, a folder stands for the block.bin in it, and - for standard input. -o is short for --to.\n\n")?;
     statuses(out)
 }
 

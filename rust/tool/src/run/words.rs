@@ -12,6 +12,7 @@ use crate::trouble::Outcome;
 use crate::walk::{counted, grouped};
 use crate::why::{how_to_ask, FEW};
 use foldheron::{Doubt, Instant};
+use std::ops::Range;
 use std::path::Path;
 
 /// A column of signals is at most so wide, so that the table has 80 columns; a longer list pushes what is to its right.
@@ -38,12 +39,15 @@ pub fn code(code: u16) -> String {
     }
 }
 
+/// How wide a column of these signals is, so that all of them fit, within two bounds.
+pub fn width(labels: &Labels, signals: Range<usize>, least: usize, most: usize) -> usize {
+    let all: usize = signals.map(|n| labels.signal(n).len() + 2).sum();
+    all.saturating_sub(1).clamp(least, most)
+}
+
 /// The columns of a run; a log has the same but for the pauses.
 pub fn columns(labels: &Labels, first: &'static str, has_pauses: bool) -> Vec<Column> {
-    let wide = |range: std::ops::Range<usize>, least: usize| {
-        let all: usize = range.map(|n| labels.signal(n).len() + 2).sum();
-        all.saturating_sub(1).clamp(least, WIDEST)
-    };
+    let wide = |range: Range<usize>, least: usize| width(labels, range, least, WIDEST);
     let known = labels.signals() > 0;
     let least = if known { 7 } else { 16 };
     let mut columns = vec![

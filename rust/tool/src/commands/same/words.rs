@@ -7,7 +7,7 @@ use crate::files;
 use crate::labels::Labels;
 use crate::output::Out;
 use crate::refusal;
-use crate::run::words::code;
+use crate::run::words::{code, width};
 use crate::sets::{changed, sentence, Given, UNKNOWN};
 use crate::status::Status;
 use crate::table::{Column, Side, Table};
@@ -84,12 +84,11 @@ pub fn turned_down(pair: &Pair, why: Refusal) -> Trouble {
 
 /// The columns, as run has them but for pauses and rounds, which are not compared.
 fn columns(labels: &Labels) -> Table {
-    let wide = |range: std::ops::Range<usize>, least: usize| range.map(|n| labels.signal(n).len() + 2).sum::<usize>().saturating_sub(1).clamp(least, WIDEST);
     let left = |title, width| Column { title, width, side: Side::Left };
-    let outputs = wide(labels.outputs(), 7);
+    let outputs = width(labels, labels.outputs(), 7, WIDEST);
     Table::new(vec![
         Column { title: "instant", width: 7, side: Side::Right },
-        left("inputs", wide(labels.inputs(), 7)),
+        left("inputs", width(labels, labels.inputs(), 7, WIDEST)),
         left(SIDES[0], outputs),
         left("code", 7),
         left(SIDES[1], outputs),
