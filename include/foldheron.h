@@ -225,8 +225,8 @@ uint16_t foldheron_alike(const uint8_t *first, size_t first_size, const uint8_t 
                          uint8_t *answer, size_t answer_size);
 
 /* Writes the block with each loop body in sequence with itself, from the inside out, its locals numbered anew and the header else kept, to the front of the
- * lent output; the bytes behind it stay, and refused, all of them do. From fresh, any input run gives the same outputs, codes and 13 on both blocks. A
- * state of the one is none of the other. FOLDHERON_BLOCK_MOST bytes are enough for any. The answer, 24 bytes: number, place, and how many bytes were
+ * lent output; the bytes behind it stay, and refused, all of them do. From fresh, any input run gives the same outputs, codes and 13 on both blocks; where
+ * there is a loop, a state of the one is no state of the other. FOLDHERON_BLOCK_MOST bytes are enough for any. The answer, 24 bytes: number, place, and how many bytes were
  * written, 0 where it was refused. Refusals: 1 to 8, then 4 with place 0 where the doubled block passes a limit, then 12. */
 #define FOLDHERON_DOUBLE_LOOPS_SIZE 24
 #define FOLDHERON_AT_WRITTEN 16

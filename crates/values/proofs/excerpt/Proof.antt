@@ -8,14 +8,8 @@ use Rattle.values.proofs.excerpt.Reads as reads
 use Rattle.values.proofs.excerpt.Lts as lts
 use Rattle.foldheron.proofs.part_of.Reads as part-of-reads
 
-part-of-requires : tie.Need-part-of-requires
-part-of-requires c κs = search needs
-
-cast-t4 : tie.Need-cast-t4
-cast-t4 c = search needs
-
 returns : tie.Need-returns
 returns c = ap part-values (c .before .part-of .ensures .0)
 
 pub excerpt-spec : {M : Type 1} → statement M
-excerpt-spec = tie.close (tie.spec part-of-requires cast-t4 returns)
+excerpt-spec = tie.close (tie.spec (λ c κs. search needs) (λ c. search needs) returns)

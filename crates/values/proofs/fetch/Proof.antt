@@ -15,9 +15,6 @@ use Rattle.values.proofs.fetch.Lts as lts
 use Rattle.records.proofs.parts.copy_at.Reads as copy-at-reads
 use Rattle.shelf.proofs.fetch.Reads as fetch-reads
 
-fetch-requires : tie.Need-fetch-requires
-fetch-requires c κs = search needs
-
 copy-at-requires : tie.Need-copy-at-requires
 copy-at-requires c κs =
     let at-fetch = c .before in
@@ -25,9 +22,6 @@ copy-at-requires c κs =
     let at-start = at-shared-slice-known .before in
     let a = at-start .args in let l = fetched-size (now (a .shelf)) (record { byte = λ i. at-shared-slice-known .shared-slice-known .given i .fits }) (a .party)
     (a .name) in let e = ap length (at-fetch .fetch .ensures .0) in omega (arith, l, e, at-start .pre)
-
-same-length : tie.Need-same-length
-same-length c = search needs
 
 returns : tie.Need-returns
 returns c =
@@ -41,4 +35,4 @@ returns c =
     (three-values (f .1 .1 .0) (f .1 .1 .1) (ap length (f .0)), copied-over _ _ (f .0) m (at-copy-at .copy-at .ensures))
 
 pub fetch-spec : {M : Type 1} → statement M
-fetch-spec = tie.close (tie.spec fetch-requires copy-at-requires same-length returns)
+fetch-spec = tie.close (tie.spec (λ c κs. search needs) copy-at-requires (λ c. search needs) returns)

@@ -10,32 +10,11 @@ use Rattle.values.proofs.fresh.Lts as lts
 use Rattle.foldheron.proofs.fresh.Reads as fresh-reads
 use Rattle.refusals.proofs.number_of.Reads as number-of-reads
 
-fresh-requires : tie.Need-fresh-requires
-fresh-requires c κs = search needs
-
-enum-told : tie.Need-enum-told
-enum-told c = search needs
-
-enum-known-begun : tie.Need-enum-known-begun
-enum-known-begun c = search needs
-
-number-of-requires : tie.Need-number-of-requires
-number-of-requires c κs = search needs
-
-cast-t10 : tie.Need-cast-t10
-cast-t10 c = search needs
-
-same-length : tie.Need-same-length
-same-length c = search needs
-
 returns : tie.Need-returns
 unfolding begun-values
 returns c =
     let at-fresh = c .before .before .before .before in
     (ap begun-values (sym (c .enum-told .given .1)) ∙ at-fresh .fresh .ensures .0, at-fresh .fresh .ensures .1)
-
-same-length-2 : tie.Need-same-length-2
-same-length-2 c = search needs
 
 returns-2 : tie.Need-returns-2
 unfolding begun-values
@@ -48,12 +27,12 @@ pub fresh-spec : {M : Type 1} → statement M
 fresh-spec =
     tie.close
     (tie.spec
-    fresh-requires
-    enum-told
-    enum-known-begun
-    number-of-requires
-    cast-t10
-    same-length
+    (λ c κs. search needs)
+    (λ c. search needs)
+    (λ c. search needs)
+    (λ c κs. search needs)
+    (λ c. search needs)
+    (λ c. search needs)
     returns
-    same-length-2
+    (λ c. search needs)
     returns-2)

@@ -8,19 +8,10 @@ use Rattle.values.proofs.install.Lts as lts
 use Rattle.values.proofs.shelved.Reads as shelved-reads
 use Rattle.shelf.proofs.install.Reads as install-reads
 
-install-requires : tie.Need-install-requires
-install-requires c κs = search needs
-
-shelved-requires : tie.Need-shelved-requires
-shelved-requires c κs = search needs
-
-same-length : tie.Need-same-length
-same-length c = search needs
-
 returns : tie.Need-returns
 returns c =
     let at-install = c .before .before .before in
     (c .shelved .ensures ∙ at-install .install .ensures .0, at-install .install .ensures .1)
 
 pub install-spec : {M : Type 1} → statement M
-install-spec = tie.close (tie.spec install-requires shelved-requires same-length returns)
+install-spec = tie.close (tie.spec (λ c κs. search needs) (λ c κs. search needs) (λ c. search needs) returns)

@@ -10,19 +10,10 @@ use Rattle.values.proofs.instant.Lts as lts
 use Rattle.values.proofs.told_values.Reads as told-values-reads
 use Rattle.foldheron.proofs.instant.Reads as instant-reads
 
-instant-requires : tie.Need-instant-requires
-instant-requires c κs = search needs
-
-told-values-requires : tie.Need-told-values-requires
-told-values-requires c κs = search needs
-
-same-length : tie.Need-same-length
-same-length c = search needs
-
 returns : tie.Need-returns
 returns c =
     let at-instant = c .before .before .before in
     (c .told-values .ensures ∙ ap (λ (t : Told). logged-values t 0) (at-instant .instant .ensures .0), at-instant .instant .ensures .1)
 
 pub instant-spec : {M : Type 1} → statement M
-instant-spec = tie.close (tie.spec instant-requires told-values-requires same-length returns)
+instant-spec = tie.close (tie.spec (λ c κs. search needs) (λ c κs. search needs) (λ c. search needs) returns)

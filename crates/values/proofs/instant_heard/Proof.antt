@@ -10,19 +10,10 @@ use Rattle.values.proofs.instant_heard.Lts as lts
 use Rattle.values.proofs.told_values.Reads as told-values-reads
 use Rattle.foldheron.proofs.instant_heard.Reads as instant-heard-reads
 
-instant-heard-requires : tie.Need-instant-heard-requires
-instant-heard-requires c κs = search needs
-
-told-values-requires : tie.Need-told-values-requires
-told-values-requires c κs = search needs
-
-same-length : tie.Need-same-length
-same-length c = search needs
-
 returns : tie.Need-returns
 returns c =
     let at-instant-heard = c .before .before .before in
     (c .told-values .ensures ∙ ap (λ (t : Told). logged-values t 0) (at-instant-heard .instant-heard .ensures .0), at-instant-heard .instant-heard .ensures .1)
 
 pub instant-heard-spec : {M : Type 1} → statement M
-instant-heard-spec = tie.close (tie.spec instant-heard-requires told-values-requires same-length returns)
+instant-heard-spec = tie.close (tie.spec (λ c κs. search needs) (λ c κs. search needs) (λ c. search needs) returns)

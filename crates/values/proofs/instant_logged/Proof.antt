@@ -9,18 +9,6 @@ use Rattle.values.proofs.instant_logged.Lts as lts
 use Rattle.values.proofs.told_values.Reads as told-values-reads
 use Rattle.foldheron.proofs.instant_logged.Reads as instant-logged-reads
 
-instant-logged-requires : tie.Need-instant-logged-requires
-instant-logged-requires c κs = search needs
-
-told-values-requires : tie.Need-told-values-requires
-told-values-requires c κs = search needs
-
-same-length : tie.Need-same-length
-same-length c = search needs
-
-same-length-2 : tie.Need-same-length-2
-same-length-2 c = search needs
-
 returns : tie.Need-returns
 returns c =
     let at-instant-logged = c .before .before .before .before .before in
@@ -29,4 +17,4 @@ returns c =
 pub instant-logged-spec : {M : Type 1} → statement M
 instant-logged-spec =
     tie.close
-    (tie.spec instant-logged-requires told-values-requires same-length same-length-2 returns)
+    (tie.spec (λ c κs. search needs) (λ c κs. search needs) (λ c. search needs) (λ c. search needs) returns)

@@ -14,15 +14,6 @@ use Rattle.values.proofs.asked_by.Reads as asked-by-reads
 use Rattle.values.proofs.reasoned.Reads as reasoned-reads
 use Rattle.foldheron.proofs.reason.Reads as reason-reads
 
-asked-by-requires : tie.Need-asked-by-requires
-asked-by-requires c κs = search needs
-
-reason-requires : tie.Need-reason-requires
-reason-requires c κs = search needs
-
-reasoned-requires : tie.Need-reasoned-requires
-reasoned-requires c κs = search needs
-
 returns : tie.Need-returns
 returns c =
     let at-reason = c .before in
@@ -34,4 +25,4 @@ returns c =
     ∙ question-told b s (args .present) (args .absent) (asked-by (args .asked) (args .about))
 
 pub reason-spec : {M : Type 1} → statement M
-reason-spec = tie.close (tie.spec asked-by-requires reason-requires reasoned-requires returns)
+reason-spec = tie.close (tie.spec (λ c κs. search needs) (λ c κs. search needs) (λ c κs. search needs) returns)

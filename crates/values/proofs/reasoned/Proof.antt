@@ -9,27 +9,6 @@ use Rattle.values.proofs.reasoned.Reads as reads
 use Rattle.values.proofs.reasoned.Lts as lts
 use Rattle.refusals.proofs.number_of.Reads as number-of-reads
 
-enum-known-answer : tie.Need-enum-known-answer
-enum-known-answer c = search needs
-
-enum-known-answer-2 : tie.Need-enum-known-answer-2
-enum-known-answer-2 c = search needs
-
-cast-t9 : tie.Need-cast-t9
-cast-t9 c = search needs
-
-cast-t10 : tie.Need-cast-t10
-cast-t10 c = search needs
-
-enum-known-answer-3 : tie.Need-enum-known-answer-3
-enum-known-answer-3 c = search needs
-
-number-of-requires : tie.Need-number-of-requires
-number-of-requires c κs = search needs
-
-cast-t12 : tie.Need-cast-t12
-cast-t12 c = search needs
-
 returns : tie.Need-returns
 unfolding reason-values
 returns c =
@@ -52,13 +31,13 @@ pub reasoned-spec : {M : Type 1} → statement M
 reasoned-spec =
     tie.close
     (tie.spec
-    enum-known-answer
-    enum-known-answer-2
-    cast-t9
-    cast-t10
-    enum-known-answer-3
-    number-of-requires
-    cast-t12
+    (λ c. search needs)
+    (λ c. search needs)
+    (λ c. search needs)
+    (λ c. search needs)
+    (λ c. search needs)
+    (λ c κs. search needs)
+    (λ c. search needs)
     returns
     returns-2
     returns-3)

@@ -9,18 +9,6 @@ use Rattle.values.proofs.shelved.Reads as reads
 use Rattle.values.proofs.shelved.Lts as lts
 use Rattle.refusals.proofs.number_of.Reads as number-of-reads
 
-enum-told : tie.Need-enum-told
-enum-told c = search needs
-
-enum-known-answer : tie.Need-enum-known-answer
-enum-known-answer c = search needs
-
-number-of-requires : tie.Need-number-of-requires
-number-of-requires c κs = search needs
-
-cast-t6 : tie.Need-cast-t6
-cast-t6 c = search needs
-
 returns : tie.Need-returns
 unfolding shelved-values
 returns c = ap shelved-values (sym (c .enum-told .given .1))
@@ -31,4 +19,4 @@ returns-2 c = with-number _ (c .number-of .ensures) ∙ ap shelved-values (sym (
 
 pub shelved-spec : {M : Type 1} → statement M
 shelved-spec =
-    tie.close (tie.spec enum-told enum-known-answer number-of-requires cast-t6 returns returns-2)
+    tie.close (tie.spec (λ c. search needs) (λ c. search needs) (λ c κs. search needs) (λ c. search needs) returns returns-2)

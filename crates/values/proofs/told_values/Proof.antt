@@ -11,45 +11,6 @@ use Rattle.values.proofs.told_values.Reads as reads
 use Rattle.values.proofs.told_values.Lts as lts
 use Rattle.refusals.proofs.number_of.Reads as number-of-reads
 
-enum-known-answer : tie.Need-enum-known-answer
-enum-known-answer c = search needs
-
-cast-t11 : tie.Need-cast-t11
-cast-t11 c = search needs
-
-cast-t12 : tie.Need-cast-t12
-cast-t12 c = search needs
-
-cast-t13 : tie.Need-cast-t13
-cast-t13 c = search needs
-
-enum-known-answer-2 : tie.Need-enum-known-answer-2
-enum-known-answer-2 c = search needs
-
-cast-t14 : tie.Need-cast-t14
-cast-t14 c = search needs
-
-cast-t15 : tie.Need-cast-t15
-cast-t15 c = search needs
-
-enum-known-answer-3 : tie.Need-enum-known-answer-3
-enum-known-answer-3 c = search needs
-
-cast-t16 : tie.Need-cast-t16
-cast-t16 c = search needs
-
-cast-t17 : tie.Need-cast-t17
-cast-t17 c = search needs
-
-enum-known-answer-4 : tie.Need-enum-known-answer-4
-enum-known-answer-4 c = search needs
-
-number-of-requires : tie.Need-number-of-requires
-number-of-requires c κs = search needs
-
-cast-t19 : tie.Need-cast-t19
-cast-t19 c = search needs
-
 returns : tie.Need-returns
 unfolding instant-told
 returns c =
@@ -82,19 +43,19 @@ pub told-values-spec : {M : Type 1} → statement M
 told-values-spec =
     tie.close
     (tie.spec
-    enum-known-answer
-    cast-t11
-    cast-t12
-    cast-t13
-    enum-known-answer-2
-    cast-t14
-    cast-t15
-    enum-known-answer-3
-    cast-t16
-    cast-t17
-    enum-known-answer-4
-    number-of-requires
-    cast-t19
+    (λ c. search needs)
+    (λ c. search needs)
+    (λ c. search needs)
+    (λ c. search needs)
+    (λ c. search needs)
+    (λ c. search needs)
+    (λ c. search needs)
+    (λ c. search needs)
+    (λ c. search needs)
+    (λ c. search needs)
+    (λ c. search needs)
+    (λ c κs. search needs)
+    (λ c. search needs)
     returns
     returns-2
     returns-3

@@ -8,19 +8,10 @@ use Rattle.values.proofs.withdraw.Lts as lts
 use Rattle.values.proofs.shelved.Reads as shelved-reads
 use Rattle.shelf.proofs.withdraw.Reads as withdraw-reads
 
-withdraw-requires : tie.Need-withdraw-requires
-withdraw-requires c κs = search needs
-
-shelved-requires : tie.Need-shelved-requires
-shelved-requires c κs = search needs
-
-same-length : tie.Need-same-length
-same-length c = search needs
-
 returns : tie.Need-returns
 returns c =
     let at-withdraw = c .before .before .before in
     (c .shelved .ensures ∙ at-withdraw .withdraw .ensures .0, at-withdraw .withdraw .ensures .1)
 
 pub withdraw-spec : {M : Type 1} → statement M
-withdraw-spec = tie.close (tie.spec withdraw-requires shelved-requires same-length returns)
+withdraw-spec = tie.close (tie.spec (λ c κs. search needs) (λ c κs. search needs) (λ c. search needs) returns)

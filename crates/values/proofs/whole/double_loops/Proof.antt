@@ -8,17 +8,8 @@ use Rattle.values.proofs.whole.double_loops.Lts as lts
 use Rattle.foldheron.proofs.double_loops.Reads as double-loops-reads
 use Rattle.values.proofs.whole.wrote.Reads as wrote-reads
 
-double-loops-requires : tie.Need-double-loops-requires
-double-loops-requires c κs = search needs
-
-wrote-requires : tie.Need-wrote-requires
-wrote-requires c κs = search needs
-
-same-length : tie.Need-same-length
-same-length c = search needs
-
 returns : tie.Need-returns
 returns c = (c .wrote .ensures ∙ c .before .before .before .double-loops .ensures .0, c .before .before .before .double-loops .ensures .1)
 
 pub double-loops-spec : {M : Type 1} → statement M
-double-loops-spec = tie.close (tie.spec double-loops-requires wrote-requires same-length returns)
+double-loops-spec = tie.close (tie.spec (λ c κs. search needs) (λ c κs. search needs) (λ c. search needs) returns)

@@ -10,18 +10,6 @@ use Rattle.values.proofs.whole.leading.Tie as tie
 use Rattle.values.proofs.whole.leading.Reads as reads
 use Rattle.values.proofs.whole.leading.Lts as lts
 
-enum-known-room : tie.Need-enum-known-room
-enum-known-room c = search needs
-
-enum-known-room-2 : tie.Need-enum-known-room-2
-enum-known-room-2 c = search needs
-
-enum-known-room-3 : tie.Need-enum-known-room-3
-enum-known-room-3 c = search needs
-
-enum-told : tie.Need-enum-told
-enum-told c = search needs
-
 returns : tie.Need-returns
 unfolding room-of
 returns c = ap (λ (r : Room). 0 ∷ 0 ∷ c .before .before .before .args .way ∷ room-values (room-of r)) (sym (c .before .room .given .1))
@@ -42,10 +30,10 @@ pub leading-spec : {M : Type 1} → statement M
 leading-spec =
     tie.close
     (tie.spec
-    enum-known-room
-    enum-known-room-2
-    enum-known-room-3
-    enum-told
+    (λ c. search needs)
+    (λ c. search needs)
+    (λ c. search needs)
+    (λ c. search needs)
     returns
     returns-2
     returns-3

@@ -12,33 +12,6 @@ use Rattle.values.proofs.whole.led.Lts as lts
 use Rattle.refusals.proofs.number_of.Reads as number-of-reads
 use Rattle.values.proofs.whole.leading.Reads as leading-reads
 
-enum-known-answer : tie.Need-enum-known-answer
-enum-known-answer c = search needs
-
-leading-requires : tie.Need-leading-requires
-leading-requires c κs = search needs
-
-enum-known-answer-2 : tie.Need-enum-known-answer-2
-enum-known-answer-2 c = search needs
-
-leading-requires-2 : tie.Need-leading-requires-2
-leading-requires-2 c κs = search needs
-
-enum-told : tie.Need-enum-told
-enum-told c = search needs
-
-enum-told-2 : tie.Need-enum-told-2
-enum-told-2 c = search needs
-
-enum-known-answer-3 : tie.Need-enum-known-answer-3
-enum-known-answer-3 c = search needs
-
-number-of-requires : tie.Need-number-of-requires
-number-of-requires c κs = search needs
-
-cast-t8 : tie.Need-cast-t8
-cast-t8 c = search needs
-
 returns : tie.Need-returns
 unfolding way-told way-values
 returns c = c .leading .ensures ∙ ap (λ (a : Corridor). way-values (way-told a)) (sym (c .before .before .answer .given .1))
@@ -63,15 +36,15 @@ pub led-spec : {M : Type 1} → statement M
 led-spec =
     tie.close
     (tie.spec
-    enum-known-answer
-    leading-requires
-    enum-known-answer-2
-    leading-requires-2
-    enum-told
-    enum-told-2
-    enum-known-answer-3
-    number-of-requires
-    cast-t8
+    (λ c. search needs)
+    (λ c κs. search needs)
+    (λ c. search needs)
+    (λ c κs. search needs)
+    (λ c. search needs)
+    (λ c. search needs)
+    (λ c. search needs)
+    (λ c κs. search needs)
+    (λ c. search needs)
     returns
     returns-2
     returns-3
