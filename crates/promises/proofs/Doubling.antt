@@ -41,14 +41,14 @@ use Rattle.copies.proofs.double_loops.Statement as double-statement
 use Rattle.copies.proofs.double_loops.Met as double-met
 use Rattle.writing.specs.Answers.{Writing, writes, refuses, roomed, wrote-values, wrote-owed, out-owed}
 use Rattle.doubled.specs.Copies.{doubled, doubled-header, within-limits, doubled-writing, doubling, doubling-of}
-use Rattle.doubled.proofs.OnBytes.{runs-are-the-same, reads-back-good}
+use Rattle.doubled.proofs.OnBytes.{runs-are-the-same, reads-back-good, over-a-limit-reads-4}
 use Rattle.reaction.specs.Fronts.{INPUT, wrong-inputs}
 use Rattle.reaction.specs.Instants.{ROOM, block-of, heard-of, told-refusal, told-reaction}
 use Rattle.reaction.specs.declared.Given.{Given}
 use Rattle.reaction.specs.declared.Given.the-variants.{All, Two}
 use Rattle.reaction.specs.declared.Instant.{Instant}
 use Rattle.promises.specs.Beside.{Ran, Each, SameButActive}
-use Rattle.promises.specs.Doubling.{GoodToo, SameBlockDoubled, WroteDoubled, doubled-bytes, PassesLimit, TooFewLent, double-tests}
+use Rattle.promises.specs.Doubling.{GoodToo, SameBlockDoubled, WroteDoubled, LimitOfDoubled, doubled-bytes, PassesLimit, TooFewLent, double-tests}
 use Rattle.promises.specs.Calls.{CheckCalled, DoubleCalled}
 use Rattle.promises.specs.Tests.{Test, First}
 use Rattle.promises.specs.Demand1.{Returns, ExactlyOne, one-to-8, number-in, place-in, PlacedBy, in-block, at-0}
@@ -320,3 +320,46 @@ module _ (b : List ℕ) where
               n-of-them = ap length front-is ∙ sym k;
               rest-stays = ap (drop n) q ∙ drop-at (doubled-bytes g) (drop (length (doubled-bytes g)) out) n (sym k) ∙ ap (λ (i : ℕ). drop i out) (sym k);
             }
+
+    abbrev OverLimits : Good → Type 0
+    OverLimits g = within-limits (doubled-header (g .header) (g .body)) (doubled (g .header) (g .body)) ≡ false
+
+    record Limits (v u : ℕ) : Type 0 where
+      back : u ≡ LIMIT → v ≡ LIMIT
+      there : v ≡ LIMIT → u ≡ LIMIT
+      else-good : v ≢ LIMIT → u ≡ 0
+
+    not-both : (n at : ℕ) (g : Good) → turned-down n at ≡ good g → ⊥
+    not-both n at g q = let z : _≡_ {A = ℕ} 0 1 = cc in absurd (omega arith)
+
+    over : (g : Good) → reading b ≡ good g → OverLimits g → Limits LIMIT (number-in (check-owed (reading (doubled-bytes g))))
+    unfolding check-owed
+    over g e q =
+        let x = over-a-limit-reads-4 b bytes g e q in
+        let u : number-in (check-owed (reading (doubled-bytes g))) ≡ LIMIT = ap (λ (y : Reading). number-in (check-owed y)) (x .1) in
+        record { back = λ z. refl; there = λ z. u; else-good = λ z. absurd (z refl) }
+
+    within : (g : Good) → reading b ≡ good g → (n : ℕ) → n ≢ LIMIT → InLimits g → Limits n (number-in (check-owed (reading (doubled-bytes g))))
+    unfolding check-owed
+    within g e n f w =
+        let d = reads-back-good b bytes g e (doubled-bytes g) (written-doubled g e w) in
+        let u : number-in (check-owed (reading (doubled-bytes g))) ≡ 0 = ap (λ (y : Reading). number-in (check-owed y)) d in
+        record { back = λ z. let y : _≡_ {A = ℕ} 0 4 = sym u ∙ z in absurd (omega arith); there = λ z. absurd (f z); else-good = λ z. u }
+
+    -- 4 is given exactly where the doubled block's own bytes are turned down with 4. (They are `doubled-bytes`; with over 65,535 locals the header's two bytes hold the count's remainder,
+    -- but then the bytes are over 3,086, which is 4 before the header is read.)
+    pub four-exactly-where-the-doubled-bytes-are-4 : (g : Good) → reading b ≡ good g → {out out′ : List ℕ} {r : Wrote} {c : Checked} → DoubleCalled b out r out′
+        → CheckCalled (doubled-bytes g) c → LimitOfDoubled r c
+    unfolding wrote-owed
+    four-exactly-where-the-doubled-bytes-are-4 g e {out} {out′} {r} {c} d k =
+        let x = by-tests b (length out) (λ w. Limits (number-in (wrote-owed w)) (number-in (check-owed (reading (doubled-bytes g))))) (λ n at q. absurd (not-both n at g (sym q ∙ e)))
+        (λ p. over g e (subst (λ (x : Good). OverLimits x) (one-reading b g (p .block) e (p .is-good)) (p .over)))
+        (λ h q w l. within g e ROOM (λ z. omega arith) (subst (λ (x : Good). InLimits x) (one-reading b g h e q) w))
+        (λ h q w l. within g e 0 (λ z. omega arith) (subst (λ (x : Good). InLimits x) (one-reading b g h e q) w)) in
+        let v = ap number-in (double-says d .0) in
+        let u = ap number-in (check-says (doubled-bytes g) k) in
+        record {
+          four-where-four = λ z. v ∙ x .back (sym u ∙ z);
+          only-there = λ z. u ∙ x .there (sym v ∙ z);
+          good-else = λ z. u ∙ x .else-good (λ y. z (v ∙ y));
+        }

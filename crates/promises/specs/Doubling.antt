@@ -1,5 +1,6 @@
 -- The block that `double_loops` writes, over the calls: what is promised of it, and the tests of the call in their order. Assumes nothing.
 use mathlib.Core.Path.{_≡_}
+use mathlib.Core.Logic.{_≢_}
 use mathlib.Core.Bool.{false}
 use mathlib.Core.List.{List, [], _∷_, _++_}
 use Prim.Native.Nat.{ℕ, _<_}
@@ -8,6 +9,9 @@ use Rattle.block.specs.Format.{LIMIT, Good, good, reading}
 use Rattle.block.specs.declared.whole.Checked.{Checked}
 use Rattle.block.specs.declared.whole.Checked.the-variants.{Good as GoodOne}
 use Rattle.block.specs.declared.whole.Summary.{Summary}
+use Rattle.writing.specs.declared.Wrote.{Wrote}
+use Rattle.writing.specs.Answers.{wrote-values}
+use Rattle.foldheron.specs.Answers.{check-values}
 use Rattle.writing.specs.Written.{block-bytes}
 use Rattle.doubled.specs.Copies.{doubled, doubled-header, within-limits}
 use Rattle.reaction.specs.Instants.{ROOM}
@@ -15,7 +19,7 @@ use Rattle.reaction.specs.declared.Given.{Given}
 use Rattle.reaction.specs.declared.Instant.{Instant}
 use Rattle.promises.specs.Calls.{CheckCalled}
 use Rattle.promises.specs.Tests.{Test}
-use Rattle.promises.specs.Demand1.{block-tests}
+use Rattle.promises.specs.Demand1.{block-tests, number-in}
 use Rattle.promises.specs.Beside.{Ran, Each, SameButActive}
 
 -- `check` says Good, with the version, the inputs and the outputs that it said of the block itself.
@@ -40,6 +44,12 @@ pub record WroteDoubled (b out : List ℕ) (n : ℕ) (out′ : List ℕ) : Type 
 -- The bytes of a good block doubled.
 abbrev pub doubled-bytes : Good → List ℕ
 doubled-bytes g = block-bytes (doubled-header (g .header) (g .body)) (doubled (g .header) (g .body))
+
+-- Of a good block, the call gives 4 exactly where `check` gives 4 for the doubled block's bytes, and else `check` says Good.
+pub record LimitOfDoubled (r : Wrote) (c : Checked) : Type 0 where
+  pub four-where-four : number-in (check-values c) ≡ LIMIT → number-in (wrote-values r) ≡ LIMIT
+  pub only-there : number-in (wrote-values r) ≡ LIMIT → number-in (check-values c) ≡ LIMIT
+  pub good-else : number-in (wrote-values r) ≢ LIMIT → number-in (check-values c) ≡ 0
 
 -- 4: the doubled block passes a limit.
 pub record PassesLimit (b : List ℕ) : Type 0 where
