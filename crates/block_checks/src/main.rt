@@ -8,23 +8,13 @@ mod corridors;
 mod mazes;
 mod written;
 
-use checking::lines::Line;
 use checking::lines::bar_after;
 use checking::lines::between;
 use checking::lines::numbers;
 use checking::lines::part;
 use checking::lines::word;
-use checking::pages::block;
+use checking::pages::made;
 use libc::STDIN_FILENO;
-
-// The bytes that a line makes: how many, and where the line ended.
-fn made(text: &[u8], from: usize, page: &mut [u8]) -> Line {
-    let bar = bar_after(text, from);
-    let mut given = [0u16; 1200];
-    let line = numbers(text, bar + 2, &mut given);
-    let count = block(page, &given, line.count);
-    Line { count, at: line.at }
-}
 
 fn case(text: &[u8], from: usize) -> usize {
     let bar = bar_after(text, from);

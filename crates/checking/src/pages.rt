@@ -1,4 +1,7 @@
 // Blocks and states written for the cases: a page of bytes, filled from its front, and some as they are.
+use crate::lines::Line;
+use crate::lines::bar_after;
+use crate::lines::numbers;
 use crate::lines::word;
 use block::Declared;
 use writing::put_header;
@@ -93,21 +96,13 @@ pub fn block(page: &mut [u8], given: &[u16], count: usize) -> usize {
     }
 }
 
-// A nothing, or two in a sequence.
-fn inside(page: &mut [u8], at: usize, two: bool) -> usize {
-    if two {
-        let first = statement(page, at, 21, 0);
-        let second = statement(page, first, 16, 0);
-        return statement(page, second, 16, 0);
-    }
-    statement(page, at, 16, 0)
-}
-
-// A block of so many suspends one inside the other, and inside them a nothing, or two in a sequence: 18 bytes and 6 for each suspend, or 8 more.
-pub fn chain(page: &mut [u8], suspends: u16, two: bool) -> usize {
-    let at = header(page, 1, 0, 0);
-    let to = repeated(page, at, suspends, 20, 0);
-    inside(page, to, two)
+// The bytes that a line of text makes: how many, and where the line ended.
+pub fn made(text: &[u8], from: usize, page: &mut [u8]) -> Line {
+    let bar = bar_after(text, from);
+    let mut given = [0u16; 1200];
+    let line = numbers(text, bar + 2, &mut given);
+    let count = block(page, &given, line.count);
+    Line { count, at: line.at }
 }
 
 // A state record by its version, statement count, phase and the lowest byte of its pauses.
