@@ -55,18 +55,24 @@ fn run(words: &Words, out: &mut Out) -> Outcome<Status> {
         Err(why) => return turned_down(&block, why, words, out),
     };
     let (over, beside) = (words.has("--over"), names::beside(&doubled.path));
-    let count = (0..doubled.labels.signals()).filter(|n| doubled.labels.name(*n).is_some()).count();
+    // Where pump.bin is written into pump.out one names file is beside both, and stays the block's own.
+    let is_carried = named(&doubled.labels) > 0 && !files::same(&beside, &names::beside(&block.path));
     block::may_be_put(&doubled.path, &doubled.bytes, over)?;
-    if count > 0 {
+    if is_carried {
         may_be_written(&beside, &doubled, over)?;
     }
     replace(&doubled.path, &doubled.bytes)?;
-    if count > 0 {
+    if is_carried {
         replace(&beside, names::written(&doubled.bytes, &doubled.summary, &doubled.labels).as_bytes())?;
     }
-    let told = tell(&block, &doubled, Some(beside).filter(|_| count > 0).map(|beside| (beside, count)), words, out).and_then(|_| out.flush());
+    let told = tell(&block, &doubled, is_carried, words, out).and_then(|_| out.flush());
     told.map_err(|trouble| trouble.advise("what was asked is done"))?;
     Ok(Status::Good)
+}
+
+/// How many signals have a name.
+fn named(labels: &Labels) -> usize {
+    (0..labels.signals()).filter(|n| labels.name(*n).is_some()).count()
 }
 
 /// The file to write: never the block itself, nor standard output.
@@ -108,7 +114,7 @@ fn growth(block: &Block, doubled: &Block) -> [(&'static str, u64, u64); 4] {
     ]
 }
 
-fn tell(block: &Block, doubled: &Block, names: Option<(PathBuf, usize)>, words: &Words, out: &mut Out) -> Outcome<()> {
+fn tell(block: &Block, doubled: &Block, is_carried: bool, words: &Words, out: &mut Out) -> Outcome<()> {
     let loops = Grown::of(&block.bytes).loops;
     if words.has("--json") {
         let object = Object::new().number("refusal", 0u64).text("file", &doubled.path.to_string_lossy()).number("version", doubled.summary.version).number("loops", loops);
@@ -124,9 +130,11 @@ fn tell(block: &Block, doubled: &Block, names: Option<(PathBuf, usize)>, words: 
         out.line("from fresh it gives the same outputs, codes and 13 under every run of inputs")?;
         out.line(&format!("a state of {} is none of its: it refuses it with 17, so start it afresh", files::shown(&block.path)))?;
     }
-    match names {
-        Some((beside, count)) => out.line(&format!("{}: {} carried along{}", files::shown(&beside), counted(count as u64, "name"), left_out(block, doubled))),
-        None => Ok(()),
+    let (beside, count) = (names::beside(&doubled.path), named(&doubled.labels));
+    match (is_carried, count) {
+        (true, _) => out.line(&format!("{}: {} carried along{}", files::shown(&beside), counted(count as u64, "name"), left_out(block, doubled))),
+        (false, 0) => Ok(()),
+        (false, _) => out.line(&format!("{} stays the names file of {}: with another name before its ending {} would have one of its own", files::shown(&beside), files::shown(&block.path), shown)),
     }
 }
 
@@ -139,8 +147,7 @@ fn from_to(what: &str, old: u64, new: u64) -> String {
 
 /// The locals' names that are not carried along.
 fn left_out(block: &Block, doubled: &Block) -> String {
-    let names = |labels: &Labels| (0..labels.signals()).filter(|n| labels.name(*n).is_some()).count();
-    match names(&block.labels) - names(&doubled.labels) {
+    match named(&block.labels) - named(&doubled.labels) {
         0 => String::new(),
         more => format!("; without those of locals, which are numbered anew: {}", more),
     }
