@@ -132,6 +132,12 @@ pub fn labels(words: &Words, path: &Path, block: &[u8], summary: &Summary) -> Ou
     }
 }
 
+/// Whether the names file beside a block is this block's.
+pub fn fits(path: &Path, block: &[u8], summary: &Summary) -> bool {
+    let text = files::first(&beside(path), MOST).ok().and_then(|bytes| String::from_utf8(bytes).ok());
+    text.map_or(false, |text| read(&text, block, summary).is_ok())
+}
+
 #[cfg(test)]
 mod tests {
     use super::*;

@@ -154,16 +154,25 @@ fn good(asked: &Asked, side: usize, out: &mut Out) -> Outcome<Option<Block>> {
     Ok(None)
 }
 
-/// What each block's names file calls its signals, and one name for each: the old block's, or the new one's where that has none.
-fn named(words: &Words, old: Block, new: Block) -> Outcome<Pair> {
+/// What each block's names file calls its signals. A file that is named, or that is beside both as pump.names beside pump.bin and pump.new, is for one of the two.
+fn names_of(words: &Words, old: &Block, new: &Block) -> Outcome<(Labels, Labels)> {
     let of = |block: &Block| names::labels(words, &block.path, &block.bytes, &block.summary);
     let numbered = |block: &Block| Labels::numbered(&block.summary);
-    // A file that is named is for one of the two.
-    let (first, second) = match (names::is_named(words), of(&old)) {
-        (false, first) => (first?, of(&new)?),
-        (true, Ok(first)) => (first, numbered(&new)),
-        (true, Err(trouble)) => (numbered(&old), of(&new).map_err(|_| trouble)?),
-    };
+    if names::is_named(words) {
+        return of(old).map(|labels| (labels, numbered(new))).or_else(|trouble| of(new).map(|labels| (numbered(old), labels)).map_err(|_| trouble));
+    }
+    let is_shared = old.bytes != new.bytes && files::same(&names::beside(&old.path), &names::beside(&new.path));
+    match (is_shared, names::fits(&new.path, &new.bytes, &new.summary)) {
+        (false, _) => Ok((of(old)?, of(new)?)),
+        (true, true) => Ok((numbered(old), of(new)?)),
+        (true, false) => Ok((of(old)?, numbered(new))),
+    }
+}
+
+/// The two with their names, and one name for each signal: the old block's, or the new one's where that has none.
+fn named(words: &Words, old: Block, new: Block) -> Outcome<Pair> {
+    let (first, second) = names_of(words, &old, &new)?;
+    let numbered = |block: &Block| Labels::numbered(&block.summary);
     let mut labels = numbered(&old);
     for signal in labels.inputs().chain(labels.outputs()) {
         if let Some(name) = first.name(signal).or_else(|| second.name(signal)) {
