@@ -9,14 +9,19 @@
 #include <string.h>
 
 /* A case: which call, the bytes that are lent to it, and its numbers; other is a log's end, the number of an excerpt, or what a question is about,
- * and asked which question it is. Of a call on a shelf inputs is the party, other the name, absent the shelf's size, and shelf_size how many of its bytes stand in the file: the rest are 0. */
+ * and asked which question it is. Of a call on a shelf inputs is the party, other the name, absent the shelf's size, and shelf_size how many of its bytes stand
+ * in the file: the rest are 0. Of two blocks the shelf is the second. Of a call that writes an output other is how many bytes are lent for it. */
 struct call {
     unsigned kind;
     size_t block_size, state_size, log_size, shelf_size;
     uint64_t inputs, other, absent, asked;
 };
 
-static uint8_t block[1 << 20], state[256], log_bytes[1 << 16], shelf[1 << 17], fetched[FOLDHERON_BLOCK_MOST], answer[FOLDHERON_LOGGED_SIZE];
+static uint8_t block[1 << 20], state[256], log_bytes[1 << 16], shelf[1 << 17], fetched[FOLDHERON_BLOCK_MOST], answer[FOLDHERON_LOGGED_SIZE],
+    out[1 << 16];
+
+/* What is lent for an output holds this byte, with which none ends. */
+enum { LENT = 0xA5 };
 
 static uint64_t number(const uint8_t *bytes, size_t count)
 {
@@ -46,7 +51,10 @@ static int next_call(FILE *file, struct call *call)
     call->shelf_size = call->kind >= 9 ? (size_t)call->asked : 0;
     if (call->block_size > sizeof block || call->shelf_size > sizeof shelf || (call->kind >= 9 && call->absent > sizeof shelf))
         return -1;
+    if (call->kind >= 12 && call->other > sizeof out)
+        return -1;
     memset(shelf, 0, sizeof shelf);
+    memset(out, LENT, sizeof out);
     if (fread(block, 1, call->block_size, file) != call->block_size || fread(state, 1, call->state_size, file) != call->state_size)
         return -1;
     if (fread(log_bytes, 1, call->log_size, file) != call->log_size)
@@ -71,13 +79,13 @@ static void put_bytes(const uint8_t *bytes, size_t count)
         putchar('-');
 }
 
-/* A shelf by its bytes up to the last that is not 0, and the number of zeros after it. */
-static void put_shelf(size_t size)
+/* Bytes up to the last that is not the rest's, and how many of the rest come after it. */
+static void put_until(const uint8_t *bytes, size_t size, uint8_t rest)
 {
     size_t count = size;
-    while (count > 0 && shelf[count - 1] == 0)
+    while (count > 0 && bytes[count - 1] == rest)
         count--;
-    put_bytes(shelf, count);
+    put_bytes(bytes, count);
     printf("+%zx", size - count);
 }
 
@@ -162,7 +170,7 @@ static void answer_install(const struct call *call)
                                        FOLDHERON_INSTALL_SIZE);
     printf("install");
     put_numbers(given, at_instant, 2);
-    put_shelf((size_t)call->absent);
+    put_until(shelf, (size_t)call->absent, 0);
 }
 
 static void answer_fetch(const struct call *call)
@@ -179,14 +187,41 @@ static void answer_withdraw(const struct call *call)
     unsigned given = foldheron_withdraw(shelf, (size_t)call->absent, (uint16_t)call->inputs, (uint16_t)call->other, answer, FOLDHERON_WITHDRAW_SIZE);
     printf("withdraw");
     put_numbers(given, at_instant, 2);
-    put_shelf((size_t)call->absent);
+    put_until(shelf, (size_t)call->absent, 0);
+}
+
+static void answer_maze(const struct call *call)
+{
+    static const size_t at_maze[] = {FOLDHERON_AT_NUMBER, FOLDHERON_AT_PLACE, FOLDHERON_AT_WINNING, FOLDHERON_AT_LOSING, FOLDHERON_AT_DRAWN};
+    unsigned given = foldheron_maze(block, call->block_size, call->inputs, answer, FOLDHERON_MAZE_SIZE);
+    printf("maze");
+    put_numbers(given, at_maze, 5);
+}
+
+/* The line says whether a refusal is of the second block; the answer, which block it is of. */
+static void answer_alike(const struct call *call)
+{
+    unsigned given = foldheron_alike(block, call->block_size, shelf, call->shelf_size, out, (size_t)call->other, answer, FOLDHERON_ALIKE_SIZE);
+    printf("alike");
+    put_numbers(given, at_instant, 2);
+    printf(" %d %" PRIx64, foldheron_number(answer, FOLDHERON_AT_BLOCK) == 2, foldheron_number(answer, FOLDHERON_AT_LENGTH));
+    put_until(out, (size_t)call->other, LENT);
+}
+
+static void answer_copies(const struct call *call)
+{
+    static const size_t at_written[] = {FOLDHERON_AT_NUMBER, FOLDHERON_AT_PLACE, FOLDHERON_AT_WRITTEN};
+    unsigned given = foldheron_double_loops(block, call->block_size, out, (size_t)call->other, answer, FOLDHERON_DOUBLE_LOOPS_SIZE);
+    printf("copies");
+    put_numbers(given, at_written, 3);
+    put_until(out, (size_t)call->other, LENT);
 }
 
 int main(int argc, char **argv)
 {
     static void (*const answers[])(const struct call *) = {answer_check, answer_fresh, answer_instant, answer_logged, answer_excerpt,
                                                              answer_heard, answer_heard_logged, answer_reason, answer_install, answer_fetch,
-                                                             answer_withdraw};
+                                                             answer_withdraw, answer_maze, answer_alike, answer_copies};
     struct call call;
     int more = -1;
     if (argc != 2) {
@@ -198,8 +233,8 @@ int main(int argc, char **argv)
         fprintf(stderr, "answer: %s: %s\n", argv[1], strerror(errno));
         return 1;
     }
-    while ((more = next_call(file, &call)) == 1 && call.kind >= 1 && call.kind <= 11) {
-        memset(answer, 0xA5, sizeof answer);
+    while ((more = next_call(file, &call)) == 1 && call.kind >= 1 && call.kind <= 14) {
+        memset(answer, LENT, sizeof answer);
         answers[call.kind - 1](&call);
         putchar('\n');
     }
