@@ -30,7 +30,7 @@ array-read-result : tie.Need-array-read-result
 array-read-result c = search needs
 
 cast-result : tie.Need-cast-result
-cast-result c = fits (c .before .before .before .before .before .before .before .alike .ensures .its-values) (likeness-counted (c .before .before .before .before .before .before .before .alike .ensures .likeness))
+cast-result c = let e = c .before .before .before .before .before .before .before .alike .ensures in fits (e .its-values) (likeness-counted (e .likeness))
 
 same-length : tie.Need-same-length
 same-length c = search needs

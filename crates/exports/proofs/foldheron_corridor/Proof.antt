@@ -32,15 +32,22 @@ array-read-result : tie.Need-array-read-result
 array-read-result c = search needs
 
 cast-result : tie.Need-cast-result
-cast-result c = fits (c .before .before .before .before .before .corridor .ensures) (corridor-counted (now (c .before .before .before .before .before .before .before .before .before .args .block)) (c .before .before .before .before .before .before .before .before .before .args .inputs) (room-by (c .before .before .before .before .before .before .before .before .before .args .room) (c .before .before .before .before .before .before .before .before .before .args .first) (c .before .before .before .before .before .before .before .before .before .args .second)) (c .before .before .before .before .before .before .before .before .before .args .n))
+cast-result c =
+    let at-corridor = c .before .before .before .before .before in
+    let args = at-corridor .before .before .before .before .args in
+    fits (at-corridor .corridor .ensures) (corridor-counted (now (args .block)) (args .inputs) (room-by (args .room) (args .first) (args .second)) (args .n))
 
 same-length : tie.Need-same-length
 same-length c = search needs
 
 returns-2 : tie.Need-returns-2
 returns-2 c =
-    answered 6 _ _ (corridor-counted (now (c .before .before .before .before .before .before .before .before .before .args .block)) (c .before .before .before .before .before .before .before .before .before .args .inputs) (room-by (c .before .before .before .before .before .before .before .before .before .args .room) (c .before .before .before .before .before .before .before .before .before .args .first) (c .before .before .before .before .before .before .before .before .before .args .second)) (c .before .before .before .before .before .before .before .before .before .args .n) .counted) (c .before .before .before .before .before .before .if1 .left) (c .before .before .before .before .before .corridor .ensures)
-    (λ i. let f : Fits w64 (getD (c .before .before .before .before .before .corridor .result) i 0) = search needs in f .fits) (c .before .before .put-values .ensures) refl
+    let at-corridor = c .before .before .before .before .before in
+    let at-if1 = at-corridor .before in
+    let args = at-if1 .before .before .before .args in
+    let n = corridor-counted (now (args .block)) (args .inputs) (room-by (args .room) (args .first) (args .second)) (args .n) in
+    answered 6 _ _ (n .counted) (at-if1 .if1 .left) (at-corridor .corridor .ensures)
+    (λ i. let f : Fits w64 (getD (at-corridor .corridor .result) i 0) = search needs in f .fits) (c .before .before .put-values .ensures) refl
 
 pub foldheron-corridor-spec : {M : Type 1} → statement M
 foldheron-corridor-spec =

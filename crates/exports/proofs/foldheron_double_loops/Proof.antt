@@ -31,7 +31,10 @@ array-read-result : tie.Need-array-read-result
 array-read-result c = search needs
 
 cast-result : tie.Need-cast-result
-cast-result c = fits (c .before .before .before .before .before .before .before .double-loops .ensures .0) (doubling-counted (now (c .before .before .before .before .before .before .before .before .before .before .before .before .before .args .block)) (now (c .before .before .before .before .before .before .before .before .before .before .before .before .before .args .out)))
+cast-result c =
+    let at-double-loops = c .before .before .before .before .before .before .before in
+    let args = at-double-loops .before .before .before .before .before .before .args in
+    fits (at-double-loops .double-loops .ensures .0) (doubling-counted (now (args .block)) (now (args .out)))
 
 same-length : tie.Need-same-length
 same-length c = search needs
@@ -41,10 +44,13 @@ same-length-2 c = search needs
 
 returns-2 : tie.Need-returns-2
 returns-2 c =
-    let l = c .before .before .before .before .before .before .before .before .before .if1 .left in
-    let e = c .before .before .before .before .before .before .before .double-loops .ensures in (
-      answered 3 _ _ ((doubling-counted (now (c .before .before .before .before .before .before .before .before .before .before .before .before .before .args .block)) (now (c .before .before .before .before .before .before .before .before .before .before .before .before .before .args .out))) .counted) l (e .0)
-          (λ i. let f : Fits w64 (getD (c .before .before .before .before .before .before .before .double-loops .result) i 0) = search needs in f .fits) (c .before .before .put-values .ensures) refl,
+    let at-double-loops = c .before .before .before .before .before .before .before in
+    let at-if1 = at-double-loops .before .before in
+    let args = at-if1 .before .before .before .before .args in
+    let l = at-if1 .if1 .left in
+    let e = at-double-loops .double-loops .ensures in (
+      answered 3 _ _ (doubling-counted (now (args .block)) (now (args .out)) .counted) l (e .0)
+          (λ i. let f : Fits w64 (getD (at-double-loops .double-loops .result) i 0) = search needs in f .fits) (c .before .before .put-values .ensures) refl,
       e .1 ∙ at-length 3 _ _ _ l,
     )
 
