@@ -12,7 +12,7 @@ use Rattle.refusals.specs.declared.Why.{Why}
 use Rattle.refusals.specs.declared.Why.the-variants.{Interface, Wide, Room, Pairs}
 use Rattle.refusals.proofs.Laws.{why-back}
 use Rattle.rules.specs.Statements.{Block}
-use Rattle.block.specs.Table.{Table}
+use Rattle.tables.specs.Table.{Table}
 use Rattle.block.specs.Format.{Good, Reading, good, turned-down, reading}
 use Rattle.block.specs.Told.{ReadWhole}
 use Rattle.block.specs.declared.whole.Summary.{Summary}
@@ -21,9 +21,9 @@ use Rattle.block.specs.declared.whole.Checked.the-variants.{Refused as RefusedB
 use Rattle.block.proofs.Answered.{was-turned-down}
 use Rattle.reaction.specs.Instants.{block-of}
 use Rattle.reaction.specs.Outcomes.{Opened}
-use Rattle.alike.specs.Runs.{Run, _▸_, size, bytes-of, Comparison, Over}
-use Rattle.alike.specs.Blocks.{comparison}
-use Rattle.alike.specs.Rows.{Links, Linked}
+use Rattle.pairs.specs.Runs.{Run, _▸_, size, bytes-of, Comparison, Over}
+use Rattle.pairs.specs.Blocks.{comparison}
+use Rattle.pairs.specs.Rows.{Links, Linked}
 use Rattle.alike.specs.Ends.{most, Shown, NoneShown, Ends}
 use Rattle.alike.specs.Calls.{Front, first-stopped, second-stopped, stopped, ready, try-both, try-second, try-first, Compared, Owed}
 use Rattle.alike.specs.declared.Likeness.{Likeness}

@@ -1,11 +1,7 @@
 pub mod Pigeons
 pub mod Order
 pub mod SearchLaws
-pub mod RowLaws
-pub mod FindLaws
-pub mod StepLaws
 pub mod Turning
 pub mod WrittenLaws
 pub mod CallLaws
 pub mod OneAnswer
-pub mod Examples

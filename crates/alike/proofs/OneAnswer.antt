@@ -11,8 +11,8 @@ use borrow.Author.Tests.{ltb-false}
 use Rattle.sets.proofs.Members.{of-false}
 use Rattle.block.specs.Format.{Good, Reading, good, turned-down, reading}
 use Rattle.reaction.specs.Instants.{block-of}
-use Rattle.alike.specs.Runs.{Run, size, bytes-of, Comparison}
-use Rattle.alike.specs.Blocks.{comparison}
+use Rattle.pairs.specs.Runs.{Run, size, bytes-of, Comparison}
+use Rattle.pairs.specs.Blocks.{comparison}
 use Rattle.alike.specs.Ends.{most}
 use Rattle.alike.specs.Calls.{Front, first-stopped, second-stopped, stopped, ready, try-both, try-second, try-first, front, Compared, Owed}
 use Rattle.alike.specs.declared.Likeness.{Likeness}

@@ -4,7 +4,7 @@ use Prim.Native.Nat.{ℕ, zero, suc, _+_, _*_, _≤_, _<_}
 use native.Mathlib.Omega.{arith}
 use native.Mathlib.Decide.{decLe}
 use lib.Dec.{T}
-use Rattle.alike.specs.Runs.{Run, start, _▸_, size, numeric, Comparison, Input, shows, First}
+use Rattle.pairs.specs.Runs.{Run, start, _▸_, size, numeric, Comparison, Input, shows, First}
 
 -- The bytes of a run after a 1.
 unfoldable pub rank : Run → ℕ

@@ -9,7 +9,7 @@ use native.Mathlib.Decide.{decLe, decLt}
 use lib.Dec.{T, eqb}
 use borrow.Author.Tests.{eq-eqb, ne-eqb}
 use Rattle.sets.proofs.Members.{of-true, of-false, or-right}
-use Rattle.alike.specs.Runs.{Run, start, _▸_, size, Comparison, Input, reach, shows, First, Short, Over, Same}
+use Rattle.pairs.specs.Runs.{Run, start, _▸_, size, Comparison, Input, reach, shows, First, Short, Over, Same}
 use Rattle.alike.proofs.Order.{rank, rank-start, rank-more, rank-some, shorter-first, size-rank, first-of}
 use Rattle.alike.proofs.Pigeons.{no-places}
 

@@ -15,21 +15,21 @@ use Rattle.sets.specs.Words.{two-words}
 use Rattle.sets.proofs.Members.{ext}
 use Rattle.records.proofs.TwoWords.{set-of-none}
 use Rattle.rules.specs.Statements.{Block, Stmt}
-use Rattle.block.specs.Table.{Table}
+use Rattle.tables.specs.Table.{Table}
 use Rattle.forms.specs.Forms.{At}
 use Rattle.rules.specs.States.{fresh, phase-of, active-of}
-use Rattle.alike.specs.Runs.{Run, start, _▸_, size, Comparison, Input, reach, Over}
-use Rattle.alike.specs.Blocks.{States, both-after, told-apart, comparison}
-use Rattle.alike.specs.Rows.{Rows, Row, row-at, row-of, Full, Added, Links, FullLinks, Joined, Linked, Holds, Stepped}
+use Rattle.pairs.specs.Runs.{Run, start, _▸_, size, Comparison, Input, reach, Over}
+use Rattle.pairs.specs.Blocks.{States, both-after, told-apart, comparison}
+use Rattle.pairs.specs.Rows.{Rows, Row, row-at, row-of, Full, Added, Links, FullLinks, Joined, Linked, Holds, Stepped}
 use Rattle.alike.specs.Ends.{most, Kept, again, left-out, stored, Turns, next-set, next-pair, next-level, ends-over, ends-same, Shown, NoneShown, Ends}
-use Rattle.alike.specs.declared.pairs.Pair.{Pair}
-use Rattle.alike.specs.declared.steps.Step.{Step}
+use Rattle.pairs.specs.declared.rows.Pair.{Pair}
+use Rattle.pairs.specs.declared.steps.Step.{Step}
 use Rattle.alike.specs.declared.search.Search.{Search}
 use Rattle.alike.specs.declared.search.Turn.{Turn}
 use Rattle.alike.specs.declared.search.Turn.the-variants.{On, Same, Over as TooMany}
 use Rattle.alike.specs.declared.search.Ended.{Ended}
 use Rattle.alike.specs.declared.search.Ended.the-variants as ended
-use Rattle.alike.proofs.RowLaws.{same-states, same-row, row-ext}
+use Rattle.pairs.proofs.RowLaws.{same-states, same-row, row-ext}
 use Rattle.alike.proofs.SearchLaws as search
 use Rattle.alike.proofs.SearchLaws.{Searched, Levels, adding, added-new, added-old, begun, step-found, step-out, step-added, ends-different, different-not-over}
 

@@ -5,8 +5,8 @@ use Prim.Native.Nat.{ℕ, zero, suc, _+_, _-_, _≤_, _<_}
 use native.Mathlib.Nat.{le-of-suc-le-suc, not-suc-le-zero}
 use native.Mathlib.Omega.{arith}
 use lib.ListN.{length, getD, set, drop}
-use Rattle.alike.specs.Runs.{Run, start, _▸_, size, bytes-of}
-use Rattle.alike.specs.Rows.{Links, Linked}
+use Rattle.pairs.specs.Runs.{Run, start, _▸_, size, bytes-of}
+use Rattle.pairs.specs.Rows.{Links, Linked}
 
 drop-set : (l : List ℕ) (i x : ℕ) → i < length l → drop i (set l i x) ≡ x ∷ drop (suc i) l
 drop-set [] i x h = absurd (not-suc-le-zero h)

@@ -8,8 +8,8 @@ use lib.ListN.{length, drop}
 use Rattle.refusals.specs.Refusals.{why-of}
 use Rattle.block.specs.Format.{Good, Reading, good, turned-down, reading}
 use Rattle.reaction.specs.Instants.{ROOM, block-of}
-use Rattle.alike.specs.Runs.{Run, size, bytes-of, Comparison, First, Over, Same}
-use Rattle.alike.specs.Blocks.{comparison}
+use Rattle.pairs.specs.Runs.{Run, size, bytes-of, Comparison, First, Over, Same}
+use Rattle.pairs.specs.Blocks.{comparison}
 use Rattle.alike.specs.Ends.{most}
 use Rattle.alike.specs.declared.Likeness.{Likeness}
 use Rattle.alike.specs.declared.Likeness.the-variants as told

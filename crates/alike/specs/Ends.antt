@@ -2,10 +2,10 @@
 use mathlib.Core.Path.{_≡_}
 use mathlib.Core.Bool.{Bool, true, false}
 use Prim.Native.Nat.{ℕ, suc, _+_, _≤_, _<_}
-use Rattle.alike.specs.Runs as runs
-use Rattle.alike.specs.Runs.{Run, _▸_, Comparison, First, Over}
-use Rattle.alike.specs.Rows.{Rows, Row, row-at, row-of, Added, Links, Joined, Linked}
-use Rattle.alike.specs.declared.pairs.Pair.{Pair}
+use Rattle.pairs.specs.Runs as runs
+use Rattle.pairs.specs.Runs.{Run, _▸_, Comparison, First, Over}
+use Rattle.pairs.specs.Rows.{Rows, Row, row-at, row-of, Added, Links, Joined, Linked}
+use Rattle.pairs.specs.declared.rows.Pair.{Pair}
 use Rattle.alike.specs.declared.search.Search.{Search}
 use Rattle.alike.specs.declared.search.Turn.{Turn}
 use Rattle.alike.specs.declared.search.Turn.the-variants as turn

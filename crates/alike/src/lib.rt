@@ -1,8 +1,6 @@
 // Whether two blocks are told alike under every input run, or a first shortest run that tells them apart. The pairs of states that runs
 // reach are searched in the call's own frame; nothing is lent but the run.
-mod pairs;
 mod search;
-mod steps;
 mod written;
 
 use crate::search::Ended;
@@ -16,11 +14,11 @@ ghost use mathlib.Core.Path.{_≡_};
 ghost use Prim.Native.Nat.{_+_, _≤_};
 ghost use lib.ListN.{length};
 ghost use Rattle.rules.specs.Statements.{Stmt};
-ghost use Rattle.block.specs.Told.{table-of};
+ghost use Rattle.tables.specs.Table.{table-of};
 ghost use Rattle.block.specs.Format.{Good, reading};
 ghost use Rattle.forms.specs.Forms.{At, Placed};
 ghost use Rattle.reaction.specs.Outcomes.{Opened};
-ghost use Rattle.alike.specs.Blocks.{comparison};
+ghost use Rattle.pairs.specs.Blocks.{comparison};
 ghost use Rattle.alike.specs.Calls.{try-both, try-second, front, Compared, Owed};
 
 // Two blocks are alike, or different with the size of the run that shows it; or the first or the second block is turned down and where, or the call.

@@ -1,16 +1,16 @@
 // The search through the pairs in the order in which they are found, level by level.
-use crate::pairs::Pair;
-use crate::pairs::add;
-use crate::pairs::find;
-use crate::pairs::pair_at;
-use crate::steps::one_instant;
+use pairs::rows::Pair;
+use pairs::rows::add;
+use pairs::rows::find;
+use pairs::rows::pair_at;
+use pairs::steps::one_instant;
 ghost use mathlib.Core.Path.{_≡_};
 ghost use Prim.Native.Nat.{_+_, _^_, _≤_, _<_};
 ghost use Rattle.rules.specs.Statements.{Stmt};
-ghost use Rattle.block.specs.Told.{table-of};
+ghost use Rattle.tables.specs.Table.{table-of};
 ghost use Rattle.forms.specs.Forms.{At, Placed};
-ghost use Rattle.alike.specs.Blocks.{comparison};
-ghost use Rattle.alike.specs.Rows.{rows-of, links-of, Full, FullLinks};
+ghost use Rattle.pairs.specs.Blocks.{comparison};
+ghost use Rattle.pairs.specs.Rows.{rows-of, links-of, Full, FullLinks};
 ghost use Rattle.alike.specs.Ends.{Kept, Turns, Ends};
 
 // Where the search is: the pair and the set of the next step, how many pairs were found, where the level ends, and whether a pair was left out.

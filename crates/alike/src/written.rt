@@ -3,8 +3,8 @@ ghost use mathlib.Core.Path.{_≡_};
 ghost use mathlib.Core.List.{List, _++_};
 ghost use Prim.Native.Nat.{ℕ, _+_, _≤_, _<_};
 ghost use lib.ListN.{length, drop};
-ghost use Rattle.alike.specs.Runs.{Run, _▸_, size, bytes-of};
-ghost use Rattle.alike.specs.Rows.{links-of, Linked};
+ghost use Rattle.pairs.specs.Runs.{Run, _▸_, size, bytes-of};
+ghost use Rattle.pairs.specs.Rows.{links-of, Linked};
 
 // How many sets lead to a pair.
 fn run_size(parents: &[u16; 1024], at: usize) -> usize

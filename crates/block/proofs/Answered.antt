@@ -6,7 +6,7 @@ use native.Mathlib.Omega.{arith}
 use Rattle.refusals.specs.Refusals.{number, why-of}
 use Rattle.refusals.specs.declared.Why.{Why}
 use Rattle.refusals.proofs.Laws.{number-back, of-a-block}
-use Rattle.block.specs.Table.{Table, Has}
+use Rattle.tables.specs.Table.{Table, Has}
 use Rattle.block.specs.Format.{Good, Reading, good, turned-down, reading}
 use Rattle.block.specs.Told.{summary-of, answer-to, InTable, ReadWhole}
 use Rattle.block.specs.declared.whole.Summary.{Summary}

@@ -8,9 +8,10 @@ use native.Mathlib.Omega.{arith}
 use lib.Dec.{eqb}
 use Rattle.sets.specs.Numbers.{listed}
 use Rattle.rules.specs.Statements.{Stmt, pauses}
-use Rattle.block.specs.Table.{kind-of, operand-of, statements}
-use Rattle.block.specs.Format.{shape, length-of, operands-of, leaf, above, joined, preorder, bytes}
-use Rattle.block.specs.Told.{kept-operand}
+use Rattle.tables.specs.Table.{kind-of, operand-of, statements}
+use Rattle.block.specs.Format.{leaf, above, joined, preorder, bytes}
+use Rattle.tables.specs.Kinds.{shape, length-of, operands-of}
+use Rattle.tables.specs.Table.{kept-operand}
 use Rattle.block.proofs.Views.{Leaf, Above, Joined, a-nothing, a-pause, an-emit, an-exit, a-suspend, a-loop, a-trap, a-local, a-present, a-sequence, a-parallel}
 
 pub bytes-append : (ps qs : List Stmt) → bytes (ps ++ qs) ≡ bytes ps + bytes qs

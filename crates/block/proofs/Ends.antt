@@ -17,11 +17,13 @@ use Rattle.sets.proofs.Members.{ext, of-false}
 use Rattle.sets.proofs.Words.{bits-zero}
 use Rattle.sets.proofs.Counts.{lowest-some}
 use Rattle.rules.specs.Statements.{Stmt}
-use Rattle.block.specs.Table.{Table, Has, statements}
-use Rattle.block.specs.Format.{Header, Around, Sofar, Got, got, Reading, turned-down, header, header-fault, read, ended, loops-checked, offset, numbered, endless}
-use Rattle.block.specs.Format.{lowest-endless, reading, outermost}
+use Rattle.tables.specs.Table.{Table, Has, statements}
+use Rattle.block.specs.Format.{Header, Around, Sofar, Got, got, Reading, turned-down, header, header-fault, read, ended, loops-checked, offset, numbered}
+use Rattle.tables.specs.Codes.{endless}
+use Rattle.block.specs.Format.{reading, outermost}
+use Rattle.tables.specs.Codes.{lowest-endless}
 use Rattle.block.specs.Told.{header-of, sofar-of, around-of, Built, Full, Reads, Ready, summary-of, answer-to, InTable, ReadWhole}
-use Rattle.block.specs.Codes.{Tabled, number-or}
+use Rattle.tables.specs.Codes.{Tabled, number-or}
 use Rattle.block.specs.declared.Declared.{Declared}
 use Rattle.block.specs.declared.Cursor.{Cursor}
 use Rattle.block.specs.declared.Context.{Context}

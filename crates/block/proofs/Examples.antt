@@ -5,9 +5,11 @@ use Prim.Native.Nat.{ℕ}
 use Rattle.sets.specs.Numbers.{listed, lowest, some-to, maxima, downs}
 use Rattle.rules.specs.Statements.{depth, code, pause, emit, suspend_on_, _⨾_, trap, exit, local}
 use Rattle.rules.specs.Loops.{codes-of}
-use Rattle.block.specs.Table.{kind-of, statements}
-use Rattle.block.specs.Format.{good, turned-down, reading, is-broken, header, header-fault, shape, length-of, children-of, over-limit, wrong-signal, wrong-exit}
-use Rattle.block.specs.Format.{statement-fault, past, inside, leaf, above, joined, read, preorder, bytes, offset, endless, lowest-endless, loops-checked, ended}
+use Rattle.tables.specs.Table.{kind-of, statements}
+use Rattle.block.specs.Format.{good, turned-down, reading, is-broken, header, header-fault, over-limit, wrong-signal, wrong-exit}
+use Rattle.tables.specs.Kinds.{shape, length-of, children-of}
+use Rattle.block.specs.Format.{statement-fault, past, inside, leaf, above, joined, read, preorder, bytes, offset, loops-checked, ended}
+use Rattle.tables.specs.Codes.{endless, lowest-endless}
 
 abbrev head : ℕ → ℕ → ℕ → List ℕ
 head i o l = 14 ∷ 0 ∷ 1 ∷ 0 ∷ 1 ∷ 0 ∷ 7 ∷ 0 ∷ i ∷ 0 ∷ o ∷ 0 ∷ l ∷ 0 ∷ []

@@ -17,17 +17,19 @@ use Rattle.sets.proofs.Members.{is-false, of-false}
 use Rattle.sets.proofs.Counts.{lowest-none, lowest-empty}
 use Rattle.rules.specs.Statements.{Stmt, nothing, pause, emit, present?_then_else_, suspend_on_, _⨾_, loop, _parallel_, trap, exit, local, pauses, Numbered, Trapped}
 use Rattle.rules.specs.Loops.{codes-of, loops-pass}
-use Rattle.block.specs.Table.{statements, Small}
-use Rattle.block.specs.Format.{LIMIT, length-of, over-limit, wrong-signal, wrong-exit, Header, Around, Sofar, Got, got, refused, and-then, Good, Reading, good, turned-down, reading, header}
+use Rattle.tables.specs.Table.{statements, Small}
+use Rattle.block.specs.Format.{LIMIT, over-limit, wrong-signal, wrong-exit, Header, Around, Sofar, Got, got, refused, and-then, Good, Reading, good, turned-down, reading, header}
+use Rattle.tables.specs.Kinds.{length-of}
 use Rattle.block.specs.Format.{header-fault, is-broken, two-bytes, kind-at, length-at, operand-at, statement-fault, past, inside, read, ended, loops-checked, preorder, numbered, bytes}
-use Rattle.block.specs.Format.{endless, lowest-endless, outermost, begun}
+use Rattle.block.specs.Format.{outermost, begun}
+use Rattle.tables.specs.Codes.{endless, lowest-endless}
 use Rattle.block.specs.Good.{Scoped, path, nested-traps, nested-locals, locals, Next, Apart}
 use Rattle.block.proofs.Views.{is?, Kind, leafs, aboves, joins, leaf-children, above-children, joined-children}
 use Rattle.block.proofs.Passes.{passes, none-of, broken-none}
 use Rattle.block.proofs.Parse.{parsed, read-fault, read-leaf, read-above, read-joined}
 use Rattle.block.proofs.Trees.{tree, Around-fits, Counts}
 use Rattle.block.proofs.Nesting.{next-apart}
-use Rattle.block.proofs.Places.{all-counted}
+use Rattle.tables.proofs.Places.{all-counted}
 
 -- No statement of a list is an endless loop. (Past the end there is `nothing`, which is none.)
 abbrev Clean : List Stmt → Type 0

@@ -1,5 +1,4 @@
 pub mod Examples
-pub mod Shapes
 pub mod Tests
 pub mod Scopes
 pub mod Views
@@ -10,11 +9,7 @@ pub mod Nesting
 pub mod Trees
 pub mod Tables
 pub mod Ways
-pub mod CodeLaws
-pub mod Places
-pub mod LoopWalk
 pub mod GoodReadings
 pub mod Offsets
 pub mod Ends
 pub mod Answered
-pub mod Rows

@@ -11,12 +11,13 @@ use lib.Dec.{lit≤}
 use lib.ListN.{length, getD, take, drop, length-drop, take-append-drop}
 use lib.Seq.{take-suc, take-add, take-all, getD-take, getD-drop, ext-getD, length-take-le}
 use Rattle.rules.specs.Statements.{Stmt, nothing}
-use Rattle.block.specs.Table.{Table, Has, kind-of, statements}
-use Rattle.block.specs.Format.{Shape, shape, of-shape, length-of, preorder, numbered, bytes, offset}
-use Rattle.block.specs.Codes.{Tabled, Listed}
+use Rattle.tables.specs.Table.{Table, Has, kind-of, statements}
+use Rattle.block.specs.Format.{preorder, numbered, bytes, offset}
+use Rattle.tables.specs.Kinds.{Shape, shape, of-shape, length-of}
+use Rattle.tables.specs.Codes.{Tabled, Listed}
 use Rattle.block.proofs.Views.{shape?, known-length}
 use Rattle.block.proofs.Built.{bytes-append}
-use Rattle.block.proofs.Places.{At, at-number, has-row, all-counted}
+use Rattle.tables.proofs.Places.{At, at-number, has-row, all-counted}
 
 pub length-small : (k : ℕ) → length-of k ≤ 6
 unfolding length-of

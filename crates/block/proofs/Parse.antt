@@ -7,7 +7,8 @@ use Prim.Native.Nat.{ℕ, zero, suc}
 use native.Mathlib.Omega.{arith}
 use borrow.Author.Tests.{eq-eqb, ne-eqb}
 use Rattle.rules.specs.Statements.{Stmt}
-use Rattle.block.specs.Format.{Header, Around, Sofar, Got, got, refused, and-then, kind-at, operand-at, statement-fault, children-of, past, inside, leaf, above}
+use Rattle.block.specs.Format.{Header, Around, Sofar, Got, got, refused, and-then, kind-at, operand-at, statement-fault, past, inside, leaf, above}
+use Rattle.tables.specs.Kinds.{children-of}
 use Rattle.block.specs.Format.{joined, read}
 use Rattle.block.proofs.Views.{Leaf, Above, Joined, Kind, leafs, aboves, joins, is?, leaf-children, above-children, joined-children}
 use Rattle.block.proofs.Passes.{passes}

@@ -9,7 +9,8 @@ use lib.Dec.{T, eqb, ltb, leb}
 use lib.ListN.{length}
 use borrow.Author.Tests.{ltb-true, ltb-false, leb-true, leb-false, eqb-true, eqb-false, not-false, eq-eqb, ne-eqb, lt-ltb, le-leb, lt-leb, le-ltb}
 use Rattle.sets.proofs.Members.{of-true, is-true}
-use Rattle.block.specs.Format.{Header, Around, Sofar, length-at, kind-at, operand-at, is-broken, declared-here, over-limit, wrong-signal, wrong-exit, statement-fault, length-of}
+use Rattle.block.specs.Format.{Header, Around, Sofar, length-at, kind-at, operand-at, is-broken, declared-here, over-limit, wrong-signal, wrong-exit, statement-fault}
+use Rattle.tables.specs.Kinds.{length-of}
 use Rattle.block.proofs.Views.{Kind, kind?, known-length}
 use Rattle.block.proofs.Tests.{fault-last}
 

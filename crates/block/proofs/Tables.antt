@@ -6,9 +6,10 @@ use native.Mathlib.Omega.{arith}
 use lib.ListN.{getD, set, length-set}
 use lib.Seq.{getD-set-same, getD-set-other}
 use Rattle.rules.specs.Statements.{Stmt, nothing, pause, emit, present?_then_else_, suspend_on_, _⨾_, loop, _parallel_, trap, exit, local}
-use Rattle.block.specs.Table.{Table, Row, Has, statements}
+use Rattle.tables.specs.Table.{Table, Row, Has, statements}
 use Rattle.block.specs.Format.{leaf, above, joined}
-use Rattle.block.specs.Told.{table-of, Same, Full, kept-operand}
+use Rattle.block.specs.Told.{Same, Full}
+use Rattle.tables.specs.Table.{table-of, kept-operand}
 use Rattle.block.proofs.Views.{Leaf, Above, Joined, a-nothing, a-pause, an-emit, an-exit, a-suspend, a-loop, a-trap, a-local, a-present, a-sequence, a-parallel}
 use Rattle.block.proofs.Built.{Builds}
 

@@ -8,7 +8,8 @@ use lib.Dec.{ltb, leb, eqb}
 use lib.ListN.{length}
 use mathlib.Core.Logic.{_⊎_, inl, inr}
 use borrow.Author.Tests.{lt-ltb, le-ltb, le-leb, lt-leb, eq-eqb, ne-eqb}
-use Rattle.block.specs.Format.{Header, Around, Sofar, two-bytes, is-broken, declared-here, over-limit, wrong-signal, wrong-exit, length-of, kind-at, length-at, operand-at, statement-fault}
+use Rattle.block.specs.Format.{Header, Around, Sofar, two-bytes, is-broken, declared-here, over-limit, wrong-signal, wrong-exit, kind-at, length-at, operand-at, statement-fault}
+use Rattle.tables.specs.Kinds.{length-of}
 use Rattle.block.specs.Format.{header, header-fault}
 
 pub few-left : (b : List ℕ) (at : ℕ) → length b < at + 4 → is-broken b at ≡ true

@@ -14,7 +14,7 @@ use lib.ListN.{length, length-append}
 use Rattle.sets.specs.Numbers.{union, single}
 use Rattle.sets.proofs.Members.{or-out}
 use Rattle.rules.specs.Statements.{Stmt, pauses, from, Numbered, Trapped}
-use Rattle.block.specs.Table.{statements, Small}
+use Rattle.tables.specs.Table.{statements, Small}
 use Rattle.block.specs.Format.{Header, Around, Sofar, declared-here, past, inside, leaf, above, joined, preorder, bytes, kind-at, operand-at}
 use Rattle.block.specs.Good.{Scoped, path, nested-traps, nested-locals, locals, Next}
 use Rattle.block.proofs.Views.{Leaf, Above, Joined, a-nothing, a-pause, an-emit, an-exit, a-suspend, a-loop, a-trap, a-local, a-present, a-sequence, a-parallel}

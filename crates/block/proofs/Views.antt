@@ -8,8 +8,8 @@ use lib.Dec.{eqb, lit≤}
 use native.Mathlib.Omega.{arith}
 use borrow.Author.Tests.{eqb-true, eqb-false}
 use Rattle.sets.specs.Numbers.{listed}
-use Rattle.block.specs.Format.{Shape, shape, short, long, of-shape, length-of, children-of}
-use Rattle.block.proofs.Shapes.{no-kind, no-length}
+use Rattle.tables.specs.Kinds.{Shape, shape, short, long, of-shape, length-of, children-of}
+use Rattle.tables.proofs.Shapes.{no-kind, no-length}
 
 pub data Leaf : ℕ → Type 0 where
   a-nothing : Leaf 16

@@ -7,9 +7,11 @@ use native.Mathlib.Numerals.{add-one}
 use native.Mathlib.Omega.{arith}
 use lib.ListN.{length, set}
 use Rattle.rules.specs.Statements.{Stmt}
-use Rattle.block.specs.Table.{Table, Has, statements}
-use Rattle.block.specs.Format.{Header, Sofar, Got, got, refused, and-then, kind-at, operand-at, children-of, statement-fault, past, inside, leaf, above, joined, read}
-use Rattle.block.specs.Told.{header-of, sofar-of, around-of, cursor-of, table-of, told, Built, Same, Full, Reads, Ready, kept-operand}
+use Rattle.tables.specs.Table.{Table, Has, statements}
+use Rattle.block.specs.Format.{Header, Sofar, Got, got, refused, and-then, kind-at, operand-at, statement-fault, past, inside, leaf, above, joined, read}
+use Rattle.tables.specs.Kinds.{children-of}
+use Rattle.block.specs.Told.{header-of, sofar-of, around-of, cursor-of, told, Built, Same, Full, Reads, Ready}
+use Rattle.tables.specs.Table.{table-of, kept-operand}
 use Rattle.block.specs.declared.Declared.{Declared}
 use Rattle.block.specs.declared.Cursor.{Cursor}
 use Rattle.block.specs.declared.Context.{Context}

@@ -6,13 +6,14 @@ use mathlib.Core.Option.{Option, none, some}
 use Prim.Native.Nat.{ℕ, zero, suc, _+_, _-_, _*_}
 use lib.Dec.{eqb, ltb, leb}
 use lib.ListN.{length, getD, take}
-use Rattle.sets.specs.Numbers.{Numbers, empty, single, union, listed, lowest}
+use Rattle.sets.specs.Numbers.{Numbers, empty, single, union}
 -- The records follow in preorder; who knows the format takes the order from here.
 unfoldable pub use Rattle.rules.specs.Statements.{preorder}
 pub use Rattle.rules.specs.Statements.{numbered}
 use Rattle.rules.specs.Statements.{depth, Stmt, nothing, pause, emit, present?_then_else_, suspend_on_, _⨾_, loop, _parallel_, trap, exit, local}
-use Rattle.rules.specs.Loops.{codes-of}
-use Rattle.block.specs.Table.{kind-of, statements}
+use Rattle.tables.specs.Kinds.{length-of, children-of}
+use Rattle.tables.specs.Table.{kind-of}
+use Rattle.tables.specs.Codes.{lowest-endless}
 
 -- The numbers given back.
 abbrev pub BROKEN : ℕ
@@ -75,49 +76,6 @@ header-fault b =
     (cond (not (eqb (two-bytes b 4) 1)) EDITION
     (cond (ltb 64 (h .inputs + h .outputs + h .locals)) LIMIT
     0)))
-
--- What a record of a kind has: its length, how many operands, and how many children its statement has.
-pub record Shape : Type 0 where
-  pub length : ℕ
-  pub operands : ℕ
-  pub children : ℕ
-
--- Length 4, no operand; length 6, one operand.
-abbrev pub short : ℕ → Option Shape
-short n = some (record { length = 4; operands = 0; children = n })
-
-abbrev pub long : ℕ → Option Shape
-long n = some (record { length = 6; operands = 1; children = n })
-
--- Length 4, no operand: 16 nothing, 17 pause (no child); 22 loop, 24 trap (one); 21 sequence, 23 parallel (two). Length 6,
--- operand a signal: 18 emit (no child); 20 suspend, 26 local (one); 19 present (two). Length 6, operand a depth: 25 exit (no
--- child). No other kind is allowed.
-unfoldable pub shape : ℕ → Option Shape
-shape k =
-    cond (listed (16 ∷ 17 ∷ []) k) (short 0)
-    (cond (listed (22 ∷ 24 ∷ []) k) (short 1)
-    (cond (listed (21 ∷ 23 ∷ []) k) (short 2)
-    (cond (listed (18 ∷ 25 ∷ []) k) (long 0)
-    (cond (listed (20 ∷ 26 ∷ []) k) (long 1)
-    (cond (listed (19 ∷ []) k) (long 2)
-    none)))))
-
--- A number of a kind's shape; a kind that is not allowed has none, and 0 is no record's length.
-abbrev pub of-shape : (Shape → ℕ) → Option Shape → ℕ
-of-shape f none = 0
-of-shape f (some s) = f s
-
-unfoldable pub length-of : ℕ → ℕ
-unfolding shape
-length-of k = of-shape (λ s. s .length) (shape k)
-
-unfoldable pub operands-of : ℕ → ℕ
-unfolding shape
-operands-of k = of-shape (λ s. s .operands) (shape k)
-
-unfoldable pub children-of : ℕ → ℕ
-unfolding shape
-children-of k = of-shape (λ s. s .children) (shape k)
 
 -- What has been read: the first byte not read yet, and how many statements, pauses and locals there were.
 pub record Sofar : Type 0 where
@@ -230,23 +188,6 @@ bytes (p ∷ ps) = length-of (kind-of p) + bytes ps
 -- The offset of statement n: the header and the records of all statements before it.
 unfoldable pub offset : Stmt → ℕ → ℕ
 offset p n = 14 + bytes (take n (preorder p))
-
--- A loop whose body may complete with 0 when started.
-unfoldable pub endless : Stmt → Bool
-endless nothing = false
-endless (pause n) = false
-endless (emit s) = false
-endless (present? s then p else q) = false
-endless (suspend p on s) = false
-endless (p ⨾ q) = false
-endless (loop p) = codes-of p 0
-endless (p parallel q) = false
-endless (trap p) = false
-endless (exit d) = false
-endless (local s p) = false
-
-unfoldable pub lowest-endless : Stmt → Option ℕ
-lowest-endless p = lowest (statements p) (λ n. endless (numbered p n))
 
 -- A good reading: the header and the tree, how many statements and how many pauses it has.
 pub record Good : Type 0 where

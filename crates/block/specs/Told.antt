@@ -8,10 +8,8 @@ use lib.Dec.{T, eqb}
 use lib.ListN.{getD, length}
 use Rattle.refusals.specs.Refusals.{why-of}
 use Rattle.sets.specs.Words.{bits}
-use Rattle.block.specs.Table.{Table, Has}
-use Rattle.block.specs.Format.{Header, Sofar, Around, Got, got, refused, Good, Reading, good, turned-down, Shape, operands-of}
-use Rattle.block.specs.declared.kinds.Wire.{Wire}
-use Rattle.block.specs.declared.kinds.Wire.the-variants.{Allowed, Unknown}
+use Rattle.tables.specs.Table.{Table, Has}
+use Rattle.block.specs.Format.{Header, Sofar, Around, Got, got, refused, Good, Reading, good, turned-down}
 use Rattle.block.specs.declared.Declared.{Declared}
 use Rattle.block.specs.declared.Cursor.{Cursor}
 use Rattle.block.specs.declared.Context.{Context}
@@ -20,11 +18,6 @@ use Rattle.block.specs.declared.whole.Checked.{Checked}
 use Rattle.block.specs.declared.whole.Checked.the-variants.{Good as GoodBlock, Refused as RefusedBlock}
 use Rattle.block.specs.declared.reader.Read.{Read}
 use Rattle.block.specs.declared.reader.Read.the-variants.{Got as GotTo, Refused}
-
--- The shape of a kind, as the code tells it.
-unfoldable pub wire-of : Option Shape → Wire
-wire-of none = Unknown
-wire-of (some s) = Allowed (record { length = s .length; operands = s .operands; children = s .children })
 
 -- The header that the code carries.
 abbrev pub header-of : Declared → Header
@@ -37,15 +30,8 @@ sofar-of c = record { place = c .at; statements = c .statements; pauses = c .pau
 abbrev pub around-of : Context → Around
 around-of c = record { traps = c .traps; nested = c .nested; scope = bits (c .scope) }
 
--- The operand that the table keeps of a record of kind k with operand x, after n pauses.
-unfoldable pub kept-operand : ℕ → ℕ → ℕ → ℕ
-kept-operand k x n = cond (eqb k 17) n (cond (eqb (operands-of k) 1) x 0)
-
 abbrev pub cursor-of : Sofar → Cursor
 cursor-of r = record { at = r .place; statements = r .statements; pauses = r .pauses; locals = r .locals }
-
-abbrev pub table-of : List ℕ → List ℕ → List ℕ → Table
-table-of ks xs ns = record { kinds = ks; operands = xs; sizes = ns }
 
 -- What holds wherever a statement is read: a block of the given size, at most 64 signals, and counts within the limits.
 pub record Ready (size : ℕ) (d : Declared) (c : Context) (r : Cursor) : Type 0 where

@@ -2,10 +2,10 @@
 use crate::Context;
 use crate::Cursor;
 use crate::Declared;
-use crate::kinds::Depth;
-use crate::kinds::record_length;
 use crate::records::broken;
 use crate::records::two_bytes;
+use tables::kinds::Depth;
+use tables::kinds::record_length;
 ghost use mathlib.Core.Path.{_≡_};
 ghost use mathlib.Core.Bool.{not, _&&_};
 ghost use Prim.Native.Nat.{_+_, _≤_, _<_};

@@ -1,8 +1,5 @@
-// The reading of a block: its records, its table and the check of its loops.
-pub mod codes;
+// The reading of a block: its records, which fill its table, and the whole of it with the check of its loops.
 mod faults;
-pub mod kinds;
-pub mod loops;
 pub mod reader;
 mod records;
 mod steps;

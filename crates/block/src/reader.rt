@@ -3,17 +3,18 @@ use crate::Context;
 use crate::Cursor;
 use crate::Declared;
 use crate::faults::statement_fault;
-use crate::kinds::Wire;
-use crate::kinds::shape_of;
 use crate::records::two_bytes;
 use crate::steps::inner;
 use crate::steps::kept;
 use crate::steps::passed;
+use tables::kinds::Wire;
+use tables::kinds::shape_of;
 ghost use mathlib.Core.Path.{_≡_};
 ghost use Prim.Native.Nat.{_+_, _≤_, _<_};
 ghost use lib.ListN.{length};
 ghost use Rattle.block.specs.Format.{read};
-ghost use Rattle.block.specs.Told.{header-of, sofar-of, around-of, table-of, Reads, Ready, Full};
+ghost use Rattle.block.specs.Told.{header-of, sofar-of, around-of, Reads, Ready, Full};
+ghost use Rattle.tables.specs.Table.{table-of};
 
 // What has been read after a statement, or the number and the place of the first record at fault.
 pub enum Read {

@@ -9,8 +9,10 @@ ghost use Prim.Native.Nat.{_+_, _≤_, _<_};
 ghost use lib.Dec.{eqb};
 ghost use Rattle.sets.specs.Numbers.{union, single};
 ghost use Rattle.sets.specs.Words.{bits};
-ghost use Rattle.block.specs.Format.{header, length-of, operands-of, past, inside};
-ghost use Rattle.block.specs.Told.{header-of, sofar-of, around-of, kept-operand};
+ghost use Rattle.block.specs.Format.{header, past, inside};
+ghost use Rattle.tables.specs.Kinds.{length-of, operands-of};
+ghost use Rattle.block.specs.Told.{header-of, sofar-of, around-of};
+ghost use Rattle.tables.specs.Table.{kept-operand};
 
 // What the header declares.
 pub(crate) fn declared(b: &[u8]) -> Declared

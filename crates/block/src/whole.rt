@@ -3,21 +3,22 @@ use crate::Context;
 use crate::Cursor;
 use crate::Declared;
 use crate::faults::header_fault;
-use crate::kinds::record_length;
-use crate::loops::lowest_endless;
 use crate::reader::Read;
 use crate::reader::read_at;
 use crate::steps::declared;
 use refusals::Why;
 use refusals::refusal;
+use tables::kinds::record_length;
+use tables::loops::lowest_endless;
 ghost use mathlib.Core.Path.{_≡_};
 ghost use Prim.Native.Nat.{_≤_, _<_};
 ghost use lib.ListN.{length};
 ghost use Rattle.rules.specs.Statements.{Stmt};
-ghost use Rattle.block.specs.Table.{statements};
+ghost use Rattle.tables.specs.Table.{statements};
 ghost use Rattle.block.specs.Format.{got, ended, reading, offset};
-ghost use Rattle.block.specs.Told.{header-of, sofar-of, table-of, Full, answer-to, ReadWhole};
-ghost use Rattle.block.specs.Codes.{Tabled, Listed};
+ghost use Rattle.block.specs.Told.{header-of, sofar-of, Full, answer-to, ReadWhole};
+ghost use Rattle.tables.specs.Table.{table-of};
+ghost use Rattle.tables.specs.Codes.{Tabled, Listed};
 
 // What a good block declares, and how many statements and pauses it has.
 pub struct Summary {

@@ -14,11 +14,12 @@ use lib.Seq.{sets, getD-set-same, getD-set-other}
 use borrow.Author.Tests.{eq-eqb, ne-eqb}
 use Rattle.sets.specs.Numbers.{listed}
 use Rattle.rules.specs.Statements.{depth, Stmt, nothing, pause, emit, present?_then_else_, suspend_on_, _⨾_, loop, _parallel_, trap, exit, local, pauses}
-use Rattle.block.specs.Table.{Table, kind-of, operand-of, Small}
-use Rattle.block.specs.Told.{table-of}
-use Rattle.block.specs.Format.{shape, length-of, preorder, bytes}
+use Rattle.tables.specs.Table.{Table, kind-of, operand-of, Small}
+use Rattle.tables.specs.Table.{table-of}
+use Rattle.block.specs.Format.{preorder, bytes}
+use Rattle.tables.specs.Kinds.{shape, length-of}
 use Rattle.block.specs.Good.{locals}
-use Rattle.block.proofs.Rows.{has-row}
+use Rattle.tables.proofs.Rows.{has-row}
 use Rattle.block.proofs.Built.{bytes-append}
 use Rattle.records.specs.Numerals.{in-bytes}
 use Rattle.records.proofs.Bytes.{sets-append}

@@ -16,15 +16,16 @@ use Rattle.refusals.specs.Refusals.{number, why-of}
 use Rattle.refusals.specs.declared.Why.{Why}
 use Rattle.refusals.specs.declared.Why.the-variants.{Limit}
 use Rattle.refusals.proofs.Laws.{number-back, of-a-block}
-use Rattle.block.specs.Table.{Table, statements, Has}
-use Rattle.block.specs.Told.{table-of, summary-of, answer-to, InTable, header-of}
+use Rattle.tables.specs.Table.{Table, statements, Has}
+use Rattle.block.specs.Told.{summary-of, answer-to, InTable, header-of}
+use Rattle.tables.specs.Table.{table-of}
 use Rattle.block.specs.Format.{LIMIT, Header, Good, Reading, good, turned-down, reading, preorder, bytes}
 use Rattle.block.specs.Good.{path, nested-traps, nested-locals, locals}
 use Rattle.block.specs.declared.whole.Summary.{Summary}
 use Rattle.block.specs.declared.whole.Checked.{Checked}
 use Rattle.block.specs.declared.whole.Checked.the-variants.{Good as GoodBlock, Refused as RefusedBlock}
 use Rattle.block.proofs.GoodReadings.{sound, numbers}
-use Rattle.block.proofs.Places.{all-counted}
+use Rattle.tables.proofs.Places.{all-counted}
 use Rattle.writing.specs.Written.{records, header-bytes, block-bytes}
 use Rattle.writing.specs.Answers.{Writing, writes, refuses, roomed, wrote-values, wrote-owed, out-owed}
 use Rattle.writing.specs.declared.Wrote.{Wrote}

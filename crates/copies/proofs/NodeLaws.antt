@@ -10,9 +10,9 @@ use lib.ListN.{getD}
 use Rattle.sets.specs.Numbers.{listed}
 use Rattle.sets.proofs.Members.{eqb-in, or-left, or-right, or-out}
 use Rattle.rules.specs.Statements.{Stmt, nothing, pause, emit, present?_then_else_, suspend_on_, _⨾_, loop, _parallel_, trap, exit, local}
-use Rattle.block.specs.Table.{Table, kind-of, statements, Has, Small}
-use Rattle.block.specs.Told.{table-of}
-use Rattle.block.proofs.Rows.{has-row, some-statement}
+use Rattle.tables.specs.Table.{Table, kind-of, statements, Has, Small}
+use Rattle.tables.specs.Table.{table-of}
+use Rattle.tables.proofs.Rows.{has-row, some-statement}
 use Rattle.copies.specs.Nodes.{Lies, Somewhere, NoChild, a-nothing, a-pause, an-emit, an-exit, OneChild, a-suspend}
 use Rattle.copies.specs.Nodes.{a-trap, a-local, TwoChildren, a-present, a-sequence, a-parallel, Has-one, Has-body, Has-two, Parts}
 use Rattle.copies.specs.declared.nodes.Node.{Node}

@@ -12,8 +12,9 @@ use lib.ListN.{length, length-append}
 use borrow.Author.Tests.{lt-ltb, le-ltb, ne-eqb}
 use Rattle.sets.specs.Numbers.{listed}
 use Rattle.rules.specs.Statements.{Stmt, nothing, pause, emit, present?_then_else_, suspend_on_, _⨾_, loop, _parallel_, trap, exit, local, pauses}
-use Rattle.block.specs.Table.{kind-of, statements}
-use Rattle.block.specs.Format.{shape, length-of, preorder, bytes}
+use Rattle.tables.specs.Table.{kind-of, statements}
+use Rattle.block.specs.Format.{preorder, bytes}
+use Rattle.tables.specs.Kinds.{shape, length-of}
 use Rattle.block.specs.Good.{path, locals}
 use Rattle.block.proofs.Built.{bytes-append}
 use Rattle.likeness.specs.Likeness.{naming}

@@ -9,7 +9,7 @@ use lib.Seq.{sets}
 use Rattle.sets.specs.Numbers.{listed}
 use Rattle.rules.specs.Statements.{Stmt}
 use Rattle.likeness.specs.Likeness.{naming}
-use Rattle.block.specs.Told.{table-of}
+use Rattle.tables.specs.Table.{table-of}
 use Rattle.block.specs.Format.{preorder, bytes}
 use Rattle.block.specs.Good.{locals}
 use Rattle.writing.specs.Written.{records}

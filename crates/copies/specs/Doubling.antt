@@ -6,8 +6,8 @@ use Prim.Native.Nat.{ℕ, _+_, _≤_}
 use lib.Dec.{leb}
 use lib.ListN.{length}
 use Rattle.rules.specs.Statements.{Stmt}
-use Rattle.block.specs.Table.{statements}
-use Rattle.block.specs.Told.{table-of}
+use Rattle.tables.specs.Table.{statements}
+use Rattle.tables.specs.Table.{table-of}
 use Rattle.block.specs.Format.{Header}
 use Rattle.block.specs.Good.{nested-traps, nested-locals}
 use Rattle.block.specs.declared.whole.Summary.{Summary}

@@ -3,8 +3,8 @@ use mathlib.Core.Path.{_≡_}
 use mathlib.Core.List.{List}
 use Prim.Native.Nat.{ℕ, _+_, _≤_, _<_}
 use Rattle.rules.specs.Statements.{Depth, Stmt, nothing, pause, emit, present?_then_else_, suspend_on_, _⨾_, loop, _parallel_, trap, exit, local}
-use Rattle.block.specs.Table.{Table, statements, Has, Small}
-use Rattle.block.specs.Told.{table-of}
+use Rattle.tables.specs.Table.{Table, statements, Has, Small}
+use Rattle.tables.specs.Table.{table-of}
 use Rattle.copies.specs.declared.nodes.Node.{Node}
 use Rattle.copies.specs.declared.nodes.Node.the-variants.{Leaf, Over, Twice, Joins}
 

@@ -7,7 +7,7 @@ use lib.Dec.{eqb, ltb}
 use lib.ListN.{length}
 use Rattle.sets.specs.Numbers.{listed}
 use Rattle.rules.specs.Statements.{Stmt, pauses}
-use Rattle.block.specs.Table.{statements}
+use Rattle.tables.specs.Table.{statements}
 use Rattle.block.specs.Format.{preorder, bytes}
 use Rattle.block.specs.Good.{path, locals}
 use Rattle.doubled.specs.Copies.{copies, renamed}

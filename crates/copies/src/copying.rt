@@ -1,7 +1,7 @@
 // The records of a doubled statement, written one after the other from the table.
 use crate::nodes::Node;
 use crate::nodes::node_at;
-use block::kinds::wide;
+use tables::kinds::wide;
 use writing::put_record;
 ghost use mathlib.Core.Path.{_≡_};
 ghost use mathlib.Core.Bool.{cond};
@@ -9,7 +9,7 @@ ghost use Prim.Native.Nat.{ℕ, _+_, _<_};
 ghost use lib.Dec.{eqb};
 ghost use lib.ListN.{getD, length};
 ghost use Rattle.rules.specs.Statements.{Stmt};
-ghost use Rattle.block.specs.Told.{table-of};
+ghost use Rattle.tables.specs.Table.{table-of};
 ghost use Rattle.copies.specs.Nodes.{Lies};
 ghost use Rattle.copies.specs.Copying.{names-of, new-operand, names-in, Writes, Copied};
 

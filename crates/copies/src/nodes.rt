@@ -1,9 +1,9 @@
 // A statement of the table by what stands below it.
-use block::loops::second_at;
+use tables::loops::second_at;
 ghost use mathlib.Core.List.{List};
 ghost use Prim.Native.Nat.{ℕ};
 ghost use Rattle.rules.specs.Statements.{Stmt};
-ghost use Rattle.block.specs.Told.{table-of};
+ghost use Rattle.tables.specs.Table.{table-of};
 ghost use Rattle.copies.specs.Nodes.{Lies, Somewhere, Parts};
 
 // No child, one child, a loop's child that is copied twice, or two children, each by its number.

@@ -5,7 +5,7 @@ ghost use mathlib.Core.Path.{_≡_};
 ghost use mathlib.Core.List.{List};
 ghost use Prim.Native.Nat.{ℕ, _+_, max};
 ghost use Rattle.rules.specs.Statements.{Stmt};
-ghost use Rattle.block.specs.Told.{table-of};
+ghost use Rattle.tables.specs.Table.{table-of};
 ghost use Rattle.copies.specs.Nodes.{Lies, Somewhere};
 ghost use Rattle.copies.specs.Sizes.{capped, own-size, onto-size, side-size, Measured};
 

@@ -6,8 +6,9 @@ use Prim.Native.Nat.{ℕ}
 use lib.ListN.{length}
 use Rattle.sets.specs.Numbers.{listed}
 use Rattle.rules.specs.Statements.{Stmt, pause, emit, present?_then_else_, _⨾_, loop, local, pauses}
-use Rattle.block.specs.Table.{kind-of, operand-of, statements}
-use Rattle.block.specs.Format.{Header, shape, preorder}
+use Rattle.tables.specs.Table.{kind-of, operand-of, statements}
+use Rattle.block.specs.Format.{Header, preorder}
+use Rattle.tables.specs.Kinds.{shape}
 use Rattle.block.specs.Good.{path, nested-traps, nested-locals, locals}
 use Rattle.records.specs.Numerals.{in-bytes}
 use Rattle.writing.specs.Written.{shaped-bytes, records, header-bytes, block-bytes}

@@ -17,7 +17,7 @@ use Rattle.sets.specs.Numbers.{Numbers, single, union}
 use Rattle.sets.proofs.Members.{is-true, or-left, or-right, or-out, eqb-in, eqb-not}
 use Rattle.rules.specs.Statements.{Stmt, nothing, pause, emit, present?_then_else_, suspend_on_, _⨾_, loop, _parallel_, trap, exit, local, pauses, from, Numbered}
 use Rattle.theorems.proofs.Cases.{by-test}
-use Rattle.block.specs.Table.{Small}
+use Rattle.tables.specs.Table.{Small}
 use Rattle.block.specs.Good.{Scoped, nested-traps, nested-locals, locals, Next, Apart}
 use Rattle.block.proofs.Nesting.{both-in-row}
 use Rattle.likeness.specs.Likeness.{naming}

@@ -19,7 +19,7 @@ use Rattle.rules.specs.States.{State, fresh, running, finished, step, Legal, Ru
 use Rattle.theorems.specs.Checked.{Checked}
 use Rattle.theorems.specs.Traces.{InputSet, run}
 use Rattle.theorems.proofs.Numbering.{from-in}
-use Rattle.block.specs.Table.{statements}
+use Rattle.tables.specs.Table.{statements}
 use Rattle.block.specs.Format.{Header, Good}
 use Rattle.block.specs.Good.{Scoped, path, nested-traps, nested-locals, Next, Apart}
 use Rattle.likeness.specs.Likeness.{Distinct, Like, Image}

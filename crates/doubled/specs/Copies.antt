@@ -7,7 +7,7 @@ use lib.Dec.{leb}
 use lib.ListN.{length}
 use Rattle.rules.specs.Statements.{Block, Stmt, nothing, pause, emit, present?_then_else_, suspend_on_, _⨾_, loop, _parallel_, trap, exit, local, pauses}
 use Rattle.likeness.specs.Likeness.{naming}
-use Rattle.block.specs.Table.{statements}
+use Rattle.tables.specs.Table.{statements}
 use Rattle.block.specs.Format.{LIMIT, Header, Good, Reading, good, turned-down, reading}
 use Rattle.block.specs.Good.{path, nested-traps, nested-locals, locals}
 use Rattle.writing.specs.Written.{block-bytes}

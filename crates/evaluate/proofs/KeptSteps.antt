@@ -12,10 +12,10 @@ use Rattle.rules.specs.Events.{Status, present, absent, unknown, Event, giving}
 use Rattle.rules.specs.Instant.{Step, test, catch, scope, chain, beside, held}
 use Rattle.rules.specs.MustCan.{plus, must, can, local-status, gives}
 use Rattle.rules.specs.States.{kept, executed-as}
-use Rattle.block.specs.Table.{Table}
+use Rattle.tables.specs.Table.{Table}
 use Rattle.words.specs.declared.events.Heard.{Heard}
 use Rattle.words.specs.declared.given.MustCan.{MustCan}
-use Rattle.block.specs.declared.kinds.Depth.{Depth}
+use Rattle.tables.specs.declared.kinds.Depth.{Depth}
 use Rattle.words.specs.declared.pauses.Kept.{Kept}
 use Rattle.forms.specs.declared.form.Task.{Task}
 use Rattle.forms.specs.declared.form.Form.{Form}

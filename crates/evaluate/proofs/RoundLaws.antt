@@ -23,7 +23,7 @@ use Rattle.rules.specs.Instant.{Step}
 use Rattle.rules.specs.MustCan.{plus, must, can, Given, marked, gives}
 use Rattle.rules.specs.States.{running, finished, active-of, step, kept, next}
 use Rattle.rules.specs.Rounds as rules
-use Rattle.block.specs.Table.{Table}
+use Rattle.tables.specs.Table.{Table}
 use Rattle.theorems.specs.Reach.{Reached, at-first, settling}
 use Rattle.theorems.proofs.Reach.{round-settles}
 use Rattle.theorems.proofs.RoundsEnd.{nothing-left}

@@ -12,7 +12,7 @@ use Rattle.rules.specs.Instant.{Step}
 use Rattle.rules.specs.MustCan.{marked}
 use Rattle.rules.specs.States.{State, fresh, running, finished, active-of, next}
 use Rattle.rules.specs.Rounds.{round, begin, settle, outputs-with, Answer, answered, not-constructive, react, undecided}
-use Rattle.block.specs.Table.{Table}
+use Rattle.tables.specs.Table.{Table}
 use Rattle.words.specs.declared.events.Heard.{Heard}
 use Rattle.words.specs.declared.given.MustCan.{MustCan}
 use Rattle.forms.specs.declared.form.Task.{Task}

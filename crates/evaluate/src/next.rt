@@ -1,12 +1,12 @@
 // The next state: must's code and the pauses kept, by one walk at the final event ("Next state").
-use block::kinds::Code;
-use block::kinds::code_of;
 use forms::active::held_pauses;
 use forms::form::Form;
 use forms::form::Going;
 use forms::form::Task;
 use forms::form::resumed_form;
 use forms::form::started_form;
+use tables::kinds::Code;
+use tables::kinds::code_of;
 use walk::must_can;
 use words::events::Heard;
 use words::events::Seen;
@@ -25,7 +25,7 @@ use words::pauses::kept_none;
 use words::pauses::kept_unknown;
 use words::pauses::one_pause;
 ghost use Rattle.sets.specs.Words.{set-of};
-ghost use Rattle.block.specs.Told.{table-of};
+ghost use Rattle.tables.specs.Table.{table-of};
 ghost use Rattle.forms.specs.Forms.{Placed, Formed};
 ghost use Rattle.evaluate.specs.Next.{Keeping};
 

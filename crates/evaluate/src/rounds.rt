@@ -1,9 +1,9 @@
 // The rounds of an instant, and its answer ("Rounds", "Next state").
 use crate::next::next_kept;
-use block::kinds::Code;
 use forms::active::actives;
 use forms::form::Going;
 use forms::form::Task;
+use tables::kinds::Code;
 use walk::must_can;
 use words::events::Heard;
 use words::given::Mark;
@@ -23,7 +23,7 @@ ghost use Rattle.rules.specs.Events.{all-heard, event};
 ghost use Rattle.rules.specs.States.{step};
 ghost use Rattle.rules.specs.Rounds.{undecided, answer, code-width};
 ghost use Rattle.words.specs.Words.{event-of, hearing-of};
-ghost use Rattle.block.specs.Told.{table-of};
+ghost use Rattle.tables.specs.Table.{table-of};
 ghost use Rattle.forms.specs.Forms.{At, Placed, step-of};
 ghost use Rattle.evaluate.specs.Reacts.{outs-from, statuses, marks-of, Fine, Marks, Sized, Rounded, Ends, state-of, IsAnswer, Reacts};
 

@@ -14,10 +14,10 @@ use Rattle.refusals.specs.declared.Why.the-variants.{State}
 use Rattle.refusals.proofs.Laws.{numbers-differ, number-above}
 use Rattle.rules.specs.Statements.{Stmt}
 use Rattle.rules.specs.States.{fresh}
-use Rattle.block.specs.Table.{Table, Has, statements}
+use Rattle.tables.specs.Table.{Table, Has, statements}
 use Rattle.block.specs.Format.{Good, Reading, good, reading, preorder, numbered, bytes, offset}
 use Rattle.block.specs.Told.{ReadWhole}
-use Rattle.block.specs.Codes.{Tabled, Listed}
+use Rattle.tables.specs.Codes.{Tabled, Listed}
 use Rattle.block.specs.declared.whole.Summary.{Summary}
 use Rattle.records.specs.StateRecord.{state-size, state-record}
 use Rattle.records.specs.Held.{state-bytes}
@@ -26,7 +26,7 @@ use Rattle.block.specs.declared.whole.Checked.{Checked}
 use Rattle.block.specs.declared.whole.Checked.the-variants.{Good as GoodOne, Refused}
 use Rattle.block.proofs.Answered.{was-good, was-turned-down, has-body}
 use Rattle.block.proofs.GoodReadings.{Sound, sound}
-use Rattle.block.proofs.Places.{At, at-number, has-row}
+use Rattle.tables.proofs.Places.{At, at-number, has-row}
 use Rattle.block.proofs.Offsets.{tabled-listed, offset-below, offset-most}
 use Rattle.foldheron.specs.Answers.{check-values, check-owed, begun-values, begun-owed, state-owed, absent-part, part-owed, part-lies}
 use Rattle.records.specs.Parts.{LiesAt}

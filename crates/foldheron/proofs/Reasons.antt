@@ -9,7 +9,7 @@ use Rattle.rules.specs.Statements.{Block}
 use Rattle.rules.specs.States.{State}
 use Rattle.rules.specs.Events.{Hearing}
 use Rattle.rules.specs.Reasons.{Asked, reason-of}
-use Rattle.block.specs.Table.{Table}
+use Rattle.tables.specs.Table.{Table}
 use Rattle.block.specs.Format.{Good}
 use Rattle.block.specs.declared.whole.Summary.{Summary}
 use Rattle.evaluate.specs.Reacts.{state-of}

@@ -5,8 +5,6 @@ pub mod say_why;
 
 pub use alike::Likeness;
 pub use alike::alike;
-pub use block::kinds::Code;
-use block::kinds::wide;
 pub use block::whole::Checked;
 pub use block::whole::Summary;
 use block::whole::offset_of;
@@ -39,6 +37,8 @@ pub use shelf::Shelved;
 pub use shelf::fetch;
 pub use shelf::install;
 pub use shelf::withdraw;
+pub use tables::kinds::Code;
+use tables::kinds::wide;
 use words::events::Heard;
 pub use writing::Wrote;
 ghost use mathlib.Core.Path.{_≡_};

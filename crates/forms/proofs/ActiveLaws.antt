@@ -17,9 +17,9 @@ use Rattle.sets.proofs.Members.{is-true, is-false, of-true, ext, same, and-righ
 use Rattle.sets.proofs.Counts.{listed-append}
 use Rattle.rules.specs.Statements.{depth, Stmt, nothing, pause, emit, present?_then_else_, suspend_on_, _⨾_, loop, _parallel_, trap, exit, local, pauses}
 use Rattle.rules.specs.Instant.{any, active, held}
-use Rattle.block.specs.Table.{Table, kind-of, operand-of, statements, Row, Has, Small}
+use Rattle.tables.specs.Table.{Table, kind-of, operand-of, statements, Row, Has, Small}
 use Rattle.forms.specs.Forms.{At, Live, LiveFrom, row-pauses, pauses-in, among}
-use Rattle.block.proofs.Rows.{has-row, some-statement}
+use Rattle.tables.proofs.Rows.{has-row, some-statement}
 use Rattle.forms.proofs.FormLaws.{in-table, Second, second-at, Kid, Kids, kids, Flags}
 
 -- Active pauses, part by part.

@@ -9,8 +9,8 @@ use lib.ListN.{getD}
 use Rattle.sets.specs.Numbers.{Numbers}
 use Rattle.rules.specs.Statements.{depth, Stmt, nothing, pause, emit, present?_then_else_, suspend_on_, _⨾_, loop, _parallel_, trap, exit, local}
 use Rattle.rules.specs.Instant.{done, stay, chain, active, held, started, resumed}
-use Rattle.block.specs.Table.{Table, kind-of, operand-of, statements, Has, Small}
-use Rattle.block.proofs.Rows.{has-row, some-statement}
+use Rattle.tables.specs.Table.{Table, kind-of, operand-of, statements, Has, Small}
+use Rattle.tables.proofs.Rows.{has-row, some-statement}
 use Rattle.forms.specs.declared.form.Going.{Going}
 use Rattle.forms.specs.declared.form.Going.the-variants.{Started, Resumed, Held, Idle}
 use Rattle.forms.specs.declared.form.Task.{Task}

@@ -8,7 +8,7 @@ use lib.ListN.{getD}
 use Rattle.sets.specs.Numbers.{Numbers, single, listed}
 use Rattle.rules.specs.Statements.{depth, Stmt, nothing, pause, emit, present?_then_else_, suspend_on_, _⨾_, loop, _parallel_, trap, exit, local}
 use Rattle.rules.specs.Instant.{Step, done, stay, say, leave, test, catch, scope, chain, beside, active, held, started, resumed}
-use Rattle.block.specs.Table.{Table, statements, Has, Small}
+use Rattle.tables.specs.Table.{Table, statements, Has, Small}
 use Rattle.forms.specs.declared.form.Going.{Going}
 use Rattle.forms.specs.declared.form.Going.the-variants.{Started, Resumed, Held, Idle}
 use Rattle.forms.specs.declared.form.Task.{Task}

@@ -1,7 +1,7 @@
 // The active pauses over the table: which statements hold one, and those that a suspended body holds.
 use crate::form::live_at;
-use block::kinds::wide;
-use block::loops::second_at;
+use tables::kinds::wide;
+use tables::loops::second_at;
 use words::pauses::has_pause;
 use words::pauses::joined;
 use words::pauses::no_pause;
@@ -13,7 +13,7 @@ ghost use Prim.Native.Nat.{ℕ, _+_, _<_};
 ghost use Rattle.sets.specs.Words.{set-of};
 ghost use Rattle.rules.specs.Statements.{Stmt};
 ghost use Rattle.rules.specs.Instant.{active, held};
-ghost use Rattle.block.specs.Told.{table-of};
+ghost use Rattle.tables.specs.Table.{table-of};
 ghost use Rattle.forms.specs.Forms.{At, Placed, Live, LiveFrom, row-pauses, among};
 
 fn or(a: bool, b: bool) -> bool

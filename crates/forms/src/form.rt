@@ -1,12 +1,12 @@
 // What a statement of the table has to do in this instant, started or resumed.
-use block::kinds::Depth;
-use block::loops::second_at;
+use tables::kinds::Depth;
+use tables::loops::second_at;
 ghost use mathlib.Core.Path.{_≡_};
 ghost use mathlib.Core.Bool.{Bool, cond, false};
 ghost use mathlib.Core.List.{List};
 ghost use Prim.Native.Nat.{_+_, _<_};
 ghost use lib.ListN.{getD};
-ghost use Rattle.block.specs.Told.{table-of};
+ghost use Rattle.tables.specs.Table.{table-of};
 ghost use Rattle.forms.specs.Forms.{Placed, Formed};
 
 // How a statement is taken: started, resumed, held as it is (a suspended body), or not at all (an arm of a parallel without an

@@ -7,8 +7,8 @@ use Prim.Native.Nat.{ℕ, zero, suc, _+_, _≤_}
 use native.Mathlib.Omega.{arith}
 use lib.ListN.{getD}
 use Rattle.rules.specs.Statements.{Stmt, nothing, pause, emit, present?_then_else_, suspend_on_, _⨾_, loop, _parallel_, trap, exit, local}
-use Rattle.block.specs.Table.{Table, Row, Has, operand-of, statements}
-use Rattle.block.proofs.Rows.{some-statement}
+use Rattle.tables.specs.Table.{Table, Row, Has, operand-of, statements}
+use Rattle.tables.proofs.Rows.{some-statement}
 use Rattle.forms.specs.Forms.{At}
 use Rattle.mazes.specs.Mazes.{is-nothing, Corridor, visible, secret, signal, part, dungeon, gate-corridors, nth}
 use Rattle.maze.specs.Rows.{nothing-at, second-of}

@@ -10,8 +10,8 @@ use native.Mathlib.Omega.{arith}
 use lib.Dec.{T, eqb}
 use lib.ListN.{getD}
 use Rattle.rules.specs.Statements.{Stmt, nothing, emit, present?_then_else_, _parallel_}
-use Rattle.block.specs.Table.{Table, Row, Has, kind-of, operand-of, statements}
-use Rattle.block.proofs.Rows.{has-row, some-statement}
+use Rattle.tables.specs.Table.{Table, Row, Has, kind-of, operand-of, statements}
+use Rattle.tables.proofs.Rows.{has-row, some-statement}
 use Rattle.mazes.specs.Mazes.{OfForm, an-emit, with-then, with-else, a-parallel, Corridor, visible, gate, dungeon, corridors, nth}
 use Rattle.maze.specs.declared.Corridor.the-variants.{NoMore}
 use Rattle.maze.specs.Ways.{Way, way-by, way-told, gives-one, all-rows, all-corridors, Stand}

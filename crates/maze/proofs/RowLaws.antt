@@ -13,8 +13,8 @@ use borrow.Author.Tests.{lt-ltb, le-ltb, eq-eqb}
 use Rattle.sets.proofs.Members.{is-true, is-false, of-true, of-false, same, and-in, and-left, and-right}
 use Rattle.rules.specs.Statements.{Stmt, nothing, pause, emit, present?_then_else_, suspend_on_, _⨾_, loop, _parallel_, trap, exit, local, numbered}
 use Rattle.rules.proofs.Preorder.{first-is, some-statement}
-use Rattle.block.specs.Table.{Table, Has, kind-of, statements}
-use Rattle.block.proofs.Places.{has-row, at-number}
+use Rattle.tables.specs.Table.{Table, Has, kind-of, statements}
+use Rattle.tables.proofs.Places.{has-row, at-number}
 use Rattle.forms.specs.Forms.{At}
 use Rattle.mazes.specs.Mazes.{is-nothing, of-form}
 use Rattle.mazes.specs.Fitting.{one-alone, neither, fits}

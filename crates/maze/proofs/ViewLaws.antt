@@ -28,7 +28,7 @@ use Rattle.rules.proofs.RoundLaws.{same-is, same-refl}
 use Rattle.theorems.specs.Reach.{at-first}
 use Rattle.theorems.proofs.Reach.{event-output, reached-length}
 use Rattle.theorems.proofs.RoundsEnd.{final, last-reached}
-use Rattle.block.specs.Table.{Table, statements}
+use Rattle.tables.specs.Table.{Table, statements}
 use Rattle.block.specs.Format.{Good, Reading, good, turned-down, reading}
 use Rattle.block.specs.Told.{ReadWhole}
 use Rattle.block.specs.declared.whole.Summary.{Summary}

@@ -15,11 +15,11 @@ use Rattle.sets.specs.Words.{bits}
 use Rattle.sets.proofs.Members.{of-true, and-right}
 use Rattle.rules.specs.Statements.{Stmt, nothing, pause, emit, present?_then_else_, suspend_on_, _⨾_, loop, _parallel_, trap, exit, local, numbered}
 use Rattle.rules.proofs.Preorder.{some-statement}
-use Rattle.block.specs.Table.{Table, Has, kind-of, statements}
+use Rattle.tables.specs.Table.{Table, Has, kind-of, statements}
 use Rattle.block.specs.Format.{Good, Reading, good, reading}
 use Rattle.block.specs.declared.whole.Summary.{Summary}
 use Rattle.block.proofs.GoodReadings.{sound}
-use Rattle.block.proofs.Places.{has-row, at-number}
+use Rattle.tables.proofs.Places.{has-row, at-number}
 use Rattle.forms.specs.Forms.{At}
 use Rattle.records.specs.StateRecord.{undeclared-input}
 use Rattle.reaction.specs.Instants.{block-of}

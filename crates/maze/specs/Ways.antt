@@ -7,7 +7,7 @@ use Prim.Native.Nat.{ℕ, _+_, _≤_}
 use lib.Dec.{ltb, eqb}
 use Rattle.refusals.specs.Refusals.{number}
 use Rattle.rules.specs.Statements.{Block, Stmt, nothing, pause, emit, present?_then_else_, suspend_on_, _⨾_, loop, _parallel_, trap, exit, local, preorder, numbered}
-use Rattle.block.specs.Table.{Table, statements, Has}
+use Rattle.tables.specs.Table.{Table, statements, Has}
 use Rattle.mazes.specs.Mazes.{OfForm, Room, signal, part, gate, dungeon, Corridor, visible, secret, corridors, maze-of, nth}
 use Rattle.maze.specs.declared.Room as code
 use Rattle.maze.specs.declared.Room.the-variants.{Signal, Part, Gate, Dungeon}

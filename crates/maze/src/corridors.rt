@@ -2,15 +2,15 @@
 use crate::Corridor;
 use crate::Room;
 use crate::form::is_nothing;
-use block::kinds::wide;
-use block::loops::second_at;
+use tables::kinds::wide;
+use tables::loops::second_at;
 ghost use mathlib.Core.Path.{_≡_};
 ghost use mathlib.Core.Bool.{true, cond};
 ghost use mathlib.Core.List.{[], _∷_};
 ghost use Prim.Native.Nat.{_≤_};
 ghost use Rattle.sets.specs.Words.{bits};
 ghost use Rattle.rules.specs.Statements.{Stmt};
-ghost use Rattle.block.specs.Told.{table-of};
+ghost use Rattle.tables.specs.Table.{table-of};
 ghost use Rattle.forms.specs.Forms.{At};
 ghost use Rattle.mazes.specs.Mazes.{OfForm, visible, secret, signal, part, dungeon, gate, corridors, gate-corridors, nth};
 ghost use Rattle.maze.specs.Ways.{is-present, way-by, way-told, gives-one};

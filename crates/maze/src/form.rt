@@ -1,5 +1,5 @@
 // FORM over the table: each row fits its children, and the root is not nothing.
-use block::loops::second_at;
+use tables::loops::second_at;
 ghost use mathlib.Core.Path.{_≡_};
 ghost use mathlib.Core.Bool.{true, _&&_};
 ghost use Prim.Native.Nat.{_≤_, _<_};

@@ -17,7 +17,7 @@ ghost use mathlib.Core.Bool.{true, false};
 ghost use Prim.Native.Nat.{_+_, _≤_};
 ghost use Rattle.sets.specs.Words.{bits};
 ghost use Rattle.block.specs.Format.{Good};
-ghost use Rattle.block.specs.Told.{table-of};
+ghost use Rattle.tables.specs.Table.{table-of};
 ghost use Rattle.records.specs.StateRecord.{undeclared-input};
 ghost use Rattle.reaction.specs.Instants.{block-of};
 ghost use Rattle.reaction.specs.Outcomes.{Opened};

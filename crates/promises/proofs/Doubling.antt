@@ -22,8 +22,9 @@ use Rattle.rules.specs.Rounds.{same, outputs-with, Answer, react}
 use Rattle.theorems.specs.Traces.{InputSet, after, run}
 use Rattle.likeness.specs.Runs.{SameAnswer, both-answered, both-refused, SameRun, and-then}
 use Rattle.likeness.proofs.Runs.{with-body, heard-there}
-use Rattle.block.specs.Table.{kind-of, operand-of}
-use Rattle.block.specs.Format.{LIMIT, Shape, shape, Header, Good, Reading, good, turned-down, reading}
+use Rattle.tables.specs.Table.{kind-of, operand-of}
+use Rattle.block.specs.Format.{LIMIT, Header, Good, Reading, good, turned-down, reading}
+use Rattle.tables.specs.Kinds.{Shape, shape}
 use Rattle.block.specs.Told.{summary-of}
 use Rattle.block.specs.declared.whole.Summary.{Summary}
 use Rattle.block.specs.declared.whole.Checked.{Checked}

@@ -14,7 +14,7 @@ use Rattle.block.specs.Format.{Good, Reading, good, turned-down, reading, preor
 use Rattle.block.specs.Told.{summary-of}
 use Rattle.block.proofs.GoodReadings.{numbers, sound}
 use Rattle.block.proofs.Built.{bytes-append}
-use Rattle.block.proofs.Places.{all-counted}
+use Rattle.tables.proofs.Places.{all-counted}
 use Rattle.reaction.specs.Instants.{Verdict, refused, clash, reacted, told, told-refusal, verdict}
 use Rattle.refusals.specs.declared.Why.the-variants as Why
 use Rattle.block.specs.declared.whole.Checked.{Checked}

@@ -11,9 +11,11 @@ use lib.ListN.{length}
 use borrow.Author.Tests.{eqb-true, eqb-false, ltb-true, ltb-false, eq-eqb, ne-eqb, lt-ltb, le-ltb}
 use Rattle.sets.proofs.Counts.{lowest-some, lowest-none, lowest-in}
 use Rattle.rules.specs.Statements.{Stmt}
-use Rattle.block.specs.Table.{statements}
-use Rattle.block.specs.Format.{LIMIT, SHAPE, kind-at, operand-at, Header, header, header-fault, children-of, Sofar, Around, statement-fault, past, inside, above, joined}
-use Rattle.block.specs.Format.{Got, got, refused, and-then, with-children, read, numbered, endless, lowest-endless, Good, turned-down, loops-checked, ended}
+use Rattle.tables.specs.Table.{statements}
+use Rattle.block.specs.Format.{LIMIT, SHAPE, kind-at, operand-at, Header, header, header-fault, Sofar, Around, statement-fault, past, inside, above, joined}
+use Rattle.tables.specs.Kinds.{children-of}
+use Rattle.block.specs.Format.{Got, got, refused, and-then, with-children, read, numbered, Good, turned-down, loops-checked, ended}
+use Rattle.tables.specs.Codes.{endless, lowest-endless}
 use Rattle.block.specs.Format.{outermost, begun, reading}
 use Rattle.block.proofs.GoodReadings.{statements-read, reading-is}
 use Rattle.promises.specs.Tests.{First}

@@ -25,8 +25,8 @@ use Rattle.reaction.specs.declared.Given.the-variants.{All}
 use Rattle.reaction.specs.declared.Instant.{Instant}
 use Rattle.reaction.specs.Fronts.{wrong-inputs}
 use Rattle.reaction.specs.Instants.{block-of, told-reaction}
-use Rattle.alike.specs.Runs.{Run, start, _▸_, size, bytes-of, numeric, Comparison, Input, reach, shows, First, Same}
-use Rattle.alike.specs.Blocks.{told-alike, States, both-after, told-apart, comparison}
+use Rattle.pairs.specs.Runs.{Run, start, _▸_, size, bytes-of, numeric, Comparison, Input, reach, shows, First, Same}
+use Rattle.pairs.specs.Blocks.{told-alike, States, both-after, told-apart, comparison}
 use Rattle.promises.specs.Beside.{Each, ButTheLast, the-last, and-then, Agree}
 use Rattle.promises.specs.Likeness.{Before}
 use Rattle.promises.proofs.Records.{none-above}

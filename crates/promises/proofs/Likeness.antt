@@ -14,8 +14,8 @@ use Rattle.refusals.specs.Refusals.{number, first-with}
 use Rattle.block.specs.Format.{Good, Reading, good, turned-down, reading}
 use Rattle.records.specs.Numerals.{Bytes}
 use Rattle.reaction.specs.Instants.{ROOM, block-of}
-use Rattle.alike.specs.Runs.{Run, size, bytes-of, Over, First as FirstRun}
-use Rattle.alike.specs.Blocks.{comparison}
+use Rattle.pairs.specs.Runs.{Run, size, bytes-of, Over, First as FirstRun}
+use Rattle.pairs.specs.Blocks.{comparison}
 use Rattle.alike.specs.Ends.{most}
 use Rattle.alike.specs.Calls.{INTERFACE, WIDE, PAIRS, Front, first-stopped, second-stopped, stopped, ready, try-both, try-second, try-first, front, Compared, Owed}
 use Rattle.alike.specs.declared.Likeness.{Likeness}

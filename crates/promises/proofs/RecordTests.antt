@@ -10,7 +10,8 @@ use lib.ListN.{length}
 use borrow.Author.Tests.{eqb-true, eqb-false, ltb-true, ltb-false, leb-true, leb-false, le-leb}
 use Rattle.sets.proofs.Members.{of-true, of-false, and-in, and-left, and-right, or-left, or-right, or-out, eqb-in}
 use Rattle.block.specs.Format.{BROKEN, KIND, EDITION, LIMIT, SIGNAL, EXIT, SHAPE, two-bytes, length-at, kind-at, operand-at, is-broken, Header, header, header-fault}
-use Rattle.block.specs.Format.{length-of, Sofar, declared-here, over-limit, wrong-signal, wrong-exit, statement-fault}
+use Rattle.block.specs.Format.{Sofar, declared-here, over-limit, wrong-signal, wrong-exit, statement-fault}
+use Rattle.tables.specs.Kinds.{length-of}
 use Rattle.promises.specs.Tests.{Test, First}
 use Rattle.promises.specs.FirstRecord.{Broken, fewer-than-4, length-below-4, above-what-is-left, header-tests, Due, WrongKind, not-allowed, not-its-length}
 use Rattle.promises.specs.FirstRecord.{OverLimit, on-the-path, in-all, pauses, nested-traps, nested-locals, WrongSignal, emit-undeclared, emit-of-an-input}

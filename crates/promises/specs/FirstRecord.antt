@@ -7,9 +7,11 @@ use Prim.Native.Nat.{ℕ, zero, suc, _+_, _-_, _≤_, _<_}
 use lib.Dec.{T}
 use lib.ListN.{length}
 use Rattle.rules.specs.Statements.{Stmt}
-use Rattle.block.specs.Table.{statements}
-use Rattle.block.specs.Format.{BROKEN, KIND, EDITION, LIMIT, SIGNAL, EXIT, SHAPE, LOOP, two-bytes, length-at, kind-at, operand-at, Header, header, length-of, children-of}
-use Rattle.block.specs.Format.{Sofar, Around, declared-here, past, inside, got, read, numbered, offset, endless, Good, Reading, good, turned-down, outermost, begun}
+use Rattle.tables.specs.Table.{statements}
+use Rattle.block.specs.Format.{BROKEN, KIND, EDITION, LIMIT, SIGNAL, EXIT, SHAPE, LOOP, two-bytes, length-at, kind-at, operand-at, Header, header}
+use Rattle.tables.specs.Kinds.{length-of, children-of}
+use Rattle.block.specs.Format.{Sofar, Around, declared-here, past, inside, got, read, numbered, offset, Good, Reading, good, turned-down, outermost, begun}
+use Rattle.tables.specs.Codes.{endless}
 use Rattle.promises.specs.Tests.{Test, First}
 
 -- Bytes from a place on that hold no whole record: fewer than 4 left, length below 4 or above what is left.

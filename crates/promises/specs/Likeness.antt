@@ -9,8 +9,8 @@ use Rattle.block.specs.Format.{Good, good, reading}
 use Rattle.reaction.specs.declared.Given.the-variants.{All}
 use Rattle.reaction.specs.declared.Instant.{Instant}
 use Rattle.reaction.specs.Instants.{ROOM, block-of}
-use Rattle.alike.specs.Runs.{Over}
-use Rattle.alike.specs.Blocks.{comparison}
+use Rattle.pairs.specs.Runs.{Over}
+use Rattle.pairs.specs.Blocks.{comparison}
 use Rattle.alike.specs.Ends.{most}
 use Rattle.alike.specs.Calls.{INTERFACE, WIDE, PAIRS}
 use Rattle.alike.specs.declared.Likeness.{Likeness}

@@ -12,7 +12,7 @@ use Rattle.refusals.specs.declared.Why.the-variants as Why
 use Rattle.sets.specs.Words.{set-of}
 use Rattle.rules.specs.Statements.{Block}
 use Rattle.rules.specs.States.{State, fresh, running, finished, phase-of, active-of}
-use Rattle.block.specs.Table.{Table, statements}
+use Rattle.tables.specs.Table.{Table, statements}
 use Rattle.block.specs.Format.{Good, Reading, good, reading}
 use Rattle.block.specs.Told.{ReadWhole}
 use Rattle.block.specs.declared.whole.Checked.{Checked}

@@ -18,7 +18,7 @@ use Rattle.rules.specs.Statements.{Block}
 use Rattle.rules.specs.Events.{Status, present, absent, Hearing}
 use Rattle.rules.specs.States.{State, phase-of, active-of, next}
 use Rattle.rules.specs.Rounds.{outputs-with, undecided, Answer, answered, not-constructive, react}
-use Rattle.block.specs.Table.{Table}
+use Rattle.tables.specs.Table.{Table}
 use Rattle.block.specs.Format.{Good}
 use Rattle.block.specs.declared.whole.Summary.{Summary}
 use Rattle.records.specs.Held.{state-bytes}

@@ -7,7 +7,7 @@ use Rattle.refusals.specs.declared.Why.{Why}
 use Rattle.sets.specs.Words.{word, set-of}
 use Rattle.rules.specs.States.{State, active-of}
 use Rattle.rules.specs.Rounds.{answered, not-constructive}
-use Rattle.block.specs.Table.{Table, Has}
+use Rattle.tables.specs.Table.{Table, Has}
 use Rattle.block.specs.Format.{Good, good, reading}
 use Rattle.block.specs.Told.{summary-of, Full}
 use Rattle.block.specs.declared.whole.Summary.{Summary}

@@ -2,7 +2,6 @@
 pub mod tests;
 
 use crate::tests::front;
-use block::kinds::Code;
 use block::whole::Summary;
 use evaluate::rounds::Phase;
 use evaluate::rounds::Reacted;
@@ -11,6 +10,7 @@ use evaluate::rounds::react;
 use records::bits::input_over;
 use records::bits::inputs_wrong;
 use refusals::Why;
+use tables::kinds::Code;
 use words::events::Heard;
 ghost use mathlib.Core.Path.{_≡_};
 ghost use Prim.Native.Nat.{_≤_};
@@ -19,7 +19,7 @@ ghost use Rattle.rules.specs.Statements.{Block};
 ghost use Rattle.rules.specs.States.{State, phase-of, next};
 ghost use Rattle.rules.specs.Rounds as rules;
 ghost use Rattle.block.specs.Format.{Good};
-ghost use Rattle.block.specs.Told.{table-of};
+ghost use Rattle.tables.specs.Table.{table-of};
 ghost use Rattle.evaluate.specs.Reacts.{IsAnswer};
 ghost use Rattle.words.specs.Words.{hearing-of};
 ghost use Rattle.reaction.specs.Fronts.{ready, wrong-inputs};

@@ -22,8 +22,8 @@ use Rattle.rules.specs.Rounds.{Answer, answered, not-constructive, outputs-with
 use Rattle.rules.specs.Taken.{Wanted, every, emit-of, undecided-test, taken}
 use Rattle.rules.specs.Reasons.{Asked, refused, is-present, not-executed, is-emit, on-path, cut-off, where-so, reason-from, reason-of}
 use Rattle.rules.proofs.Preorder.{all-counted}
-use Rattle.block.specs.Table.{Table, Has, kind-of}
-use Rattle.block.proofs.Places.{has-row, at-number}
+use Rattle.tables.specs.Table.{Table, Has, kind-of}
+use Rattle.tables.proofs.Places.{has-row, at-number}
 use Rattle.words.specs.declared.events.Heard.{Heard}
 use Rattle.words.specs.Words.{event-of}
 use Rattle.forms.specs.declared.form.Task.{Task}

@@ -12,7 +12,7 @@ use Rattle.rules.specs.Instant.{Step, done, stay, say, leave, test, catch, scop
 use Rattle.rules.specs.MustCan.{must, gives}
 use Rattle.rules.specs.States.{executed-as, kept-by}
 use Rattle.rules.specs.Taken.{Wanted, wants, itself-if, taken-started, taken-resumed}
-use Rattle.block.specs.Table.{Table, Has, Small}
+use Rattle.tables.specs.Table.{Table, Has, Small}
 use Rattle.forms.specs.declared.form.Going.{Going}
 use Rattle.forms.specs.declared.form.Going.the-variants.{Started, Resumed, Held, Idle}
 use Rattle.forms.specs.declared.form.Task.{Task}

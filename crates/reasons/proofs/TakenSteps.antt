@@ -15,8 +15,8 @@ use Rattle.rules.specs.Instant.{Step, test}
 use Rattle.rules.specs.MustCan.{plus, must, can, local-status, gives}
 use Rattle.rules.specs.States.{executed-as, kept-by}
 use Rattle.rules.specs.Taken.{Wanted, itself-if}
-use Rattle.block.specs.Table.{Table}
-use Rattle.block.specs.declared.kinds.Depth.{Depth}
+use Rattle.tables.specs.Table.{Table}
+use Rattle.tables.specs.declared.kinds.Depth.{Depth}
 use Rattle.words.specs.declared.events.Heard.{Heard}
 use Rattle.words.specs.declared.given.MustCan.{MustCan}
 use Rattle.words.specs.Words.{event-of, given-of}

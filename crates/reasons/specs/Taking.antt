@@ -13,7 +13,7 @@ use Rattle.rules.specs.Events.{Event}
 use Rattle.rules.specs.MustCan.{must, gives}
 use Rattle.rules.specs.Taken.{Wanted, every, emit-of, undecided-test, wants, wants-emit, wants-test, taken-started, taken-resumed}
 use Rattle.rules.specs.Reasons.{Asked, refused, is-present, not-executed}
-use Rattle.block.specs.Table.{Table}
+use Rattle.tables.specs.Table.{Table}
 use Rattle.words.specs.declared.events.Heard.{Heard}
 use Rattle.words.specs.Words.{event-of}
 use Rattle.forms.specs.declared.form.Going.{Going}

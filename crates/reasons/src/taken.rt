@@ -2,14 +2,14 @@
 use crate::wanted::Wanted;
 use crate::wanted::mark;
 use crate::wanted::wanted_here;
-use block::codes::code_bit;
-use block::kinds::code_of;
 use code_sets::followed_codes;
 use code_sets::larger;
 use code_sets::lowered;
 use forms::form::Form;
 use forms::form::Task;
 use forms::form::form_of;
+use tables::codes::code_bit;
+use tables::kinds::code_of;
 use walk::must_can;
 use words::events::Heard;
 use words::events::Seen;
@@ -18,7 +18,7 @@ use words::events::status_at;
 use words::given::Mark;
 use words::given::gives_zero;
 use words::given::settled_for;
-ghost use Rattle.block.specs.Told.{table-of};
+ghost use Rattle.tables.specs.Table.{table-of};
 ghost use Rattle.forms.specs.Forms.{Placed};
 ghost use Rattle.reasons.specs.Taking.{wanted-of, Taking};
 

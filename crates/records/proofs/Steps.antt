@@ -13,11 +13,11 @@ use native.Mathlib.Nat.{zero-add}
 use borrow.Author.Tests.{ne-eqb, eqb-true, eqb-false}
 use Rattle.rules.specs.Statements.{Stmt, pauses, Numbered}
 use Rattle.rules.specs.States.{holds-both, lowest-above, is-parallel, compatible}
-use Rattle.block.specs.Table.{Table, kind-of, statements}
+use Rattle.tables.specs.Table.{Table, kind-of, statements}
 use Rattle.sets.specs.Numbers.{listed}
-use Rattle.block.specs.Format.{short, long, of-shape}
+use Rattle.tables.specs.Kinds.{short, long, of-shape}
 use Rattle.records.specs.Clashing.{before, two-parts, Place, Goes}
-use Rattle.block.proofs.Rows.{has-row, some-statement}
+use Rattle.tables.proofs.Rows.{has-row, some-statement}
 use Rattle.records.proofs.Walk.{One, Two, Shape, leaf, one, two, shape, before-step, before-part, before-next, numbered-one}
 use Rattle.records.proofs.Walk.{numbered-first, numbered-second, holds, holds-not-first, holds-not-second}
 

@@ -16,8 +16,8 @@ use Rattle.sets.specs.Numbers.{listed}
 use Rattle.sets.proofs.Members.{is-true, is-false, of-true, or-left, or-right, or-out, and-in, and-left, and-right}
 use Rattle.rules.specs.Statements.{Stmt, nothing, pause, emit, present?_then_else_, suspend_on_, _⨾_, loop, _parallel_, trap, exit, local, pauses, from, Numbered}
 use Rattle.rules.specs.States.{holds-both, lowest-above, is-parallel, compatible}
-use Rattle.block.specs.Table.{Table, kind-of, statements, Has}
-use Rattle.block.proofs.Rows.{has-row, some-statement}
+use Rattle.tables.specs.Table.{Table, kind-of, statements, Has}
+use Rattle.tables.proofs.Rows.{has-row, some-statement}
 use Rattle.records.specs.Clashing.{before, two-parts}
 
 -- What there is below a statement, by how many parts it has.

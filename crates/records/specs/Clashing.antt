@@ -10,8 +10,8 @@ use lib.ListN.{length, getD}
 use Rattle.sets.specs.Words.{set-of}
 use Rattle.rules.specs.Statements.{Stmt, pauses, Numbered}
 use Rattle.rules.specs.States.{compatible}
-use Rattle.block.specs.Table.{Has, statements}
-use Rattle.block.specs.Format.{children-of}
+use Rattle.tables.specs.Table.{Has, statements}
+use Rattle.tables.specs.Kinds.{children-of}
 use Rattle.records.specs.StateRecord.{Pair}
 use Rattle.records.specs.declared.clash.Clash.{Clash}
 use Rattle.records.specs.declared.clash.Clash.the-variants as clash

@@ -1,6 +1,6 @@
 // The log record, written from the log's present end on.
 use crate::fields::put_fields;
-use block::kinds::Code;
+use tables::kinds::Code;
 ghost use mathlib.Core.Path.{_≡_};
 ghost use mathlib.Core.List.{List, _++_};
 ghost use Prim.Native.Nat.{ℕ, _+_, _≤_};

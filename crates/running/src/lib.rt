@@ -8,7 +8,6 @@
 mod file;
 mod line;
 mod sets;
-mod text;
 
 use file::Opened;
 use libc::STDOUT_FILENO;
@@ -45,7 +44,7 @@ fn run_block(block: &[u8], inputs_file: &[u8]) {
 
 fn print_block(number: u16, place: usize) {
     let mut out = [0u8; 48];
-    let n = text::put_block(&mut out, number, place);
+    let n = lines::put_block(&mut out, number, place);
     write(&out[..n]);
 }
 

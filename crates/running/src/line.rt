@@ -65,3 +65,15 @@ fn refused(number: u16) -> Line {
         rounds: 0,
     }
 }
+
+// The six numbers of the line of the instant `number`.
+pub fn numbers(number: u64, line: Line) -> [u64; 6] {
+    [
+        number,
+        line.refusal as u64,
+        line.code.0 as u64,
+        line.present,
+        line.count as u64,
+        line.rounds as u64,
+    ]
+}

@@ -1,7 +1,6 @@
 // Input sets, a buffer of them at a time.
 use crate::file;
 use crate::line;
-use crate::text;
 use crate::write;
 ghost use Prim.Native.Nat.{_+_, _*_, _≤_};
 ghost use lib.ListN.{length};
@@ -54,11 +53,12 @@ fn run_sets(block: &[u8], state: &mut [u8], sets: &[u8], out: &mut [u8], ran: u6
     let mut i = 0;
     while i < count {
         let line = line::react(block, state, set_at(sets, i * 8));
-        end = text::put_line(out, end, ran + (i as u64) + 1, line);
+        let numbers = line::numbers(ran + (i as u64) + 1, line);
+        end = lines::put_line(out, end, &numbers);
         i += 1;
     }
     if count * 8 < sets.len() {
-        end = text::put_short(out, end);
+        end = lines::put_short(out, end);
     }
     end
 }

@@ -6,9 +6,11 @@ use native.Mathlib.Omega.{arith}
 use lib.Dec.{T}
 use Rattle.sets.specs.Numbers.{listed, lowest, some-to}
 use Rattle.rules.specs.Loops.{codes-of}
-use Rattle.block.specs.Table.{kind-of, statements}
-use Rattle.block.specs.Format.{reading, is-broken, header, header-fault, shape, length-of, children-of, over-limit, wrong-signal, wrong-exit, statement-fault, past}
-use Rattle.block.specs.Format.{leaf, read, preorder, endless, lowest-endless, loops-checked, ended}
+use Rattle.tables.specs.Table.{kind-of, statements}
+use Rattle.block.specs.Format.{reading, is-broken, header, header-fault, over-limit, wrong-signal, wrong-exit, statement-fault, past}
+use Rattle.tables.specs.Kinds.{shape, length-of, children-of}
+use Rattle.block.specs.Format.{leaf, read, preorder, loops-checked, ended}
+use Rattle.tables.specs.Codes.{endless, lowest-endless}
 use Rattle.records.specs.Numerals.{in-bytes}
 use Rattle.shelf.specs.Entries.{Entry, entry-bytes, in-use, shelf-of, those, taken, find, is-good, Legal}
 use Rattle.shelf.specs.Calls.{install, fetch, withdraw, refused, done, entry, fetched, withdrawn, told-by, told, taken-out}

@@ -14,7 +14,7 @@ use borrow.Author.Tests.{ne-eqb, lt-ltb, le-ltb}
 use Rattle.refusals.specs.Refusals.{number}
 use Rattle.refusals.specs.declared.Why.{Why}
 use Rattle.refusals.proofs.Laws.{number-above}
-use Rattle.block.specs.Table.{Table}
+use Rattle.tables.specs.Table.{Table}
 use Rattle.block.specs.Format.{Good, Reading, good, turned-down, reading}
 use Rattle.block.specs.Told.{ReadWhole}
 use Rattle.block.specs.declared.whole.Summary.{Summary}

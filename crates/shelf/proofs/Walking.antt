@@ -12,7 +12,7 @@ use lib.Seq.{length-take-le, drop-drop, drop-cons, take-add, take-at}
 use borrow.Author.Tests.{eq-eqb, ne-eqb, lt-ltb, le-ltb, le-leb}
 use Rattle.refusals.specs.declared.Why.{Why}
 use Rattle.sets.proofs.Members.{is-true, is-false, of-true, same, and-left, and-right}
-use Rattle.block.specs.Table.{Table}
+use Rattle.tables.specs.Table.{Table}
 use Rattle.block.specs.Format.{Reading, good, turned-down, reading}
 use Rattle.block.specs.Told.{answer-to, ReadWhole}
 use Rattle.block.specs.declared.whole.Summary.{Summary}

@@ -10,7 +10,7 @@ ghost use mathlib.Core.List.{List};
 ghost use Prim.Native.Nat.{_+_, _-_, _≤_, _<_};
 ghost use lib.ListN.{length, take, drop};
 ghost use Rattle.block.specs.Format.{reading};
-ghost use Rattle.block.specs.Table.{Table};
+ghost use Rattle.tables.specs.Table.{Table};
 ghost use Rattle.block.specs.Told.{ReadWhole};
 ghost use Rattle.records.specs.Numerals.{field};
 ghost use Rattle.shelf.specs.Entries.{Entry, is-good, fits, zeros, entry-there, first-entry};

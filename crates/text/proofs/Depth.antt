@@ -10,7 +10,7 @@ use lib.Dec.{T, eqb, eqb-refl}
 use lib.ListN.{length, take, drop, length-append, length-take, length-drop}
 use lib.Seq.{length-sets}
 use Rattle.sets.specs.Numbers.{listed}
-use Rattle.block.specs.Format.{shape}
+use Rattle.tables.specs.Kinds.{shape}
 use Rattle.records.specs.Numerals.{in-bytes}
 use Rattle.writing.specs.Written.{shaped-bytes, record-bytes}
 use Rattle.text.specs.Tokens.{Token, sign, name, number, no-token, NOTHING, PAUSE, EMIT, PRESENT, THEN, ELSE, END, SUSPEND, WHEN, LOOP, TRAP, IN, EXIT, SIGNAL}

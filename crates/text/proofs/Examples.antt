@@ -4,9 +4,11 @@ use mathlib.Core.List.{List, [], _∷_, map}
 use Prim.Native.Nat.{ℕ}
 use Rattle.sets.specs.Numbers.{listed, lowest, some-to, maxima, down, downs}
 use Rattle.rules.specs.Loops.{codes-of}
-use Rattle.block.specs.Table.{kind-of, statements}
-use Rattle.block.specs.Format.{reading, is-broken, header, header-fault, shape, length-of, children-of, over-limit, wrong-signal, wrong-exit, statement-fault, past, inside}
-use Rattle.block.specs.Format.{leaf, above, joined, read, preorder, bytes, offset, endless, lowest-endless, loops-checked, ended}
+use Rattle.tables.specs.Table.{kind-of, statements}
+use Rattle.block.specs.Format.{reading, is-broken, header, header-fault, over-limit, wrong-signal, wrong-exit, statement-fault, past, inside}
+use Rattle.tables.specs.Kinds.{shape, length-of, children-of}
+use Rattle.block.specs.Format.{leaf, above, joined, read, preorder, bytes, offset, loops-checked, ended}
+use Rattle.tables.specs.Codes.{endless, lowest-endless}
 use Rattle.records.specs.Numerals.{in-bytes}
 use Rattle.writing.specs.Written.{shaped-bytes, header-bytes}
 use Rattle.writing.specs.Answers.{Writing, writes, refuses}

@@ -9,7 +9,7 @@ use native.Mathlib.Omega.{arith}
 use lib.ListN.{length, set, length-append}
 use lib.Seq.{take-append-seam, drop-append-seam, append-snoc, set-at, sets}
 use Rattle.sets.specs.Numbers.{listed}
-use Rattle.block.specs.Format.{shape}
+use Rattle.tables.specs.Kinds.{shape}
 use Rattle.records.specs.Numerals.{in-bytes}
 use Rattle.writing.specs.Written.{shaped-bytes, record-bytes}
 use Rattle.text.specs.Tokens.{Token, sign, name, THEN, ELSE, END, WHEN, IN, SEMICOLON, CLOSED, BESIDE}

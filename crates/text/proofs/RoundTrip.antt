@@ -14,7 +14,7 @@ use lib.ListN.{length}
 use Rattle.sets.specs.Numbers.{empty}
 use Rattle.sets.proofs.Members.{or-out}
 use Rattle.rules.specs.Statements.{depth, Stmt, nothing, pause, emit, present?_then_else_, suspend_on_, _⨾_, loop, _parallel_, trap, exit, local, Trapped, from}
-use Rattle.block.specs.Table.{Small}
+use Rattle.tables.specs.Table.{Small}
 use Rattle.block.specs.Format.{Header, Good, good, reading, preorder}
 use Rattle.block.specs.Good.{nested-traps, locals}
 use Rattle.block.proofs.GoodReadings.{sound}

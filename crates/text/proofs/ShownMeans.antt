@@ -13,8 +13,9 @@ use lib.ListN.{length, length-append}
 use Rattle.sets.specs.Numbers.{Numbers, single, union, listed}
 use Rattle.sets.proofs.Members.{or-out, or-left, or-right}
 use Rattle.rules.specs.Statements.{depth, Stmt, nothing, pause, emit, present?_then_else_, suspend_on_, _⨾_, loop, _parallel_, trap, exit, local, Trapped, from}
-use Rattle.block.specs.Table.{kind-of, operand-of}
-use Rattle.block.specs.Format.{preorder, shape}
+use Rattle.tables.specs.Table.{kind-of, operand-of}
+use Rattle.block.specs.Format.{preorder}
+use Rattle.tables.specs.Kinds.{shape}
 use Rattle.block.specs.Good.{Scoped, locals, Next}
 use Rattle.block.proofs.Nesting.{rows-of, row-tail}
 use Rattle.writing.specs.Written.{record-bytes, shaped-bytes, records}

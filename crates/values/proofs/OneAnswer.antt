@@ -6,7 +6,7 @@ use Prim.Native.Nat.{ℕ}
 use native.Mathlib.Omega.{arith}
 use lib.ListN.{getD}
 use Rattle.refusals.proofs.Laws.{number-above}
-use Rattle.alike.specs.Runs.{Run, start, _▸_, Comparison, size, shows, First}
+use Rattle.pairs.specs.Runs.{Run, start, _▸_, Comparison, size, shows, First}
 use Rattle.alike.specs.Calls.{Front, first-stopped, second-stopped, stopped, ready, front, Compared, Owed}
 use Rattle.alike.specs.declared.Likeness.{Likeness}
 use Rattle.alike.specs.declared.Likeness.the-variants as told

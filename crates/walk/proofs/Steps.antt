@@ -12,12 +12,12 @@ use Rattle.rules.specs.Statements.{depth, code}
 use Rattle.rules.specs.Events.{Status, present, absent, unknown, Event, giving}
 use Rattle.rules.specs.Instant.{Step, leave, test}
 use Rattle.rules.specs.MustCan.{Mark, plus, opened, Question, must, can, Given, nothing-known, either, caught, both, followed, onward, absence-asked, local-status, hidden, gives}
-use Rattle.block.specs.Table.{Table}
+use Rattle.tables.specs.Table.{Table}
 use Rattle.words.specs.declared.events.Heard.{Heard}
 use Rattle.words.specs.declared.given.GivenWords.{GivenWords}
 use Rattle.words.specs.declared.given.MustCan.{MustCan}
 use Rattle.words.specs.declared.events.Seen.{Seen}
-use Rattle.block.specs.declared.kinds.Depth.{Depth}
+use Rattle.tables.specs.declared.kinds.Depth.{Depth}
 use Rattle.forms.specs.declared.form.Task.{Task}
 use Rattle.forms.specs.declared.form.Form.{Form}
 use Rattle.forms.specs.declared.form.Form.the-variants.{Done, Stay, Keep, Say, Leave, Test, Catch, Scope, Chain, Beside, Same}

@@ -6,7 +6,7 @@ use Prim.Native.Nat.{ℕ}
 use Rattle.sets.specs.Numbers.{Numbers}
 use Rattle.rules.specs.Instant.{Step}
 use Rattle.rules.specs.MustCan.{Mark, plus, must, can, Question, nothing-known, either, caught, both, followed, hidden, gives}
-use Rattle.block.specs.Table.{Table}
+use Rattle.tables.specs.Table.{Table}
 use Rattle.words.specs.declared.events.Heard.{Heard}
 use Rattle.words.specs.declared.given.GivenWords.{GivenWords}
 use Rattle.words.specs.declared.given.MustCan.{MustCan}

@@ -1,9 +1,9 @@
 // Must and can of a statement at an event, in one walk.
-use block::kinds::Code;
-use block::kinds::code_of;
 use forms::form::Form;
 use forms::form::Task;
 use forms::form::form_of;
+use tables::kinds::Code;
+use tables::kinds::code_of;
 use words::events::Heard;
 use words::events::Seen;
 use words::events::heard_with;
@@ -26,7 +26,7 @@ use words::given::silent;
 ghost use mathlib.Core.Path.{_≡_};
 ghost use Prim.Native.Nat.{_<_};
 ghost use Rattle.words.specs.Words.{mark-of};
-ghost use Rattle.block.specs.Told.{table-of};
+ghost use Rattle.tables.specs.Table.{table-of};
 ghost use Rattle.forms.specs.Forms.{Placed};
 ghost use Rattle.walk.specs.Walks.{Caught, Both, Followed, Hidden, Doubted, Walked};
 

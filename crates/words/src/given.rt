@@ -2,11 +2,11 @@
 use crate::events::Seen;
 use crate::events::bit;
 use crate::events::has_signal;
-use block::codes::code_bit;
-use block::kinds::Code;
 use code_sets::followed_codes;
 use code_sets::larger;
 use code_sets::lowered;
+use tables::codes::code_bit;
+use tables::kinds::Code;
 ghost use mathlib.Core.Path.{_≡_};
 ghost use mathlib.Core.Bool.{false};
 ghost use Prim.Native.Nat.{_<_};

@@ -1,10 +1,10 @@
 // Sets of pauses: 128 bits in two words, by value.
 use crate::given::gives_zero;
-use block::codes::code_bit;
-use block::kinds::Code;
 use code_sets::followed_codes;
 use code_sets::larger;
 use code_sets::lowered;
+use tables::codes::code_bit;
+use tables::kinds::Code;
 ghost use mathlib.Core.Path.{_≡_};
 ghost use mathlib.Core.Bool.{_&&_};
 ghost use lib.Dec.{ltb};

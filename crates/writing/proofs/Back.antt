@@ -13,10 +13,12 @@ use lib.ListN.{length, drop, length-append}
 use Rattle.sets.specs.Numbers.{empty, listed}
 use Rattle.rules.specs.Statements.{depth, Stmt, nothing, pause, emit, present?_then_else_, suspend_on_, _⨾_, loop, _parallel_, trap, exit, local, pauses, Numbered, Trapped}
 use Rattle.rules.specs.Loops.{loops-pass}
-use Rattle.block.specs.Table.{kind-of, operand-of, statements}
+use Rattle.tables.specs.Table.{kind-of, operand-of, statements}
 use Rattle.block.specs.Format.{LIMIT, Header, header, header-fault, is-broken, Around, Sofar, Got, got, refused, and-then, Good, good, turned-down, reading}
 use Rattle.block.specs.Format.{length-at, operand-at, over-limit, statement-fault}
-use Rattle.block.specs.Format.{shape, length-of, children-of, past, inside, leaf, above, joined, read, ended, loops-checked, lowest-endless, preorder, bytes, outermost, begun}
+use Rattle.block.specs.Format.{past, inside, leaf, above, joined, read, ended, loops-checked, preorder, bytes, outermost, begun}
+use Rattle.tables.specs.Codes.{lowest-endless}
+use Rattle.tables.specs.Kinds.{shape, length-of, children-of}
 use Rattle.block.specs.Good.{Scoped, locals, Next}
 use Rattle.block.proofs.Views.{Leaf, Above, Joined, Kind, leafs, aboves, joins, a-nothing, a-pause, an-emit, an-exit, a-suspend, a-loop, a-trap, a-local, a-present, a-sequence, a-parallel}
 use Rattle.block.proofs.Views.{leaf-children, above-children, joined-children, known-length}
@@ -26,7 +28,7 @@ use Rattle.block.proofs.Built.{leaf-builds, above-builds, joined-builds}
 use Rattle.block.proofs.Nesting.{leaf-nests, above-nests, joined-nests, row-tail}
 use Rattle.block.proofs.Trees.{Around-fits, small-signal, inside-fits, above-no-pause, joined-no-pause, leaf-numbered, locals-counted}
 use Rattle.block.proofs.Tests.{fault-limit, fault-last, header-signals}
-use Rattle.block.proofs.Places.{all-counted}
+use Rattle.tables.proofs.Places.{all-counted}
 use Rattle.block.proofs.Offsets.{length-small}
 use Rattle.block.proofs.GoodReadings.{Sound, sound, none-endless, outermost-fits, statements-read, reading-is}
 use Rattle.records.specs.Numerals.{in-bytes}

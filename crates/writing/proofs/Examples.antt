@@ -4,8 +4,9 @@ use mathlib.Core.Path.{_≡_, refl}
 use mathlib.Core.List.{[], _∷_}
 use Rattle.sets.specs.Numbers.{listed}
 use Rattle.rules.specs.Statements.{depth, pause, emit, suspend_on_, _⨾_, trap, exit, local}
-use Rattle.block.specs.Table.{kind-of, operand-of}
-use Rattle.block.specs.Format.{shape, preorder}
+use Rattle.tables.specs.Table.{kind-of, operand-of}
+use Rattle.block.specs.Format.{preorder}
+use Rattle.tables.specs.Kinds.{shape}
 use Rattle.records.specs.Numerals.{in-bytes}
 use Rattle.writing.specs.Written.{shaped-bytes, records, header-bytes, block-bytes}
 

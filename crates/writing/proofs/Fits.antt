@@ -13,8 +13,9 @@ use lib.Dec.{T, eqb}
 use lib.ListN.{length, length-append}
 use Rattle.sets.proofs.Members.{is-true}
 use Rattle.rules.specs.Statements.{Stmt, pauses, from, Numbered, Trapped}
-use Rattle.block.specs.Table.{statements}
-use Rattle.block.specs.Format.{Header, Around, Sofar, declared-here, wrong-signal, wrong-exit, length-of, past, inside, leaf, above, joined, preorder, bytes}
+use Rattle.tables.specs.Table.{statements}
+use Rattle.block.specs.Format.{Header, Around, Sofar, declared-here, wrong-signal, wrong-exit, past, inside, leaf, above, joined, preorder, bytes}
+use Rattle.tables.specs.Kinds.{length-of}
 use Rattle.block.specs.Good.{Scoped, path, nested-traps, nested-locals, locals, Next}
 use Rattle.block.proofs.Views.{Leaf, Above, Joined, Kind, leafs, aboves, joins, a-nothing, a-pause, an-emit, an-exit, a-suspend, a-loop, a-trap, a-local, a-present, a-sequence, a-parallel}
 use Rattle.block.proofs.Tests.{signal-emit, signal-test, signal-local, signal-none, exit-depth, exit-none}

@@ -12,8 +12,9 @@ use lib.ListN.{length, getD, drop, length-append, length-drop}
 use lib.Seq.{getD-drop, drop-cons, drop-drop, drop-at}
 use Rattle.sets.specs.Numbers.{listed}
 use Rattle.rules.specs.Statements.{Stmt}
-use Rattle.block.specs.Table.{kind-of, operand-of}
-use Rattle.block.specs.Format.{Shape, shape, short, long, of-shape, length-of, two-bytes, length-at, kind-at, operand-at, leaf, above, joined, preorder}
+use Rattle.tables.specs.Table.{kind-of, operand-of}
+use Rattle.block.specs.Format.{two-bytes, length-at, kind-at, operand-at, leaf, above, joined, preorder}
+use Rattle.tables.specs.Kinds.{Shape, shape, short, long, of-shape, length-of}
 use Rattle.block.proofs.Views.{Leaf, Above, Joined, Kind, leafs, aboves, joins, a-nothing, a-pause, an-emit, an-exit, a-suspend, a-loop, a-trap, a-local, a-present, a-sequence, a-parallel, known}
 use Rattle.records.specs.Numerals.{in-bytes, Bytes}
 use Rattle.writing.specs.Written.{shaped-bytes, record-bytes, records}

@@ -10,12 +10,13 @@ use borrow.Author.Tests.{lt-ltb, le-ltb}
 use lib.ListN.{length, length-append}
 use lib.Seq.{sets}
 use Rattle.rules.specs.Statements.{Stmt}
-use Rattle.block.specs.Table.{kind-of, operand-of}
-use Rattle.block.specs.Format.{preorder, bytes, Header, Shape, shape, short, long, of-shape, length-of, operands-of}
-use Rattle.block.specs.Told.{wire-of}
-use Rattle.block.specs.declared.kinds.Shape.{Shape as Coded}
-use Rattle.block.specs.declared.kinds.Wire.the-variants.{Allowed, Unknown}
-use Rattle.block.proofs.Shapes.{Shaped, shaped}
+use Rattle.tables.specs.Table.{kind-of, operand-of}
+use Rattle.block.specs.Format.{preorder, bytes, Header}
+use Rattle.tables.specs.Kinds.{Shape, shape, short, long, of-shape, length-of, operands-of}
+use Rattle.tables.specs.Kinds.{wire-of}
+use Rattle.tables.specs.declared.kinds.Shape.{Shape as Coded}
+use Rattle.tables.specs.declared.kinds.Wire.the-variants.{Allowed, Unknown}
+use Rattle.tables.proofs.Shapes.{Shaped, shaped}
 use Rattle.block.proofs.Views.{shape?, known}
 use Rattle.records.specs.Numerals.{in-bytes}
 use Rattle.records.proofs.Bytes.{sets-append, sets-front}

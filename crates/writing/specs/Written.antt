@@ -9,8 +9,9 @@ use lib.ListN.{length}
 use Rattle.sets.specs.Numbers.{empty}
 use Rattle.rules.specs.Statements.{Stmt, pauses, Numbered, Trapped}
 use Rattle.rules.specs.Loops.{loops-pass}
-use Rattle.block.specs.Table.{kind-of, operand-of, statements}
-use Rattle.block.specs.Format.{Shape, shape, Header, Good, preorder}
+use Rattle.tables.specs.Table.{kind-of, operand-of, statements}
+use Rattle.block.specs.Format.{Header, Good, preorder}
+use Rattle.tables.specs.Kinds.{Shape, shape}
 use Rattle.block.specs.Good.{Scoped, path, nested-traps, nested-locals, locals, Next}
 use Rattle.records.specs.Numerals.{in-bytes}
 

@@ -1,15 +1,15 @@
 // The writing of a block: its header, its records, and what a call that writes answers.
 use block::Declared;
-use block::kinds::Wire;
-use block::kinds::shape_of;
 use records::numerals::put_number;
 use refusals::Why;
+use tables::kinds::Wire;
+use tables::kinds::shape_of;
 ghost use mathlib.Core.Path.{_≡_};
 ghost use mathlib.Core.List.{List};
 ghost use Prim.Native.Nat.{ℕ, _+_, _≤_};
 ghost use lib.ListN.{length};
 ghost use lib.Seq.{sets};
-ghost use Rattle.block.specs.Format.{length-of};
+ghost use Rattle.tables.specs.Kinds.{length-of};
 ghost use Rattle.block.specs.Told.{header-of};
 ghost use Rattle.writing.specs.Written.{header-bytes, record-bytes};
 ghost use Rattle.writing.specs.Answers.{writes, roomed, wrote-values, wrote-owed};

@@ -9,7 +9,7 @@ use Rattle.copies.proofs.own_names.Statement.{statement}
 use Rattle.copies.proofs.own_names.Tie as tie
 use Rattle.copies.proofs.own_names.Reads as reads
 use Rattle.copies.proofs.own_names.Lts as lts
-use Rattle.block.proofs.kinds.wide.Reads as wide-reads
+use Rattle.tables.proofs.kinds.wide.Reads as wide-reads
 
 abbrev Inv-loop : tie.InvT-loop
 Inv-loop names₀ i₀ names i = (i ≤ 64) × (length names ≡ 64) × ((j : ℕ) → j < i → getD names j 0 ≡ j)

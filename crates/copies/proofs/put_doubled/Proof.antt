@@ -12,7 +12,7 @@ use Rattle.copies.proofs.put_doubled.Statement.{statement}
 use Rattle.copies.proofs.put_doubled.Tie as tie
 use Rattle.copies.proofs.put_doubled.Reads as reads
 use Rattle.copies.proofs.put_doubled.Lts as lts
-use Rattle.block.proofs.kinds.wide.Reads as wide-reads
+use Rattle.tables.proofs.kinds.wide.Reads as wide-reads
 use Rattle.copies.proofs.copying.put_copy.Reads as put-copy-reads
 use Rattle.copies.proofs.own_names.Reads as own-names-reads
 use Rattle.copies.proofs.sizes.size_at.Reads as size-at-reads

@@ -27,7 +27,7 @@ use Rattle.walk.proofs.doubted.Reads as doubted-reads
 use Rattle.walk.proofs.followed.Reads as followed-reads
 use Rattle.walk.proofs.hidden.Reads as hidden-reads
 use Rattle.walk.proofs.sure.Reads as sure-reads
-use Rattle.block.proofs.kinds.code_of.Reads as code-of-reads
+use Rattle.tables.proofs.kinds.code_of.Reads as code-of-reads
 use Rattle.words.proofs.given.goes_on.Reads as goes-on-reads
 use Rattle.words.proofs.events.heard_with.Reads as heard-with-reads
 use Rattle.words.proofs.given.mark_onward.Reads as mark-onward-reads

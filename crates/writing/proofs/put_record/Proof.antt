@@ -4,14 +4,14 @@ use Prim.Native.Nat.{ℕ, _+_}
 use native.Mathlib.Omega.{arith}
 use lib.ListN.{length}
 use lib.Seq.{length-sets}
-use Rattle.block.proofs.Shapes.{shaped, not-known}
+use Rattle.tables.proofs.Shapes.{shaped, not-known}
 use Rattle.writing.proofs.Stores.{room-for, stored-plain, stored-operated, not-stored}
 use borrow.Author.Needs.{needs}
 use Rattle.writing.proofs.put_record.Statement.{statement}
 use Rattle.writing.proofs.put_record.Tie as tie
 use Rattle.writing.proofs.put_record.Reads as reads
 use Rattle.writing.proofs.put_record.Lts as lts
-use Rattle.block.proofs.kinds.shape_of.Reads as shape-of-reads
+use Rattle.tables.proofs.kinds.shape_of.Reads as shape-of-reads
 use Rattle.records.proofs.numerals.put_number.Reads as put-number-reads
 
 enum-told : tie.Need-enum-told

@@ -4,8 +4,8 @@ use mathlib.Core.Path.{_≡_, subst}
 use Prim.Native.Nat.{ℕ, _+_, _-_, _*_, _^_, _≤_, _<_}
 use native.Mathlib.Omega.{arith}
 use borrow.Author.Tests.{not-true, not-false}
-use Rattle.block.specs.Told.{table-of}
-use Rattle.alike.specs.Rows.{rows-of, links-of, Full, FullLinks}
+use Rattle.tables.specs.Table.{table-of}
+use Rattle.pairs.specs.Rows.{rows-of, links-of, Full, FullLinks}
 use Rattle.alike.specs.Ends.{Turns}
 use Rattle.alike.proofs.Turning.{Everywhere, first-known, still-full, at-found, count-most, differing, stepped, kept-full, kept-links}
 use Rattle.alike.proofs.Turning.{goes-on, same-end, over-end, went-bound, end-different, end-same, end-over, sets-in, step-less}

@@ -4,8 +4,8 @@ use mathlib.Core.Path.{_≡_}
 use mathlib.Core.List.{List}
 use Prim.Native.Nat.{ℕ, _+_, _≤_, _<_}
 use native.Mathlib.Omega.{arith}
-use Rattle.alike.specs.Runs.{Run, size}
-use Rattle.alike.specs.Rows.{links-of, Linked}
+use Rattle.pairs.specs.Runs.{Run, size}
+use Rattle.pairs.specs.Rows.{links-of, Linked}
 use Rattle.alike.proofs.WrittenLaws.{one-more, none-left}
 use borrow.Author.Needs.{needs}
 use Rattle.alike.proofs.written.run_size.Statement.{statement}

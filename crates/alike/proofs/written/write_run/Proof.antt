@@ -5,8 +5,8 @@ use mathlib.Core.List.{_++_}
 use Prim.Native.Nat.{ℕ, _+_, _-_, _≤_, _<_}
 use native.Mathlib.Omega.{arith}
 use lib.ListN.{length, length-set, drop, getD}
-use Rattle.alike.specs.Runs.{Run, size, bytes-of}
-use Rattle.alike.specs.Rows.{links-of, Linked}
+use Rattle.pairs.specs.Runs.{Run, size, bytes-of}
+use Rattle.pairs.specs.Rows.{links-of, Linked}
 use Rattle.alike.proofs.WrittenLaws.{one-more, one-written, all-written, its-length}
 use borrow.Author.Needs.{needs}
 use Rattle.alike.proofs.written.write_run.Statement.{statement}

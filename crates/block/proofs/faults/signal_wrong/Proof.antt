@@ -3,7 +3,7 @@
 use mathlib.Core.Path.{sym, _∙_, ap}
 use mathlib.Core.Bool.{not}
 use native.Mathlib.Omega.{arith}
-use Rattle.block.proofs.Shapes.{nineteen-or-twenty}
+use Rattle.tables.proofs.Shapes.{nineteen-or-twenty}
 use Rattle.block.proofs.Tests.{signal-emit, signal-test, signal-local, signal-none}
 use borrow.Author.Needs.{needs}
 use Rattle.block.proofs.faults.signal_wrong.Statement.{statement}

@@ -4,7 +4,8 @@ use mathlib.Core.Path.{_≡_, sym, _∙_}
 use mathlib.Core.Bool.{Bool, true, false, cond}
 use lib.ListN.{length}
 use denote.Ref.{now}
-use Rattle.block.specs.Format.{is-broken, length-of, over-limit, wrong-signal, statement-fault}
+use Rattle.block.specs.Format.{is-broken, over-limit, wrong-signal, statement-fault}
+use Rattle.tables.specs.Kinds.{length-of}
 use Rattle.block.specs.Told.{header-of, sofar-of, around-of}
 use Rattle.block.proofs.Tests.{fault-shape, fault-broken, fault-kind, fault-limit, fault-signal, fault-last}
 use borrow.Author.Needs.{needs}

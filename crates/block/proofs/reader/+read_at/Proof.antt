@@ -7,10 +7,11 @@ use native.Mathlib.Nat.{pos-of-ne-zero}
 use mathlib.Core.Path.{_≡_, refl, sym, _∙_}
 use lib.ListN.{length}
 use denote.Ref.{now}
-use Rattle.block.specs.Format.{kind-at, operand-at, children-of, past, statement-fault}
+use Rattle.block.specs.Format.{kind-at, operand-at, past, statement-fault}
+use Rattle.tables.specs.Kinds.{children-of}
 use Rattle.block.specs.declared.Cursor.{Cursor}
 use Rattle.block.specs.Told.{header-of, sofar-of, around-of}
-use Rattle.block.proofs.Shapes.{Shaped, shaped, not-known}
+use Rattle.tables.proofs.Shapes.{Shaped, shaped, not-known}
 use Rattle.block.proofs.Views.{known-length}
 use Rattle.block.proofs.Passes.{Passes}
 use Rattle.block.proofs.Ways.{passes-at, Hand, end-fault, end-leaf, end-first, end-above, end-second, end-joined, ready-first, ready-second, begun-full, first-got, size₁, few₁, size₂, few₂}
@@ -21,7 +22,7 @@ use Rattle.block.proofs.reader.read_at.Reads as read-at
 use Rattle.block.proofs.reader.read_at.Kinds as read-at-kinds
 use Rattle.block.proofs.reader.+read_at.Lts-read_at as read-at-lts
 use Rattle.block.proofs.faults.statement_fault.Reads as statement-fault-reads
-use Rattle.block.proofs.kinds.shape_of.Reads as shape-of-reads
+use Rattle.tables.proofs.kinds.shape_of.Reads as shape-of-reads
 use Rattle.block.proofs.records.two_bytes.Reads as two-bytes-reads
 use Rattle.block.proofs.steps.inner.Reads as inner-reads
 use Rattle.block.proofs.steps.kept.Reads as kept-reads

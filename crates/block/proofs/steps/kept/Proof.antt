@@ -2,8 +2,8 @@
 -- Assumes nothing.
 use mathlib.Core.Path.{sym, _∙_}
 use borrow.Author.Tests.{eq-eqb}
-use Rattle.block.specs.Told.{kept-operand}
-use Rattle.block.proofs.Shapes.{kept-at, kept-none}
+use Rattle.tables.specs.Table.{kept-operand}
+use Rattle.tables.proofs.Shapes.{kept-at, kept-none}
 use Rattle.block.proofs.steps.kept.Statement.{statement}
 use Rattle.block.proofs.steps.kept.Tie as tie
 use Rattle.block.proofs.steps.kept.Reads as reads

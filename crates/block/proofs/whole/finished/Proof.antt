@@ -1,7 +1,7 @@
 -- `whole::finished` meets its contract: at each return the tests before it passed and the last one failed.
 -- Assumes nothing.
 use native.Mathlib.Omega.{arith}
-use Rattle.block.specs.Format.{lowest-endless}
+use Rattle.tables.specs.Codes.{lowest-endless}
 use Rattle.block.proofs.Offsets.{tabled-listed}
 use Rattle.block.proofs.Ends.{end-bytes, end-locals, end-loop, end-good, found-some, found-none}
 use borrow.Author.Needs.{needs}
@@ -9,7 +9,7 @@ use Rattle.block.proofs.whole.finished.Statement.{statement}
 use Rattle.block.proofs.whole.finished.Tie as tie
 use Rattle.block.proofs.whole.finished.Reads as reads
 use Rattle.block.proofs.whole.finished.Lts as lts
-use Rattle.block.proofs.loops.lowest_endless.Reads as lowest-endless-reads
+use Rattle.tables.proofs.loops.lowest_endless.Reads as lowest-endless-reads
 use Rattle.block.proofs.whole.offset_of.Reads as offset-of-reads
 
 returns : tie.Need-returns

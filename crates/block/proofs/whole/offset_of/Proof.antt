@@ -10,7 +10,7 @@ use Rattle.block.proofs.whole.offset_of.Statement.{statement}
 use Rattle.block.proofs.whole.offset_of.Tie as tie
 use Rattle.block.proofs.whole.offset_of.Reads as reads
 use Rattle.block.proofs.whole.offset_of.Lts as lts
-use Rattle.block.proofs.kinds.record_length.Reads as record-length-reads
+use Rattle.tables.proofs.kinds.record_length.Reads as record-length-reads
 
 abbrev Inv-loop : tie.InvT-loop
 Inv-loop kinds n at₀ i₀ at i = Summed kinds n at i

@@ -7,7 +7,7 @@ use Rattle.copies.proofs.copying.name_of.Statement.{statement}
 use Rattle.copies.proofs.copying.name_of.Tie as tie
 use Rattle.copies.proofs.copying.name_of.Reads as reads
 use Rattle.copies.proofs.copying.name_of.Lts as lts
-use Rattle.block.proofs.kinds.wide.Reads as wide-reads
+use Rattle.tables.proofs.kinds.wide.Reads as wide-reads
 
 wide-requires : tie.Need-wide-requires
 wide-requires c κs = search needs

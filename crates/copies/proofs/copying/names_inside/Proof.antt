@@ -9,7 +9,7 @@ use Rattle.copies.proofs.copying.names_inside.Statement.{statement}
 use Rattle.copies.proofs.copying.names_inside.Tie as tie
 use Rattle.copies.proofs.copying.names_inside.Reads as reads
 use Rattle.copies.proofs.copying.names_inside.Lts as lts
-use Rattle.block.proofs.kinds.wide.Reads as wide-reads
+use Rattle.tables.proofs.kinds.wide.Reads as wide-reads
 
 returns : tie.Need-returns
 returns c = λ h. names-kept _ _ _ _ (c .if1 .taken)

@@ -5,7 +5,7 @@ use Rattle.copies.proofs.nodes.node_at.Statement.{statement}
 use Rattle.copies.proofs.nodes.node_at.Tie as tie
 use Rattle.copies.proofs.nodes.node_at.Reads as reads
 use Rattle.copies.proofs.nodes.node_at.Lts as lts
-use Rattle.block.proofs.loops.second_at.Reads as second-at-reads
+use Rattle.tables.proofs.loops.second_at.Reads as second-at-reads
 
 mul-kind : tie.Need-mul-kind
 mul-kind c = search needs

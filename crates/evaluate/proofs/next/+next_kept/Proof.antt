@@ -26,7 +26,7 @@ use Rattle.words.proofs.pauses.kept_none.Reads as kept-none-reads
 use Rattle.words.proofs.pauses.kept_unknown.Reads as kept-unknown-reads
 use Rattle.words.proofs.pauses.one_pause.Reads as one-pause-reads
 use Rattle.walk.proofs.must_can.Reads as must-can-reads
-use Rattle.block.proofs.kinds.code_of.Reads as code-of-reads
+use Rattle.tables.proofs.kinds.code_of.Reads as code-of-reads
 use Rattle.words.proofs.given.gives_zero.Reads as gives-zero-reads
 use Rattle.words.proofs.events.heard_with.Reads as heard-with-reads
 use Rattle.words.proofs.given.settled_for.Reads as settled-for-reads

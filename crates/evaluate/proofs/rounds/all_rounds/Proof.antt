@@ -4,7 +4,7 @@
 use mathlib.Core.Path.{sym, _∙_}
 use Prim.Native.Nat.{_+_, _-_, _≤_}
 use native.Mathlib.Omega.{arith}
-use Rattle.block.specs.Told.{table-of}
+use Rattle.tables.specs.Table.{table-of}
 use Rattle.evaluate.proofs.RoundLaws.{Progress, progress-none, progress-decided, progress-more, progress-stop, progress-end}
 use Rattle.evaluate.proofs.rounds.all_rounds.Statement.{statement}
 use Rattle.evaluate.proofs.rounds.all_rounds.Tie as tie

@@ -5,7 +5,7 @@ use mathlib.Core.Path.{_≡_, refl, _∙_}
 use native.Mathlib.Omega.{arith}
 use lib.ListN.{length, length-set}
 use Rattle.sets.specs.Words.{set-of}
-use Rattle.block.specs.Told.{table-of}
+use Rattle.tables.specs.Table.{table-of}
 use Rattle.forms.specs.Forms.{LiveFrom}
 use Rattle.forms.proofs.ActiveLaws.{live-none, live-step, live-all, pred-less, none-left}
 use Rattle.forms.proofs.active.actives.Statement.{statement}

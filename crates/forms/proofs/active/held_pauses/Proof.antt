@@ -1,11 +1,11 @@
 -- `forms::active::held_pauses` meets its contract: the rows passed have given their active pauses.
 -- Assumes nothing.
-use Rattle.block.proofs.Rows.{has-row}
+use Rattle.tables.proofs.Rows.{has-row}
 use Rattle.forms.proofs.FormLaws.{in-table}
 use Prim.Native.Nat.{_-_, _≤_}
 use mathlib.Core.Path.{_≡_, ap₂, _∙_}
 use native.Mathlib.Omega.{arith}
-use Rattle.block.specs.Told.{table-of}
+use Rattle.tables.specs.Table.{table-of}
 use Rattle.forms.specs.Forms.{pauses-in, among}
 use Rattle.forms.proofs.ActiveLaws.{rows-none, rows-more, rows-all, both-ways}
 use Rattle.sets.specs.Numbers.{union}

@@ -1,7 +1,7 @@
 -- `forms::active::held_row` meets its contract: by whether the row is a pause.
 -- Assumes nothing.
 use Rattle.forms.proofs.ActiveLaws.{row-own, row-none}
-use Rattle.block.specs.Told.{table-of}
+use Rattle.tables.specs.Table.{table-of}
 use mathlib.Core.Path.{_∙_}
 use borrow.Author.Needs.{needs}
 use Rattle.sets.specs.Words.{set-of}

@@ -1,7 +1,7 @@
 -- `forms::form::resumed_form` meets its contract: each arm is the form of its kind; the kinds that are left are done.
 -- Assumes nothing.
 use mathlib.Core.Path.{sym, ap, ap₂, _∙_}
-use Rattle.block.proofs.Rows.{has-row}
+use Rattle.tables.proofs.Rows.{has-row}
 use Rattle.forms.specs.declared.form.Form.the-variants.{Beside, Same}
 use Rattle.forms.specs.Forms.{step-of, form-for}
 use Rattle.forms.proofs.FormLaws.{in-table, formed, resumed-formed, resumed-done, done-formed}

@@ -1,7 +1,7 @@
 -- `forms::form::started_form` meets its contract: each arm is the form of its kind, and every statement has one of the eleven kinds.
 -- Assumes nothing.
 use mathlib.Core.Path.{_∙_}
-use Rattle.block.proofs.Rows.{has-row}
+use Rattle.tables.proofs.Rows.{has-row}
 use Rattle.forms.specs.Forms.{step-of}
 use Rattle.forms.proofs.FormLaws.{some-kind, in-table, started-formed, done-formed}
 use borrow.Author.Needs.{needs}

@@ -1,8 +1,8 @@
 -- `maze::corridors::from_gate` meets its contract: the row of the test says which part it has.
 -- Assumes nothing.
 use native.Mathlib.Omega.{arith}
-use Rattle.block.specs.Told.{table-of}
-use Rattle.block.proofs.Rows.{some-statement}
+use Rattle.tables.specs.Table.{table-of}
+use Rattle.tables.proofs.Rows.{some-statement}
 use Rattle.maze.specs.Ways.{way-told}
 use Rattle.maze.proofs.RowLaws.{second-is}
 use Rattle.maze.proofs.GateLaws.{by-then, by-else}
@@ -11,8 +11,8 @@ use Rattle.maze.proofs.corridors.from_gate.Statement.{statement}
 use Rattle.maze.proofs.corridors.from_gate.Tie as tie
 use Rattle.maze.proofs.corridors.from_gate.Reads as reads
 use Rattle.maze.proofs.corridors.from_gate.Lts as lts
-use Rattle.block.proofs.kinds.wide.Reads as wide-reads
-use Rattle.block.proofs.loops.second_at.Reads as second-at-reads
+use Rattle.tables.proofs.kinds.wide.Reads as wide-reads
+use Rattle.tables.proofs.loops.second_at.Reads as second-at-reads
 use Rattle.maze.proofs.corridors.else_gate.Reads as else-gate-reads
 use Rattle.maze.proofs.corridors.then_gate.Reads as then-gate-reads
 use Rattle.maze.proofs.form.is_nothing.Reads as is-nothing-reads

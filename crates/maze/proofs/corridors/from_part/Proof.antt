@@ -6,9 +6,9 @@ use native.Mathlib.Omega.{arith}
 use lib.ListN.{getD}
 use borrow.Author.Needs.{needs}
 use Rattle.rules.specs.Statements.{Stmt}
-use Rattle.block.specs.Told.{table-of}
-use Rattle.block.specs.Table.{statements}
-use Rattle.block.proofs.Rows.{has-row, some-statement}
+use Rattle.tables.specs.Table.{table-of}
+use Rattle.tables.specs.Table.{statements}
+use Rattle.tables.proofs.Rows.{has-row, some-statement}
 use Rattle.forms.specs.Forms.{At}
 use Rattle.mazes.specs.Mazes.{OfForm, corridors}
 use Rattle.maze.specs.Ways.{way-by, way-told}
@@ -17,7 +17,7 @@ use Rattle.maze.proofs.corridors.from_part.Statement.{statement}
 use Rattle.maze.proofs.corridors.from_part.Tie as tie
 use Rattle.maze.proofs.corridors.from_part.Reads as reads
 use Rattle.maze.proofs.corridors.from_part.Lts as lts
-use Rattle.block.proofs.kinds.wide.Reads as wide-reads
+use Rattle.tables.proofs.kinds.wide.Reads as wide-reads
 use Rattle.maze.proofs.corridors.given_by.Reads as given-by-reads
 use Rattle.maze.proofs.corridors.gives_one.Reads as gives-one-reads
 use Rattle.maze.proofs.corridors.passed.Reads as passed-reads

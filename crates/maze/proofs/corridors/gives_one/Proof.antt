@@ -10,7 +10,7 @@ use Rattle.maze.proofs.corridors.gives_one.Statement.{statement}
 use Rattle.maze.proofs.corridors.gives_one.Tie as tie
 use Rattle.maze.proofs.corridors.gives_one.Reads as reads
 use Rattle.maze.proofs.corridors.gives_one.Lts as lts
-use Rattle.block.proofs.kinds.wide.Reads as wide-reads
+use Rattle.tables.proofs.kinds.wide.Reads as wide-reads
 
 wide-requires : tie.Need-wide-requires
 wide-requires c κs = search needs

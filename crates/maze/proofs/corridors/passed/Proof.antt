@@ -7,7 +7,7 @@ use Rattle.maze.proofs.corridors.passed.Statement.{statement}
 use Rattle.maze.proofs.corridors.passed.Tie as tie
 use Rattle.maze.proofs.corridors.passed.Reads as reads
 use Rattle.maze.proofs.corridors.passed.Lts as lts
-use Rattle.block.proofs.kinds.wide.Reads as wide-reads
+use Rattle.tables.proofs.kinds.wide.Reads as wide-reads
 
 wide-requires : tie.Need-wide-requires
 wide-requires c κs = search needs

@@ -9,7 +9,7 @@ use Rattle.maze.proofs.form.row_fits.Statement.{statement}
 use Rattle.maze.proofs.form.row_fits.Tie as tie
 use Rattle.maze.proofs.form.row_fits.Reads as reads
 use Rattle.maze.proofs.form.row_fits.Lts as lts
-use Rattle.block.proofs.loops.second_at.Reads as second-at-reads
+use Rattle.tables.proofs.loops.second_at.Reads as second-at-reads
 use Rattle.maze.proofs.form.is_nothing.Reads as is-nothing-reads
 use Rattle.maze.proofs.form.neither.Reads as neither-reads
 use Rattle.maze.proofs.form.one_alone.Reads as one-alone-reads

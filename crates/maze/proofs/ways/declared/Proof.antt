@@ -8,7 +8,7 @@ use Rattle.maze.proofs.ways.declared.Statement.{statement}
 use Rattle.maze.proofs.ways.declared.Tie as tie
 use Rattle.maze.proofs.ways.declared.Reads as reads
 use Rattle.maze.proofs.ways.declared.Lts as lts
-use Rattle.block.proofs.kinds.wide.Reads as wide-reads
+use Rattle.tables.proofs.kinds.wide.Reads as wide-reads
 
 wide-requires : tie.Need-wide-requires
 wide-requires c κs = search needs

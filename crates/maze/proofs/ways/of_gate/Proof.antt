@@ -2,7 +2,7 @@
 -- Assumes nothing.
 use native.Mathlib.Omega.{arith}
 use Rattle.rules.specs.Statements.{numbered}
-use Rattle.block.proofs.Rows.{some-statement}
+use Rattle.tables.proofs.Rows.{some-statement}
 use Rattle.maze.proofs.WayLaws.{stands-at, below-count, no-gate, no-test, its-test}
 use borrow.Author.Needs.{needs}
 use Rattle.maze.proofs.ways.of_gate.Statement.{statement}

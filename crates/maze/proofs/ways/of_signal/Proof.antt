@@ -9,7 +9,7 @@ use Rattle.maze.proofs.ways.of_signal.Statement.{statement}
 use Rattle.maze.proofs.ways.of_signal.Tie as tie
 use Rattle.maze.proofs.ways.of_signal.Reads as reads
 use Rattle.maze.proofs.ways.of_signal.Lts as lts
-use Rattle.block.proofs.kinds.wide.Reads as wide-reads
+use Rattle.tables.proofs.kinds.wide.Reads as wide-reads
 use Rattle.maze.proofs.corridors.from_input.Reads as from-input-reads
 use Rattle.maze.proofs.corridors.from_part.Reads as from-part-reads
 use Rattle.maze.proofs.ways.declared.Reads as declared-reads

@@ -13,8 +13,8 @@ use borrow.Fn.PlainCycle.{Measures, is, falls, and}
 use Rattle.reasons.proofs.taken.taken.Reads as taken
 use Rattle.reasons.proofs.taken.taken.Kinds as taken-kinds
 use Rattle.reasons.proofs.taken.+taken.Lts-taken as taken-lts
-use Rattle.block.proofs.codes.code_bit.Reads as code-bit-reads
-use Rattle.block.proofs.kinds.code_of.Reads as code-of-reads
+use Rattle.tables.proofs.codes.code_bit.Reads as code-bit-reads
+use Rattle.tables.proofs.kinds.code_of.Reads as code-of-reads
 use Rattle.code_sets.proofs.followed_codes.Reads as followed-codes-reads
 use Rattle.code_sets.proofs.larger.Reads as larger-reads
 use Rattle.code_sets.proofs.lowered.Reads as lowered-reads

@@ -26,11 +26,14 @@ set-at-requires c κs = search needs
 react-requires : tie.Need-react-requires Inv-loop μ-loop
 react-requires c κs = search needs
 
-add-put-line : tie.Need-add-put-line Inv-loop μ-loop
-add-put-line c = search needs
+add-numbers : tie.Need-add-numbers Inv-loop μ-loop
+add-numbers c = search needs
 
-add-put-line-2 : tie.Need-add-put-line-2 Inv-loop μ-loop
-add-put-line-2 c = search needs
+add-numbers-2 : tie.Need-add-numbers-2 Inv-loop μ-loop
+add-numbers-2 c = search needs
+
+numbers-requires : tie.Need-numbers-requires Inv-loop μ-loop
+numbers-requires c κs = search needs
 
 put-line-requires : tie.Need-put-line-requires Inv-loop μ-loop
 put-line-requires c κs = search needs
@@ -78,8 +81,9 @@ run-sets-spec =
     mul-set-at
     set-at-requires
     react-requires
-    add-put-line
-    add-put-line-2
+    add-numbers
+    add-numbers-2
+    numbers-requires
     put-line-requires
     add-i
     loop-less

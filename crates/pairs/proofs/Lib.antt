@@ -1,0 +1,4 @@
+pub mod RowLaws
+pub mod FindLaws
+pub mod StepLaws
+pub mod Examples

@@ -1,0 +1,3 @@
+pub mod Runs
+pub mod Blocks
+pub mod Rows
