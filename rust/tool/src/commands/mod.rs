@@ -29,7 +29,7 @@ pub struct Command {
     pub run: fn(&Words, &mut Out) -> Outcome<Status>,
 }
 
-pub static COMMANDS: [&Command; 12] = [
+pub static COMMANDS: [&Command; 13] = [
     &check::COMMAND,
     &show::COMMAND,
     &crate::run::COMMAND,
