@@ -216,7 +216,8 @@ uint16_t foldheron_withdraw(uint8_t *shelf, size_t shelf_size, uint16_t party, u
  *   block           of 1 to 8: which block is turned down, 1 the first or 2 the second; else 0. The place is an offset in that block;
  *   length          how many sets the run has; 0 where the blocks are alike, for a run of no sets shows nothing, and where it was refused.
  * Refusals: 1 to 8 for the first block, then for the second, 23, 24 for more than 6 inputs, 12 for a shorter run, and 25 exactly where runs shorter than a shortest
- * showing one (all runs, if none shows) reach over 1,024 different pairs of states. */
+ * showing one (all runs, if none shows) reach over 1,024 different pairs of states. Numeric order is set by set from the front. A call runs up to 131,072 instants and cannot be
+ * stopped: docs/PERFORMANCE.md says how long that may take. */
 #define FOLDHERON_ALIKE_SIZE 32
 #define FOLDHERON_AT_BLOCK 16
 #define FOLDHERON_AT_LENGTH 24
@@ -233,7 +234,7 @@ uint16_t foldheron_alike(const uint8_t *first, size_t first_size, const uint8_t 
 uint16_t foldheron_double_loops(const uint8_t *block, size_t block_size, uint8_t *out, size_t out_size, uint8_t *answer, size_t answer_size);
 
 /* The two-player maze of a block's first instant with these inputs present and the others absent, for blocks made of emit, parallel, and present with nothing
- * in one branch: whose rooms win, lose and draw. Those are the inputs and outputs that are present, absent and undecided in the final round. The answer, 40
+ * in exactly one branch, nothing standing nowhere else: whose rooms win, lose and draw. Those are the inputs and outputs that are present, absent and undecided in the final round. The answer, 40
  * bytes: number, place, and three sets, bit n for signal n, an input or an output. Refusals: 1 to 8, then 11, 26. */
 #define FOLDHERON_MAZE_SIZE 40
 #define FOLDHERON_AT_WINNING 16
@@ -246,7 +247,8 @@ uint16_t foldheron_maze(const uint8_t *block, size_t block_size, uint64_t inputs
  *   ROOM_PART       the room of statement first, as the room of signal second sees it;
  *   ROOM_GATE       the room between present number first and its part, as the room of signal second sees it;
  *   ROOM_DUNGEON    the dungeon, which has no corridors; the two numbers are not looked at, and 0 in an answer.
- * No other kind names a room. The answer, 48 bytes: number, place, and
+ * No other kind names a room. There is a room of every statement, and a gate of every present, as any declared signal would see it; the maze itself are those that a walk from the
+ * signals' rooms comes to. The answer, 48 bytes: number, place, and
  *   way             WAY_NONE where the room has no corridor n, and where it was refused; WAY_VISIBLE or WAY_SECRET, a corridor; WAY_NO_ROOM, there is no such room;
  *   room, first, second   of a corridor: the room that it leads to.
  * Refusals: 1 to 8, then 11, 26. */
