@@ -30,14 +30,14 @@ same-followed f g = record {
 }
 
 -- What is kept where the same code is there.
-kept-where : {R : Numbers → Numbers → Type 0} → Closed R → (z z′ : Bool) {A A′ : Numbers} → z′ ≡ z → R A A′ → R (only-if z A) (only-if z′ A′)
+pub kept-where : {R : Numbers → Numbers → Type 0} → Closed R → (z z′ : Bool) {A A′ : Numbers} → z′ ≡ z → R A A′ → R (only-if z A) (only-if z′ A′)
 kept-where {R} c z z′ {A} {A′} e r = subst⁻¹ (λ (x : Bool). R (only-if z A) (only-if x A′)) e (go z)
   where
     go : (x : Bool) → R (only-if x A) (only-if x A′)
     go true = r
     go false = c .none
 
-kept-chosen : {R : Numbers → Numbers → Type 0} → Closed R → (v : Status) {A A′ B B′ : Numbers} → R A A′ → R B B′ → R (kept-by v A B) (kept-by v A′ B′)
+pub kept-chosen : {R : Numbers → Numbers → Type 0} → Closed R → (v : Status) {A A′ B B′ : Numbers} → R A A′ → R B B′ → R (kept-by v A B) (kept-by v A′ B′)
 kept-chosen c present r s = r
 kept-chosen c absent r s = s
 kept-chosen c unknown r s = c .none

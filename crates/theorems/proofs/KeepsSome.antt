@@ -117,11 +117,11 @@ down-is-one (suc zero) e = refl
 down-is-one (suc (suc zero)) e = absurd (omega arith)
 down-is-one (suc (suc (suc c))) e = absurd (omega arith)
 
-exit-code : (d : Depth) → code d ≡ 1 → ⊥
+pub exit-code : (d : Depth) → code d ≡ 1 → ⊥
 unfolding code
 exit-code (depth d) e = omega arith
 
-max-is-one : (a b : ℕ) → max a b ≡ 1 → (a ≡ 1) ⊎ (b ≡ 1)
+pub max-is-one : (a b : ℕ) → max a b ≡ 1 → (a ≡ 1) ⊎ (b ≡ 1)
 max-is-one a b e = go (decLe a b)
   where
     go : Dec (a ≤ b) → (a ≡ 1) ⊎ (b ≡ 1)

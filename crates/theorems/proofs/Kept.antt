@@ -57,7 +57,7 @@ kept-at-one (chain p q) E n t =
 kept-at-one (beside p q) E n t = only-if-test (gives must (beside p q) E .codes 1) (union (kept p E) (kept q E)) n t
 
 -- A test that every member passes changes nothing.
-passed : (x : Bool) (a : Numbers) → ((n : ℕ) → T (a n) → T x) → only-if x a ≡ a
+pub passed : (x : Bool) (a : Numbers) → ((n : ℕ) → T (a n) → T x) → only-if x a ≡ a
 passed x a f = ext-T (λ n t. only-if-member x a n t) (λ n t. only-if-in x a n (f n t) t)
 
 test-kept : (b : Bool) (v : Status) (c : ℕ) (p q : Step) (E : Event) (r s : Execution) (A B : Type 0) → Below v (known b)

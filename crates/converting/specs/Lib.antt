@@ -1,0 +1,5 @@
+pub mod Format
+pub mod Legal
+pub mod Conversions
+pub mod Sizes
+pub mod Records

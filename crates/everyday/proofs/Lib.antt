@@ -1,0 +1,10 @@
+pub mod Sent
+pub mod Standing
+pub mod Abort
+pub mod Forms
+pub mod Agree
+pub mod Runs
+pub mod Sentences
+pub mod Natural
+pub mod Check
+pub mod Kernel
