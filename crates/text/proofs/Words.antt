@@ -100,7 +100,7 @@ unfolding value-from
 decimal-back n = decimal-value (suc n) n [] (omega arith)
 
 -- How many digits there are.
-decimal-length : (j f n : ℕ) (r : List ℕ) → n < 10 ^ suc j → length (decimal-in f n r) ≤ suc j + length r
+pub decimal-length : (j f n : ℕ) (r : List ℕ) → n < 10 ^ suc j → length (decimal-in f n r) ≤ suc j + length r
 unfolding decimal-in
 decimal-length j zero n r l = omega arith
 decimal-length zero (suc f) n r l =

@@ -1,0 +1,9 @@
+pub mod Putting
+pub mod NameLaws
+pub mod SpotLaws
+pub mod StatementLaws
+pub mod Most
+pub mod HeaderLaws
+pub mod TextLaws
+pub mod ReadBack
+pub mod Examples
