@@ -18,3 +18,6 @@ pub mod ByteTests
 pub mod Keys
 pub mod Numbers
 pub mod WordTokens
+pub mod Fronts
+pub mod SameWords
+pub mod Views

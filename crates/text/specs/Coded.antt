@@ -1,12 +1,15 @@
 -- Tokens in numbers, as the code holds them, and the token at the front of some bytes. Assumes nothing.
+use mathlib.Core.Path.{_≡_}
 use mathlib.Core.Bool.{Bool, cond}
 use mathlib.Core.List.{List, [], _∷_}
 use mathlib.Core.Option.{Option, none, some}
 use Prim.Native.Nat.{ℕ, suc, _+_, _*_}
 use lib.Dec.{eqb}
-use lib.ListN.{length}
+use lib.ListN.{length, drop}
 use Rattle.records.specs.Numerals.{as-number}
-use Rattle.text.specs.Tokens.{Token, sign, name, number, no-token, keywords, keyword-from, in-word, is-number, value-from, word-token, word-of, mark-token, mark-size}
+use Rattle.text.specs.Tokens.{Token, sign, name, number, no-token, keywords, keyword-from, in-word, is-number, value-from, word-token, word-of, mark-token, mark-size, spaces-of}
+use Rattle.text.specs.Tokens.{Placed, placed}
+use Rattle.text.specs.declared.tokens.Token.{Token as CodedToken}
 
 -- The number of the keyword that a word is, 17 for none.
 unfoldable pub keyword-or-none : Option ℕ → ℕ
@@ -51,6 +54,29 @@ unfoldable pub value-held : Option Token → ℕ
 unfolding value-of
 value-held none = 0
 value-held (some t) = value-of t
+
+-- The token of a kind with a value, where a word stands.
+unfoldable pub from-kind : ℕ → ℕ → List ℕ → Token
+from-kind k v w = cond (eqb k 17) (name w) (cond (eqb k 18) (number v) (cond (eqb k 19) no-token (sign k)))
+
+-- The code's token is what stands at the front from a place on, which is no space; or from a place on, behind its spaces.
+pub record FrontAt (text : List ℕ) (at : ℕ) (r : CodedToken) : Type 0 where
+  pub its-kind : r .kind ≡ kind-held (front (drop at text))
+  pub its-start : r .start ≡ at
+  pub its-end : r .end ≡ at + front-size (drop at text)
+  pub its-value : r .value ≡ value-held (front (drop at text))
+
+abbrev pub past-spaces : List ℕ → ℕ → ℕ
+past-spaces text at = at + spaces-of (drop at text)
+
+-- The tokens of a text from a place on.
+abbrev pub tokens-from : List ℕ → ℕ → List Placed
+tokens-from text at = placed (length text) at (drop at text)
+
+-- A token at a place before others; none before none.
+unfoldable pub fronted : Option Token → ℕ → List Placed → List Placed
+fronted none at ps = []
+fronted (some t) at ps = record { place = at; token = t } ∷ ps
 
 -- A word of at most seven bytes as one number, its length in the lowest three bits; and the first word of a list with such a number.
 abbrev pub key : List ℕ → ℕ

@@ -1,13 +1,16 @@
 // The tokens of a text in numbers: keywords, names, numbers and marks.
 use crate::bytes::digit;
 use crate::bytes::letter;
+use crate::bytes::past_spaces;
+use crate::bytes::word_byte;
 use crate::bytes::word_end;
 use records::numerals::number_at;
 ghost use mathlib.Core.Path.{_≡_};
-ghost use Prim.Native.Nat.{_+_};
-ghost use lib.ListN.{length, drop};
-ghost use Rattle.text.specs.Tokens.{keywords, word-of, is-name, word-token};
-ghost use Rattle.text.specs.Coded.{keyed, keyword-number, number-value, kind-of, value-of};
+ghost use mathlib.Core.Bool.{false};
+ghost use Prim.Native.Nat.{_+_, _<_};
+ghost use lib.ListN.{length, drop, getD};
+ghost use Rattle.text.specs.Tokens.{keywords, word-of, is-name, word-token, in-word, is-mark, same};
+ghost use Rattle.text.specs.Coded.{keyed, keyword-number, number-value, kind-of, value-of, FrontAt, past-spaces};
 
 // A token: a keyword or a mark by its number, 17 for a name, 18 for a number, 19 for no token and 20 for the end of the text; its first
 // byte, the first behind it, and what a number stands for.
@@ -136,4 +139,94 @@ pub fn word_at(text: &[u8], at: usize) -> Token
         end,
         value: 0,
     }
+}
+
+// A mark of one byte.
+fn mark(b: u8) -> bool
+    ensures { λ r. ⌜ r ≡ is-mark b ⌝ }
+{
+    if b == 44 {
+        return true;
+    }
+    if b == 59 {
+        return true;
+    }
+    if b == 91 {
+        return true;
+    }
+    b == 93
+}
+
+// The mark here, or no token; a word does not begin here.
+fn mark_at(text: &[u8], at: usize) -> Token
+    requires { ⌜ at < length (now text) ⌝ }
+    ensures { λ r. ⌜ (in-word (getD (now (text .entry)) at 0) ≡ false → FrontAt (now (text .entry)) at r) ⌝ }
+{
+    let b = text[at];
+    let end = at + 1;
+    if mark(b) {
+        return Token {
+            kind: b as u16,
+            start: at,
+            end,
+            value: 0,
+        };
+    }
+    if b == 124 {
+        if end < text.len() {
+            if text[end] == 124 {
+                return Token {
+                    kind: 124,
+                    start: at,
+                    end: end + 1,
+                    value: 0,
+                };
+            }
+        }
+    }
+    Token {
+        kind: 19,
+        start: at,
+        end,
+        value: 0,
+    }
+}
+
+// The first token from a place on.
+pub fn token_at(text: &[u8], at: usize) -> Token
+    ensures { λ r. ⌜ FrontAt (now (text .entry)) (past-spaces (now (text .entry)) at) r ⌝ }
+{
+    let start = past_spaces(text, at);
+    if start < text.len() {
+        if word_byte(text[start]) {
+            return word_at(text, start);
+        }
+        return mark_at(text, start);
+    }
+    Token {
+        kind: 20,
+        start,
+        end: start,
+        value: 0,
+    }
+}
+
+// The words at two places have the same bytes.
+pub fn same_word(text: &[u8], a: usize, b: usize) -> bool
+    ensures { λ r. ⌜ r ≡ same (word-of (drop a (now (text .entry)))) (word-of (drop b (now (text .entry)))) ⌝ }
+{
+    let size = word_end(text, a) - a;
+    if word_end(text, b) - b != size {
+        return false;
+    }
+    let mut i = 0;
+    while i < size {
+        let x = text[a + i];
+        let y = text[b + i];
+        if x != y {
+            return false;
+        }
+        i += 1;
+    }
+    true
 }

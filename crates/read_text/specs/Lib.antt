@@ -1,0 +1,6 @@
+pub mod Levels
+pub mod Found
+pub mod Records
+pub mod Moves
+pub mod Holding
+pub mod Heads
