@@ -268,7 +268,7 @@ impl<'a> Reader<'a> {
         Ok(tree)
     }
 
-    /// One more place is open: over 1,024 the block is too large whatever follows.
+    /// One more place is open: over 1,024 the block is too large whatever follows. Where a name comes first the place opens behind it.
     fn opens(&mut self) -> Result<(), Stop> {
         self.open += 1;
         if self.open > OPEN { Err(Stop::Open) } else { Ok(()) }
@@ -292,7 +292,7 @@ impl<'a> Reader<'a> {
             "signal" => Form::Local,
             _ => return self.wrong(),
         };
-        if form.parts() > 0 {
+        if form == Form::Suspend || form == Form::Loop {
             self.opens()?;
         }
         self.step();
@@ -308,6 +308,7 @@ impl<'a> Reader<'a> {
             Form::Exit => Ok(vec![(form, self.trap()?)]),
             Form::Present => {
                 let signal = self.signal()?;
+                self.opens()?;
                 self.take(Word::Key("then"))?;
                 let then = self.statement()?;
                 self.take(Word::Key("else"))?;
@@ -335,6 +336,7 @@ impl<'a> Reader<'a> {
         let number = if form == Form::Local { self.signals } else { 0 };
         self.declare(if form == Form::Local { Thing::Signal(number) } else { Thing::Trap })?;
         self.signals += (form == Form::Local) as usize;
+        self.opens()?;
         self.take(Word::Key("in"))?;
         let body = self.statement()?;
         self.take(Word::Key("end"))?;

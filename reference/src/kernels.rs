@@ -267,6 +267,10 @@ fn large_texts() -> Vec<(String, (u16, usize))> {
         (looped(1024, "pause"), (4, 0)),
         (format!("{begun}{} ?", "loop ".repeat(1024)), (TEXT, begun.len() + 5121)),
         (format!("{begun}{} ?", "loop ".repeat(1025)), (4, 0)),
+        // A place behind a name opens with the name, where that is in order.
+        (format!("{begun}{}trap ?", "loop ".repeat(1024)), (TEXT, begun.len() + 5 * 1024 + 5)),
+        (format!("{begun}{}trap T ?", "loop ".repeat(1024)), (4, 0)),
+        (format!("{begun}{}present S ?", "loop ".repeat(1024)), (TEXT, begun.len() + 5 * 1024 + 8)),
         (format!("{begun}{}?", "loop [[".repeat(1024)), (TEXT, begun.len() + 7 * 1024)),
         (format!("{begun}{}?", "loop [[".repeat(1025)), (4, 0)),
         (held(1024), (4, 0)),
