@@ -6,6 +6,7 @@ mod library;
 mod plain;
 mod race;
 mod shapes;
+mod small;
 mod tree;
 
 use race::{answers, measure, race, Pace};

@@ -16,17 +16,20 @@ pub struct Pace {
     pub about: Duration,
 }
 
-/// The shape's fresh state.
-fn fresh(shape: &Shape) -> [u8; STATE] {
+/// A block's fresh state.
+fn fresh(block: &[u8]) -> [u8; STATE] {
     let mut state = [0; STATE];
-    foldheron::fresh(&shape.block, &mut state).expect("a shape is a good block");
+    foldheron::fresh(block, &mut state).expect("a shape has good blocks");
     state
 }
 
-/// The answers of one run from fresh over the shape's inputs, and the state after each.
+/// The answers of one run of each block from fresh over the shape's inputs, and the state after each.
 pub fn answers(call: Call, shape: &Shape) -> Vec<(Answer, [u8; STATE])> {
-    let mut state = fresh(shape);
-    shape.inputs.iter().map(|&inputs| (call(&shape.block, &mut state, inputs), state)).collect()
+    let of_block = |block: &Vec<u8>| {
+        let mut state = fresh(block);
+        shape.inputs.iter().map(|&inputs| (call(block, &mut state, inputs), state)).collect::<Vec<_>>()
+    };
+    shape.blocks.iter().flat_map(of_block).collect()
 }
 
 /// The value is needed, as far as the compiler can see: a call whose answer nobody reads could be left out.
@@ -36,14 +39,15 @@ fn needed(answer: Answer) {
 
 /// Nanoseconds an instant, from whole runs from fresh for about so long.
 pub fn measure(call: Call, shape: &Shape, about: Duration) -> f64 {
+    let begins: Vec<_> = shape.blocks.iter().map(|block| (block, fresh(block))).collect();
     let begun = Instant::now();
-    let begin = fresh(shape);
     let mut instants = 0u32;
     while instants == 0 || begun.elapsed() < about {
-        let mut state = begin;
-        for &inputs in &shape.inputs {
-            needed(call(&shape.block, &mut state, inputs));
-            instants += 1;
+        for &(block, mut state) in &begins {
+            for &inputs in &shape.inputs {
+                needed(call(block, &mut state, inputs));
+                instants += 1;
+            }
         }
     }
     begun.elapsed().as_nanos() as f64 / f64::from(instants)

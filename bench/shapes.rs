@@ -1,18 +1,20 @@
 //! The blocks that are measured. Each is made by rule, so that every run measures the same bytes.
 
+use crate::small;
 use crate::tree::*;
 
 pub struct Shape {
     pub name: String,
     pub statements: usize,
-    pub block: Vec<u8>,
+    /// Each is run from fresh, one after the other; most shapes have one.
+    pub blocks: Vec<Vec<u8>>,
     /// The input sets that are given again and again, from fresh.
     pub inputs: Vec<u64>,
 }
 
 fn shape(name: &str, signals: Signals, inputs: Vec<u64>, root: Tree) -> Shape {
     let statements = count(&root);
-    Shape { name: name.to_string(), statements, block: bytes(signals, &root), inputs }
+    Shape { name: name.to_string(), statements, blocks: vec![bytes(signals, &root)], inputs }
 }
 
 /// Signals of the mixed blocks: 8 inputs from 0, 40 outputs from 8, locals from 48.
@@ -21,10 +23,10 @@ const OUTPUTS: u16 = 40;
 const FIRST_LOCAL: u16 = INPUTS + OUTPUTS;
 
 /// A chain of numbers that is the same on every machine.
-struct Chain(u64);
+pub struct Chain(pub u64);
 
 impl Chain {
-    fn below(&mut self, n: u16) -> u16 {
+    pub fn below(&mut self, n: u16) -> u16 {
         self.0 = self.0.wrapping_mul(6364136223846793005).wrapping_add(1442695040888963407);
         ((self.0 >> 33) % u64::from(n)) as u16
     }
@@ -110,6 +112,57 @@ pub fn one_a_round(outputs: u16) -> Shape {
     shape(&name, Signals { inputs: 0, outputs, locals: 0 }, vec![0], all_beside(parts))
 }
 
+/// Outputs that settle one a round in loops that wait, inside so many locals: each local settles late too, by one of the outputs, and keeps quiet every
+/// other part that stands in it. Beside them so many parts that do nothing.
+fn late_tree(outputs: u16, locals: u16, idle: usize) -> Tree {
+    let each = outputs / (locals + 1);
+    let (mut inside, mut last) = (None, outputs);
+    for level in (0..=locals).rev() {
+        let first = (level * each).max(1);
+        let signal = outputs + level.max(1) - 1;
+        let part = |n: u16| {
+            let emitted = present(n - 1, Tree::Emit(n), Tree::Nothing);
+            let quiet = if level > 0 && n % 2 == 0 { present(signal, Tree::Nothing, emitted) } else { emitted };
+            again(sequence(quiet, Tree::Pause))
+        };
+        let mut beside: Vec<Tree> = (first..last).map(part).collect();
+        beside.extend(inside.take());
+        if level == 0 {
+            beside.extend((0..idle).map(|_| Tree::Nothing));
+            return all_beside(beside);
+        }
+        let told = present(first - 1, Tree::Emit(signal), Tree::Nothing);
+        inside = Some(local(signal, parallel(told, all_beside(beside))));
+        last = first;
+    }
+    Tree::Nothing
+}
+
+/// 58 outputs of such a block of about 500 statements. From the second instant on every loop is resumed and starts over.
+pub fn late(locals: u16) -> Shape {
+    const OUTPUTS: u16 = 58;
+    let idle = (500 - count(&late_tree(OUTPUTS, locals, 0))) / 2;
+    let name = format!("late outputs in {} locals, resumed", locals);
+    shape(&name, Signals { inputs: 0, outputs: OUTPUTS, locals }, vec![0, 0, 0, 0], late_tree(OUTPUTS, locals, idle))
+}
+
+/// 128 pauses that are all active, beside each other under a path of 56 statements: as many pairs to be tested as there may be, each as deep as it may be.
+pub fn pauses_deep() -> Shape {
+    let mut root = all_beside((0..128).map(|_| Tree::Pause).collect());
+    for _ in 0..55 {
+        root = sequence(Tree::Nothing, root);
+    }
+    shape("128 pauses under a path of 56", Signals { inputs: 0, outputs: 1, locals: 0 }, vec![0, 0, 0, 0], again(root))
+}
+
+/// Random blocks of so many statements, as blocks of the trade are small.
+pub fn small(statements: usize) -> Shape {
+    let mut chain = Chain(statements as u64);
+    let blocks = (0..32).map(|_| small::block(&mut chain, statements)).collect();
+    let inputs = vec![0b01, 0b10, 0b11, 0b00];
+    Shape { name: "32 random blocks".to_string(), statements, blocks, inputs }
+}
+
 /// The slowest block that we know: 16 loops that may each start over, behind traps, inside 6 locals, around tests of 57 outputs that settle one a
 /// round. From its second instant on every test is visited 64 times for each of the loops, in every round.
 pub fn slowest() -> Shape {
@@ -134,6 +187,9 @@ pub fn all(worst: u16) -> Vec<Shape> {
     shapes.push(long_sequences(worst));
     shapes.push(restarts(worst));
     shapes.push(one_a_round(64));
+    shapes.extend([0, worst.min(3), worst + 2].iter().map(|&locals| late(locals)));
+    shapes.push(pauses_deep());
+    shapes.extend([10, 20, 50].iter().map(|&n| small(n)));
     shapes.extend([50, 100, 200, 500].iter().map(|&n| mixed(n, 2)));
     shapes
 }

@@ -6,6 +6,7 @@ pub enum Tree {
     Emit(u16),
     Exit(u16),
     Present(u16, Box<Tree>, Box<Tree>),
+    Suspend(u16, Box<Tree>),
     Sequence(Box<Tree>, Box<Tree>),
     Parallel(Box<Tree>, Box<Tree>),
     Loop(Box<Tree>),
@@ -29,6 +30,10 @@ pub fn parallel(one: Tree, other: Tree) -> Tree {
 
 pub fn local(s: u16, body: Tree) -> Tree {
     Local(s, Box::new(body))
+}
+
+pub fn suspend(s: u16, body: Tree) -> Tree {
+    Suspend(s, Box::new(body))
 }
 
 pub fn trap(body: Tree) -> Tree {
@@ -92,6 +97,7 @@ fn write(out: &mut Vec<u8>, tree: &Tree) {
         Emit(s) => record(out, 18, Some(*s)),
         Exit(depth) => record(out, 25, Some(*depth)),
         Present(s, _, _) => record(out, 19, Some(*s)),
+        Suspend(s, _) => record(out, 20, Some(*s)),
         Sequence(_, _) => record(out, 21, None),
         Loop(_) => record(out, 22, None),
         Parallel(_, _) => record(out, 23, None),
@@ -103,7 +109,7 @@ fn write(out: &mut Vec<u8>, tree: &Tree) {
             write(out, one);
             write(out, other);
         }
-        Loop(body) | Trap(body) | Local(_, body) => write(out, body),
+        Suspend(_, body) | Loop(body) | Trap(body) | Local(_, body) => write(out, body),
         _ => {}
     }
 }
@@ -112,7 +118,7 @@ fn write(out: &mut Vec<u8>, tree: &Tree) {
 pub fn count(tree: &Tree) -> usize {
     1 + match tree {
         Present(_, one, other) | Sequence(one, other) | Parallel(one, other) => count(one) + count(other),
-        Loop(body) | Trap(body) | Local(_, body) => count(body),
+        Suspend(_, body) | Loop(body) | Trap(body) | Local(_, body) => count(body),
         _ => 0,
     }
 }

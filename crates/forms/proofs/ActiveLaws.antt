@@ -9,7 +9,7 @@ use native.Mathlib.Numerals.{add-one}
 use native.Mathlib.Decide.{ℕ-discrete}
 use native.Mathlib.Omega.{arith}
 use lib.Dec.{T, eqb, ltb, lt→ltb, ltb→lt}
-use lib.ListN.{length, getD, set}
+use lib.ListN.{length, getD, set, replicate, getD-replicate}
 use lib.Seq.{getD-set-same, getD-set-other}
 use borrow.Author.Tests.{eq-eqb, ne-eqb}
 use Rattle.sets.specs.Numbers.{Numbers, empty, single, union, listed}
@@ -18,7 +18,7 @@ use Rattle.sets.proofs.Counts.{listed-append}
 use Rattle.rules.specs.Statements.{depth, Stmt, nothing, pause, emit, present?_then_else_, suspend_on_, _⨾_, loop, _parallel_, trap, exit, local, pauses}
 use Rattle.rules.specs.Instant.{any, active, held}
 use Rattle.tables.specs.Table.{Table, kind-of, operand-of, statements, Row, Has, Small}
-use Rattle.forms.specs.Forms.{At, Live, LiveFrom, row-pauses, pauses-in, among}
+use Rattle.forms.specs.Forms.{At, Live, LiveFrom, NoPauseFrom, row-pauses, pauses-in, among}
 use Rattle.tables.proofs.Rows.{has-row, some-statement}
 use Rattle.forms.proofs.FormLaws.{in-table, Second, second-at, Kid, Kids, kids, Flags}
 
@@ -119,9 +119,6 @@ module _ {tab : Table} {A : Numbers} {live : List Bool} {i : ℕ} (l : LiveFrom 
       pub two-active : {lq : Bool} → n < i + z → (n < 512 → lq ≡ getD live n false) → (lp || lq) ≡ active A t
       two-active j h = rw (ne-eqb k 17 no, more, is-true (ltb n (i + z)) (lt→ltb n (i + z) j)) at (flagged s g h)
 
-pub live-none : {tab : Table} {A : Numbers} {live : List Bool} → LiveFrom tab A live 512
-live-none = record { says = λ i t h a. let l = in-table (record { tree = t; there = a }) in absurd (omega arith) }
-
 pub live-more : {tab : Table} {A : Numbers} (live : List Bool) (i : ℕ) (b : Bool) → i < length live → LiveFrom tab A live (i + 1) → ((t : Stmt) → At tab i t → b ≡ active A t)
     → LiveFrom tab A (set live i b) i
 live-more {tab} {A} live i b l f g = record { says = λ j t h a. go j t h a (ℕ-discrete j i) }
@@ -178,6 +175,30 @@ pauses-found tab i (p parallel q) h = two-children tab i p q 23 (h .0 .its-kind)
 pauses-found tab i (trap p) h = one-child tab i p 24 (h .0 .its-kind) refl (pauses-found tab (i + 1) p (h .1))
 pauses-found tab i (exit d) h = row-first tab i ∙ row-other tab i 25 (h .its-kind) refl
 pauses-found tab i (local s p) h = one-child tab i p 26 (h .0 .its-kind) refl (pauses-found tab (i + 1) p (h .1))
+
+-- Rows without a pause: a statement there holds none, so that it is not active whatever the set.
+pub none-more : (kinds : List ℕ) (from i found r : ℕ) → (found ≡ 0 → (j : ℕ) → from ≤ j → j < i → getD kinds j 0 ≡ 17 → ⊥)
+    → (r ≡ 0 → getD kinds i 0 ≡ 17 → ⊥) → found + r ≡ 0 → (j : ℕ) → from ≤ j → j < i + 1 → getD kinds j 0 ≡ 17 → ⊥
+none-more kinds from i found r f g e j h k w = go (ℕ-discrete j i)
+  where
+    go : Dec (j ≡ i) → ⊥
+    go (yes d) = g (omega arith) (subst (λ (x : ℕ). getD kinds x 0 ≡ 17) d w)
+    go (no d) = f (omega arith) j h (omega arith) w
+
+no-pauses-in : (tab : Table) (i n : ℕ) → ((k : ℕ) → i ≤ k → k < i + n → getD (tab .kinds) k 0 ≡ 17 → ⊥) → pauses-in tab i n ≡ []
+unfolding pauses-in
+no-pauses-in tab i zero f = refl
+no-pauses-in tab i (suc n) f =
+    ap₂ (λ (x y : List ℕ). x ++ y) (no-pauses-in tab i n (λ k h l. f k h (omega arith)))
+    (row-other tab (i + n) (getD (tab .kinds) (i + n) 0) refl (ne-eqb (getD (tab .kinds) (i + n) 0) 17 (f (i + n) (omega arith) (omega arith))))
+
+not-active : {tab : Table} (A : Numbers) {j : ℕ} (i : ℕ) (t : Stmt) → NoPauseFrom (tab .kinds) j → j ≤ i → At tab i t → active A t ≡ false
+unfolding active any
+not-active {tab} A i t f h a =
+    ap (any A) (sym (pauses-found tab i t (a .has)) ∙ no-pauses-in tab i (statements t) (λ k m l. f .none k (omega arith) (omega (arith, a .room))))
+
+pub live-behind : {tab : Table} {A : Numbers} {j : ℕ} → NoPauseFrom (tab .kinds) j → LiveFrom tab A (replicate 512 false) j
+live-behind {A = A} f = record { says = λ i t h a. getD-replicate 512 i false false (in-table (record { tree = t; there = a })) ∙ sym (not-active A i t f h a) }
 
 -- Active pauses among them.
 in-either : (xs ys : List ℕ) (m : ℕ) → (T (listed xs m) → m < 128) → (T (listed ys m) → m < 128) → T (listed (xs ++ ys) m) → m < 128

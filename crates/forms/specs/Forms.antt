@@ -41,6 +41,10 @@ pub record Live (tab : Table) (A : Numbers) (live : List Bool) : Type 0 where
 pub record LiveFrom (tab : Table) (A : Numbers) (live : List Bool) (j : ℕ) : Type 0 where
   pub says : (i : ℕ) (t : Stmt) → j ≤ i → At tab i t → getD live i false ≡ active A t
 
+-- No pause stands in the rows from j on.
+pub record NoPauseFrom (kinds : List ℕ) (j : ℕ) : Type 0 where
+  pub none : (i : ℕ) → j ≤ i → i < 512 → getD kinds i 0 ≡ 17 → ⊥
+
 -- A task has this to do.
 pub record Does (tab : Table) (A : Numbers) (c : Task) (p : Step) : Type 0 where
   pub tree : Stmt

@@ -9,12 +9,12 @@ use words::pauses::one_pause;
 ghost use mathlib.Core.Path.{_≡_};
 ghost use mathlib.Core.Bool.{_||_};
 ghost use mathlib.Core.List.{List, [], _∷_};
-ghost use Prim.Native.Nat.{ℕ, _+_, _<_};
+ghost use Prim.Native.Nat.{ℕ, _+_, _≤_, _<_};
 ghost use Rattle.sets.specs.Words.{set-of};
 ghost use Rattle.rules.specs.Statements.{Stmt};
 ghost use Rattle.rules.specs.Instant.{active, held};
 ghost use Rattle.tables.specs.Table.{table-of};
-ghost use Rattle.forms.specs.Forms.{At, Placed, Live, LiveFrom, row-pauses, among};
+ghost use Rattle.forms.specs.Forms.{At, Placed, Live, LiveFrom, NoPauseFrom, row-pauses, among};
 
 fn or(a: bool, b: bool) -> bool
     ensures { λ r. ⌜ r ≡ (a || b) ⌝ }
@@ -50,6 +50,39 @@ fn holds_active(
     first
 }
 
+// 1 for the kind of a pause, else 0.
+fn pause_rows(kind: u16) -> u16
+    ensures { λ r. ⌜ (r ≤ 1) × (r ≡ 0 → kind ≡ 17 → ⊥) ⌝ }
+{
+    if kind == 17 { 1 } else { 0 }
+}
+
+// How many pauses stand in the rows from a place on. A count, so that the compiler may take many rows at a time.
+fn pauses_from(kinds: &[u16; 512], from: usize) -> u16
+    ensures { λ r. ⌜ (r ≡ 0 → NoPauseFrom (now (kinds .entry)) from) ⌝ }
+{
+    let mut found: u16 = 0;
+    let mut i = from;
+    while i < 512 {
+        found += pause_rows(kinds[i]);
+        i += 1;
+    }
+    found
+}
+
+// The rows that have to be gone through: those of the whole block, where no pause stands behind it, else all.
+fn rows_used(kinds: &[u16; 512], sizes: &[u16; 512]) -> usize
+    ensures { λ r. ⌜ (r ≤ 512) × NoPauseFrom (now (kinds .entry)) r ⌝ }
+{
+    let count = wide(sizes[0]);
+    if count < 512 {
+        if pauses_from(kinds, count) == 0 {
+            return count;
+        }
+    }
+    512
+}
+
 // Which statements hold an active pause: from the last row to the first, so that a statement's children are done before it.
 pub fn actives(
     kinds: &[u16; 512],
@@ -60,7 +93,7 @@ pub fn actives(
     ensures { λ r. ⌜ Live (table-of (now (kinds .entry)) (now (operands .entry)) (now (sizes .entry))) (set-of set) r ⌝ }
 {
     let mut live = [false; 512];
-    let mut i = 512;
+    let mut i = rows_used(kinds, sizes);
     while 0 < i {
         i -= 1;
         let b = holds_active(kinds, operands, sizes, &live, set, i);

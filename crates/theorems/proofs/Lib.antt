@@ -3,6 +3,7 @@ pub mod Forms
 pub mod MustInCan
 pub mod Compare
 pub mod Exact
+pub mod Remembered
 pub mod Sound
 pub mod Kept
 pub mod Runs

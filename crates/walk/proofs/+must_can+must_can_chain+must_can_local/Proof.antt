@@ -20,13 +20,13 @@ use Rattle.walk.proofs.+must_can+must_can_chain+must_can_local.Lts-must
 use Rattle.walk.proofs.must_can_local.Reads as must-can-local
 use Rattle.walk.proofs.must_can_local.Kinds as must-can-local-kinds
 use Rattle.walk.proofs.+must_can+must_can_chain+must_can_local.Lts-must_can_local as must-can-local-lts
-use Rattle.forms.proofs.form.form_of.Reads as form-of-reads
 use Rattle.walk.proofs.beside.Reads as beside-reads
 use Rattle.walk.proofs.caught.Reads as caught-reads
 use Rattle.walk.proofs.doubted.Reads as doubted-reads
 use Rattle.walk.proofs.followed.Reads as followed-reads
 use Rattle.walk.proofs.hidden.Reads as hidden-reads
 use Rattle.walk.proofs.sure.Reads as sure-reads
+use Rattle.walk.proofs.walk_form.Reads as walk-form-reads
 use Rattle.tables.proofs.kinds.code_of.Reads as code-of-reads
 use Rattle.words.proofs.given.goes_on.Reads as goes-on-reads
 use Rattle.words.proofs.events.heard_with.Reads as heard-with-reads
@@ -90,8 +90,8 @@ must-can-local-below t =
 
 abbrev must-can-claims : ℕ → must-can-lts.Claims
 must-can-claims t = (
-  form-of-reads.Asked,
-  form-of-reads.Learnt,
+  walk-form-reads.Asked,
+  walk-form-reads.Learnt,
   silent-reads.Asked,
   silent-reads.Learnt,
   sure-reads.Asked,
@@ -169,90 +169,90 @@ pub +must-can+must-can-chain+must-can-local-spec : {M : Type 1} → statement M
     (λ c. c .match2 .keys1)
     (λ c κs.
     let p = c .before .before .before .before in
-    call (under-test (p .before .before .form-of .ensures) (p .form3 .given .1) .0) (p .before .before .before .pre .0))
+    call (under-test (p .before .before .walk-form .ensures) (p .form3 .given .1) .0) (p .before .before .before .pre .0))
     (λ c. c .match2 .keys2)
     (λ c κs.
     let p = c .before .before .before .before in
-    call (under-test (p .before .before .form-of .ensures) (p .form3 .given .1) .1) (p .before .before .before .pre .0))
+    call (under-test (p .before .before .walk-form .ensures) (p .form3 .given .1) .1) (p .before .before .before .pre .0))
     (λ c. c .match2 .keys3)
     (λ c κs.
     let p = c .before .before .before .before in
-    call (under-test (p .before .before .form-of .ensures) (p .form3 .given .1) .0) (p .before .before .before .pre .0))
+    call (under-test (p .before .before .walk-form .ensures) (p .form3 .given .1) .0) (p .before .before .before .pre .0))
     (λ c κs.
     let p = c .before .before .before .before .before in
-    call (under-test (p .before .before .form-of .ensures) (p .form3 .given .1) .1) (p .before .before .before .pre .0))
+    call (under-test (p .before .before .walk-form .ensures) (p .form3 .given .1) .1) (p .before .before .before .pre .0))
     (λ c κs. tt)
     (λ c. c .match .keys7)
     (λ c κs.
     let p = c .before in
-    call (under-catch (p .before .before .form-of .ensures) (p .form4 .given .1)) (p .before .before .before .pre .0))
+    call (under-catch (p .before .before .walk-form .ensures) (p .form4 .given .1)) (p .before .before .before .pre .0))
     (λ c κs. tt)
     (λ c. c .match .keys8)
     (λ c κs.
     let p = c .before in
-    call-local (under-scope (p .before .before .form-of .ensures) (p .form5 .given .1)) (p .before .before .before .pre .0))
+    call-local (under-scope (p .before .before .walk-form .ensures) (p .form5 .given .1)) (p .before .before .before .pre .0))
     (λ c. c .match .keys9)
     (λ c κs.
     let p = c .before in
-    let u = under-chain (p .before .before .form-of .ensures) (p .form6 .given .1) in
+    let u = under-chain (p .before .before .walk-form .ensures) (p .form6 .given .1) in
     call-chain (u .0) (u .1) (p .before .before .before .pre .0))
     (λ c. c .match .keys10)
     (λ c κs.
     let p = c .before in
-    call (under-beside (p .before .before .form-of .ensures) (p .form7 .given .1) .0) (p .before .before .before .pre .0))
+    call (under-beside (p .before .before .walk-form .ensures) (p .form7 .given .1) .0) (p .before .before .before .pre .0))
     (λ c κs.
     let p = c .before .before in
-    call (under-beside (p .before .before .form-of .ensures) (p .form7 .given .1) .1) (p .before .before .before .pre .0))
+    call (under-beside (p .before .before .walk-form .ensures) (p .form7 .given .1) .1) (p .before .before .before .pre .0))
     (λ c κs. tt)
     (λ c. c .match .keys11)
     (λ c κs.
     let p = c .before in
-    call (under-same (p .before .before .form-of .ensures) (p .form8 .given .1)) (p .before .before .before .pre .0))
+    call (under-same (p .before .before .walk-form .ensures) (p .form8 .given .1)) (p .before .before .before .pre .0))
     (λ c.
     let p = c .before .before in
-    walked-as (p .before .before .form-of .ensures) (p .enum-told .given .1) (walked-sure (c .sure .ensures) (λ k. via-done (c .before .silent .ensures (lit< tt)))))
+    walked-as (p .before .before .walk-form .ensures) (p .enum-told .given .1) (walked-sure (c .sure .ensures) (λ k. via-done (c .before .silent .ensures (lit< tt)))))
     (λ c.
     let p = c .before .before in
-    walked-as (p .before .before .form-of .ensures) (p .enum-told2 .given .1) (walked-sure (c .sure2 .ensures) (λ k. via-stay (c .before .silent2 .ensures (lit< tt)))))
+    walked-as (p .before .before .walk-form .ensures) (p .enum-told2 .given .1) (walked-sure (c .sure2 .ensures) (λ k. via-stay (c .before .silent2 .ensures (lit< tt)))))
     (λ c.
     let p = c .before .before in
-    walked-as (p .before .before .form-of .ensures) (p .enum-told3 .given .1) (walked-sure (c .sure3 .ensures) (λ k. via-keep (c .before .silent3 .ensures (lit< tt)))))
+    walked-as (p .before .before .walk-form .ensures) (p .enum-told3 .given .1) (walked-sure (c .sure3 .ensures) (λ k. via-keep (c .before .silent3 .ensures (lit< tt)))))
     (λ c.
     let p = c .before .before .before in
-    walked-as (p .before .before .form-of .ensures) (p .form .given .1) (walked-sure (c .sure4 .ensures) (λ k. via-say (c .before .saying .ensures))))
+    walked-as (p .before .before .walk-form .ensures) (p .form .given .1) (walked-sure (c .sure4 .ensures) (λ k. via-say (c .before .saying .ensures))))
     (λ c.
     let p = c .before .before .before .before in
-    walked-as (p .before .before .form-of .ensures) (p .form2 .given .1)
+    walked-as (p .before .before .walk-form .ensures) (p .form2 .given .1)
     (walked-sure (c .sure5 .ensures) (λ k. via-leave (c .before .before .code-of .result .0) (c .before .before .code-of .ensures) (c .before .silent4 .ensures))))
     (λ c.
     let p = c .before .before .before .before .before in
-    walked-as (p .before .before .form-of .ensures) (p .form3 .given .1)
+    walked-as (p .before .before .walk-form .ensures) (p .form3 .given .1)
     (walked-present (told-as (c .before .enum-told4 .given .1) (c .before .before .before .status-at .ensures)) (c .must-can .ensures)))
     (λ c.
     let p = c .before .before .before .before .before in
-    walked-as (p .before .before .form-of .ensures) (p .form3 .given .1)
+    walked-as (p .before .before .walk-form .ensures) (p .form3 .given .1)
     (walked-absent (told-as (c .before .enum-told5 .given .1) (c .before .before .before .status-at .ensures)) (c .must-can2 .ensures)))
     (λ c.
     let a = c .before .before in
     let s = a .before in
     let p = s .before .before .before .before in
-    walked-as (p .before .before .form-of .ensures) (p .form3 .given .1)
+    walked-as (p .before .before .walk-form .ensures) (p .form3 .given .1)
     (walked-doubted (told-as (s .enum-told6 .given .1) (s .before .before .status-at .ensures)) (c .doubted .ensures) (a .must-can3 .ensures) (c .before .must-can4 .ensures)))
     (λ c.
     let p = c .before .before .before in
-    walked-as (p .before .before .form-of .ensures) (p .form4 .given .1) (walked-catch (c .caught .ensures) (c .before .must-can5 .ensures)))
+    walked-as (p .before .before .walk-form .ensures) (p .form4 .given .1) (walked-catch (c .caught .ensures) (c .before .must-can5 .ensures)))
     (λ c.
     let p = c .before .before in
-    walked-as (p .before .before .form-of .ensures) (p .form5 .given .1) (c .must-can-local .ensures))
+    walked-as (p .before .before .walk-form .ensures) (p .form5 .given .1) (c .must-can-local .ensures))
     (λ c.
     let p = c .before .before in
-    walked-as (p .before .before .form-of .ensures) (p .form6 .given .1) (c .must-can-chain .ensures))
+    walked-as (p .before .before .walk-form .ensures) (p .form6 .given .1) (c .must-can-chain .ensures))
     (λ c.
     let p = c .before .before .before .before in
-    walked-as (p .before .before .form-of .ensures) (p .form7 .given .1) (walked-beside (c .beside .ensures) (c .before .before .must-can6 .ensures) (c .before .must-can7 .ensures)))
+    walked-as (p .before .before .walk-form .ensures) (p .form7 .given .1) (walked-beside (c .beside .ensures) (c .before .before .must-can6 .ensures) (c .before .must-can7 .ensures)))
     (λ c.
     let p = c .before .before in
-    walked-as (p .before .before .form-of .ensures) (p .form8 .given .1) (c .must-can8 .ensures)))
+    walked-as (p .before .before .walk-form .ensures) (p .form8 .given .1) (c .must-can8 .ensures)))
     (λ t. must-can-chain-lts.spec (must-can-chain-claims t) (must-can-chain-at t) must-can-chain.Post
     (λ c κs. call-first (c .pre .1) (c .pre .0))
     (λ c κs. tt)

@@ -1,13 +1,14 @@
--- `forms::active::actives` meets its contract: the rows from i on are right; a row's children stand after it.
+-- `forms::active::actives` meets its contract: behind the rows in use nothing is active, and the rows from i on are right; a row's children stand after it.
 -- Assumes nothing.
 use Prim.Native.Nat.{_-_, _≤_}
 use mathlib.Core.Path.{_≡_, refl, _∙_}
 use native.Mathlib.Omega.{arith}
 use lib.ListN.{length, length-set}
+use borrow.Author.Needs.{needs}
 use Rattle.sets.specs.Words.{set-of}
 use Rattle.tables.specs.Table.{table-of}
 use Rattle.forms.specs.Forms.{LiveFrom}
-use Rattle.forms.proofs.ActiveLaws.{live-none, live-step, live-all, pred-less, none-left}
+use Rattle.forms.proofs.ActiveLaws.{live-behind, live-step, live-all, pred-less, none-left}
 use Rattle.forms.proofs.active.actives.Statement.{statement}
 use Rattle.forms.proofs.active.actives.Tie as tie
 
@@ -44,7 +45,8 @@ actives-spec =
     (tie.spec
     Inv-loop
     μ-loop
-    (λ c. (omega arith, refl, live-none))
+    (λ c κs. search needs)
+    (λ c. (c .rows-used .ensures .0, refl, live-behind (c .rows-used .ensures .1)))
     (λ c. c .loop-test .taken)
     (λ c κs. omega (arith, c .before .loop-test .taken, c .before .before .loop .inv .0))
     array-write-live
