@@ -212,7 +212,8 @@ uint16_t foldheron_withdraw(uint8_t *shelf, size_t shelf_size, uint16_t party, u
 /* Tells whether two blocks with as many inputs and outputs are alike: whether from fresh, in every instant under every input run, they have the same outputs
  * present and the same code, or both have a 13. Rounds are not compared. Where they are not alike, a shortest run of input sets that shows it, the first in
  * numeric order among those, is written to the front of the lent run, one byte a set, bit n for input n; the bytes behind it stay, and where the blocks are alike or the call is
- * refused, all of them do. The run has FOLDHERON_RUN_MOST bytes or more. The answer, 32 bytes:
+ * refused, all of them do. The run has FOLDHERON_RUN_MOST bytes or more.
+ * The call gives back 0 for blocks that are different too: alike is number 0 and length 0; 0 alone does not mean alike. The answer, 32 bytes:
  *   block           of 1 to 8: which block is turned down, 1 the first or 2 the second; else 0. The place is an offset in that block;
  *   length          how many sets the run has; 0 where the blocks are alike, for a run of no sets shows nothing, and where it was refused.
  * Refusals: 1 to 8 for the first block, then for the second, 23, 24 for more than 6 inputs, 12 for a shorter run, and 25 exactly where runs shorter than a shortest
@@ -233,9 +234,9 @@ uint16_t foldheron_alike(const uint8_t *first, size_t first_size, const uint8_t 
 #define FOLDHERON_AT_WRITTEN 16
 uint16_t foldheron_double_loops(const uint8_t *block, size_t block_size, uint8_t *out, size_t out_size, uint8_t *answer, size_t answer_size);
 
-/* The two-player maze of a block's first instant with these inputs present and the others absent, for blocks made of emit, parallel, and present with nothing
- * in exactly one branch, nothing standing nowhere else: whose rooms win, lose and draw. Those are the inputs and outputs that are present, absent and undecided in the final round. The answer, 40
- * bytes: number, place, and three sets, bit n for signal n, an input or an output. Refusals: 1 to 8, then 11, 26. */
+/* The two-player maze of a block's first instant with these inputs present and the others absent, for blocks made of emit, parallel, and present with 'nothing'
+ * in exactly one branch, the statement 'nothing' standing nowhere else: whose rooms win, lose and draw. Those are the inputs and outputs that are present, absent and
+ * undecided in the final round. The answer, 40 bytes: number, place, and three sets, bit n for signal n, an input or an output. Refusals: 1 to 8, then 11, 26. */
 #define FOLDHERON_MAZE_SIZE 40
 #define FOLDHERON_AT_WINNING 16
 #define FOLDHERON_AT_LOSING 24

@@ -338,7 +338,8 @@ pub fn double_loops<'a>(block: &[u8], out: &'a mut [u8]) -> Result<&'a [u8], Ref
 }
 
 /// Whose rooms win, lose and draw in the maze of the block's first instant with these inputs present and the others absent: the signals that are present, absent
-/// and undecided in the final round. For blocks made of emit, parallel, and present with nothing in exactly one branch, nothing standing nowhere else; others are refused with 26.
+/// and undecided in the final round. For blocks made of emit, parallel, and present with `nothing` in exactly one branch, the statement `nothing` standing nowhere else; others are
+/// refused with 26.
 pub fn maze(block: &[u8], inputs: u64) -> Result<Rooms, Refusal> {
     let a = raw::maze(block, inputs);
     refusal(&a)?;

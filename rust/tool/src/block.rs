@@ -16,11 +16,24 @@ use foldheron::{check, Refusal, Summary};
 use std::ffi::OsStr;
 use std::path::{Path, PathBuf};
 
+#[derive(Clone)]
 pub struct Block {
     pub path: PathBuf,
     pub bytes: Vec<u8>,
     pub summary: Summary,
     pub labels: Labels,
+}
+
+impl Block {
+    /// What it is called: its file without the ending, or its folder.
+    pub fn title(&self) -> String {
+        let folder = self.path.parent().and_then(Path::file_name);
+        let name = match self.path.file_name() {
+            Some(name) if name == "block.bin" => folder.or(Some(name)),
+            _ => self.path.file_stem(),
+        };
+        name.map_or("a block".to_string(), |name| files::printable(&name.to_string_lossy()))
+    }
 }
 
 /// Reads the block that a word names, and its names. A refused one ends the command.

@@ -65,11 +65,19 @@ fn text(block: &[u8], _: &Refusal) -> Option<Cause> {
         return cause(format!("these are bytes written as text in base 16{}", good), "turn them into bytes, as: xxd -r -p FILE > block.bin");
     }
     let words = String::from_utf8_lossy(block);
+    if is_program(&words) {
+        return cause("this is a program's text, and a block is bytes", "if it writes a block, run it, and name the file that it writes");
+    }
     let esterel = ["present ", "emit ", "pause", "loop", "await "].iter().filter(|word| words.contains(**word)).count() >= 2;
     if esterel {
-        return cause("this is a block's text, and a block is bytes", "ask the maker for the file of bytes");
+        return cause("this may be a block's text, and a block is bytes", "ask the maker for the file of bytes, or write it as docs/FORMAT.md shows");
     }
     cause("this is text, and a block is bytes", "look what it says: a page or a message may have been saved in the file's place")
+}
+
+/// Whether a line begins as one of a script, of Python, C or Rust does, and as none of a block's text.
+fn is_program(text: &str) -> bool {
+    text.starts_with("#!") || text.lines().any(|line| ["import ", "def ", "#include", "fn ", "pub fn "].iter().any(|head| line.starts_with(head)))
 }
 
 /// The bytes that digits in base 16 stand for, with spaces, line ends and what often parts them left out.
@@ -185,6 +193,7 @@ mod tests {
 
     #[test]
     fn texts() {
+        assert!(is_program("import struct\nloop = 22\n") && is_program("#!/bin/sh\n") && !is_program("loop\n  emit O; pause\nend\n"));
         assert!(is_text("emit O; größer\r\n".as_bytes()) && !is_text(&[14, 0, 1, 0]) && !is_text(&[0xFF, b'a', b'a', b'a', b'a']));
     }
 }

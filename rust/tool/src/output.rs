@@ -9,13 +9,24 @@ use std::mem::ManuallyDrop;
 const FULL: usize = 1 << 15;
 
 pub struct Out {
-    file: ManuallyDrop<File>,
+    /// None where what is printed is only kept.
+    file: Option<ManuallyDrop<File>>,
     kept: Vec<u8>,
 }
 
 impl Out {
     pub fn new() -> Out {
-        Out { file: system::output(), kept: Vec::with_capacity(2 * FULL) }
+        Out { file: Some(system::output()), kept: Vec::with_capacity(2 * FULL) }
+    }
+
+    /// What is printed here is kept, for a page that it becomes a part of.
+    pub fn keeping() -> Out {
+        Out { file: None, kept: Vec::new() }
+    }
+
+    /// What was kept.
+    pub fn kept(&self) -> String {
+        String::from_utf8_lossy(&self.kept).into_owned()
     }
 
     pub fn text(&mut self, text: &str) -> Outcome<()> {
@@ -34,7 +45,10 @@ impl Out {
 
     /// Writes what is kept.
     pub fn flush(&mut self) -> Outcome<()> {
-        let written = (&*self.file).write_all(&self.kept);
+        let written = match &self.file {
+            Some(file) => (&**file).write_all(&self.kept),
+            None => return Ok(()),
+        };
         self.kept.clear();
         written.map_err(|why| match why.kind() {
             ErrorKind::BrokenPipe => Trouble::file("standard output", &why).advise("who read it has closed it; nothing more is written"),

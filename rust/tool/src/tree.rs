@@ -19,7 +19,7 @@ pub fn rows(statements: &[Statement], labels: &Labels, mark: impl Fn(&Statement)
 }
 
 /// One statement in words.
-fn in_words(statements: &[Statement], at: usize, labels: &Labels) -> String {
+pub fn in_words(statements: &[Statement], at: usize, labels: &Labels) -> String {
     let s = &statements[at];
     let part = if s.part.is_empty() { String::new() } else { format!("{}: ", s.part) };
     let operand = match (s.kind.operand, s.operand) {

@@ -15,6 +15,7 @@ use crate::names;
 use crate::output::Out;
 use crate::refusal;
 use crate::replace::replace;
+use crate::sets::listed;
 use crate::status::Status;
 use crate::trouble::{Outcome, Trouble};
 use crate::walk::{counted, grouped};
@@ -28,7 +29,7 @@ pub static COMMAND: Command = Command {
     call: "FILE --to OUT [--over] [--json] [--names FILE | --no-names]",
     options: &[
         with("--to", "OUT", "the file to write, or -o OUT: where it is not there or empty, or has these very bytes"),
-        flag("--over", "write over a good block that is there, and over a names file beside it"),
+        flag("--over", "write over a good block that is there, and over a names file beside it that has other names"),
         flag("--json", "an object"),
         names::OPTION,
         names::NO_OPTION,
@@ -58,11 +59,9 @@ fn run(words: &Words, out: &mut Out) -> Outcome<Status> {
     // Where pump.bin is written into pump.out one names file is beside both, and stays the block's own.
     let is_carried = named(&doubled.labels) > 0 && !files::same(&beside, &names::beside(&block.path));
     block::may_be_put(&doubled.path, &doubled.bytes, over)?;
-    if is_carried {
-        may_be_written(&beside, &doubled, over)?;
-    }
+    let is_written = is_carried && may_be_named(&beside, &doubled, over)?;
     replace(&doubled.path, &doubled.bytes)?;
-    if is_carried {
+    if is_written {
         replace(&beside, names::written(&doubled.bytes, &doubled.summary, &doubled.labels).as_bytes())?;
     }
     let told = tell(&block, &doubled, is_carried, words, out).and_then(|_| out.flush());
@@ -73,6 +72,20 @@ fn run(words: &Words, out: &mut Out) -> Outcome<Status> {
 /// How many signals have a name.
 fn named(labels: &Labels) -> usize {
     (0..labels.signals()).filter(|n| labels.name(*n).is_some()).count()
+}
+
+/// Whether the names have to be written: not where the file has these very names already, with what else somebody wrote there. Other names of this block are left, but where that is asked for.
+fn may_be_named(to: &Path, doubled: &Block, over: bool) -> Outcome<bool> {
+    let text = files::first(to, names::MOST).map_or_else(|_| String::new(), |bytes| String::from_utf8_lossy(&bytes).into_owned());
+    match names::read(&text, &doubled.bytes, &doubled.summary) {
+        Ok(before) if before == doubled.labels => Ok(false),
+        Ok(before) if !over => {
+            let has = (0..before.signals()).filter(|n| before.name(*n) != doubled.labels.name(*n)).map(|n| format!("{} for {}", before.signal(n), doubled.labels.signal(n)));
+            let trouble = Trouble::call(format!("{} has other names: {}", files::shown(to), listed(&has.collect::<Vec<_>>())));
+            Err(trouble.advise("say --over to write over them, or --to another file; nothing is written"))
+        }
+        _ => may_be_written(to, doubled, over).map(|_| true),
+    }
 }
 
 /// The file to write: never the block itself, nor standard output.

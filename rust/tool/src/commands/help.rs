@@ -38,11 +38,16 @@ pub fn version(out: &mut Out) -> Outcome<Status> {
     let most = grouped(BLOCK_MOST as u64);
     out.line(&format!("foldheron {}", foldheron::VERSION))?;
     out.line(&format!("blocks of edition 1, up to {} bytes; states of {} bytes; log records of {} bytes", most, STATE, RECORD))?;
-    match LIBRARY {
-        Some(digits) => out.line(&format!("the static library that it was linked with: SHA-256 {}..", digits))?,
-        None => out.line("the static library that it was linked with was not told when it was compiled")?,
-    }
+    out.line(&library())?;
     Ok(Status::Good)
+}
+
+/// Which library is linked.
+pub fn library() -> String {
+    match LIBRARY {
+        Some(digits) => format!("the static library that it was linked with: SHA-256 {}..", digits),
+        None => "the static library that it was linked with was not told when it was compiled".to_string(),
+    }
 }
 
 pub fn all(out: &mut Out) -> Outcome<Status> {

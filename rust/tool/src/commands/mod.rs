@@ -12,6 +12,7 @@ pub mod help;
 pub mod log;
 pub mod maze;
 pub mod names;
+pub mod report;
 pub mod same;
 pub mod shelf;
 pub mod show;
@@ -29,12 +30,13 @@ pub struct Command {
     pub run: fn(&Words, &mut Out) -> Outcome<Status>,
 }
 
-pub static COMMANDS: [&Command; 13] = [
+pub static COMMANDS: [&Command; 14] = [
     &check::COMMAND,
     &show::COMMAND,
     &crate::run::COMMAND,
     &crate::why::COMMAND,
     &maze::COMMAND,
+    &report::COMMAND,
     &excerpt::COMMAND,
     &same::COMMAND,
     &copies::COMMAND,

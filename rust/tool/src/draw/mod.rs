@@ -1,8 +1,10 @@
 //! Pictures as SVG that stands alone: texts of known width, outlines, arrows, and a layout in layers. What a picture shows is its user's to say.
 
+pub mod chart;
 pub mod layers;
 pub mod style;
 pub mod text;
+pub mod timing;
 
 use std::fmt::Write;
 use text::Words;
@@ -26,6 +28,10 @@ pub struct Area {
 }
 
 impl Area {
+    pub fn of(left: f64, top: f64, width: f64, height: f64) -> Area {
+        Area { middle: at(left + width / 2.0, top + height / 2.0), width, height }
+    }
+
     pub fn left(&self) -> f64 {
         self.middle.x - self.width / 2.0
     }
@@ -71,11 +77,12 @@ pub struct Picture {
     body: String,
     width: f64,
     height: f64,
+    tones: &'static [style::Tone],
 }
 
 impl Picture {
-    pub fn new(width: f64, height: f64) -> Picture {
-        Picture { body: String::new(), width, height }
+    pub fn new(width: f64, height: f64, tones: &'static [style::Tone]) -> Picture {
+        Picture { body: String::new(), width, height, tones }
     }
 
     pub fn open(&mut self, told: Told) {
@@ -127,6 +134,38 @@ impl Picture {
         );
     }
 
+    /// The same by the left end of their foot.
+    pub fn words_from(&mut self, foot: Point, words: &Words, class: &str) {
+        self.words(at(foot.x + words.width() / 2.0, foot.y), words, class);
+    }
+
+    /// The same by the right end of their foot.
+    pub fn words_to(&mut self, foot: Point, words: &Words, class: &str) {
+        self.words(at(foot.x - words.width() / 2.0, foot.y), words, class);
+    }
+
+    /// A line that is drawn as it is told.
+    pub fn line(&mut self, d: &str, told: Told) {
+        let _ = writeln!(self.body, "<path d=\"{}\"{}/>", d, attributes(told));
+    }
+
+    pub fn rect(&mut self, area: Area, told: Told) {
+        let _ = writeln!(self.body, "<rect {}{}/>", sides(area), attributes(told));
+    }
+
+    /// Slanting lines within a box: what is unknown is told by them, whatever the colours are.
+    pub fn hatch(&mut self, area: Area) {
+        let mut d = String::new();
+        let (l, r, t, b) = (area.left(), area.right(), area.top(), area.bottom());
+        let mut sum = l + t + HATCH;
+        while sum < r + b {
+            let (from, to) = (at((sum - b).max(l), sum - (sum - b).max(l)), at((sum - t).min(r), sum - (sum - t).min(r)));
+            let _ = write!(d, "M{} {}L{} {}", n(from.x), n(from.y), n(to.x), n(to.y));
+            sum += HATCH;
+        }
+        self.line(&d, &[("class", "hatch")]);
+    }
+
     /// An arrow along a route that ends upright, up or down.
     pub fn arrow(&mut self, route: &[Point], tip: Tip, told: Told) {
         let (last, before) = match route {
@@ -149,7 +188,7 @@ impl Picture {
 
     /// A file of its own.
     pub fn file(&self, name: &str, about: &str) -> String {
-        let style = format!("<style>\n{}</style>\n", style::sheet());
+        let style = format!("<style>\n{}</style>\n", style::sheet(&[self.tones]));
         self.svg(name, about, " xmlns=\"http://www.w3.org/2000/svg\"", &style)
     }
 
@@ -163,6 +202,22 @@ impl Picture {
 }
 
 const TIP: f64 = 9.0;
+/// How far apart the lines of a hatch are, measured along a side.
+const HATCH: f64 = 6.0;
+
+/// The places of things of these widths side by side, and in a further line below where there is no room.
+pub fn side_by_side(needs: &[f64], width: f64, line: f64) -> Vec<Point> {
+    let mut next = at(0.0, 0.0);
+    let places = needs.iter().map(|need| {
+        if next.x > 0.0 && next.x + need > width {
+            next = at(0.0, next.y + line);
+        }
+        let place = next;
+        next.x += need + 22.0;
+        place
+    });
+    places.collect()
+}
 
 fn sides(area: Area) -> String {
     format!("x=\"{}\" y=\"{}\" width=\"{}\" height=\"{}\"", n(area.left()), n(area.top()), n(area.width), n(area.height))
@@ -222,7 +277,7 @@ mod tests {
 
     #[test]
     fn a_file() {
-        let mut picture = Picture::new(20.0, 10.0);
+        let mut picture = Picture::new(20.0, 10.0, &style::MAZE);
         picture.outline(Outline::Square, Area { middle: at(10.0, 5.0), width: 8.0, height: 4.0 }, &[("class", "a<b")]);
         let file = picture.file("A & B", "");
         assert!(file.contains("<title>A &amp; B</title>") && file.contains("<rect x=\"6\" y=\"3\" width=\"8\" height=\"4\" rx=\"1\" class=\"a&lt;b\"/>"));

@@ -1,6 +1,7 @@
 //! What a call of run asks for: the files, the form of what is printed, and which of them do not go together.
 
 use super::inputs::Source;
+use super::picture::MOST;
 use super::style::Tally;
 use crate::args::Words;
 use crate::block::Block;
@@ -10,6 +11,7 @@ use crate::sets;
 use crate::status::Status;
 use crate::trouble::{reason, Outcome, Trouble};
 use std::io::{Error, ErrorKind};
+use std::ops::RangeInclusive;
 use std::path::{Path, PathBuf};
 
 #[derive(Clone, Copy, PartialEq, Eq)]
@@ -18,6 +20,8 @@ pub enum Form {
     Plain,
     Csv,
     Json,
+    Svg,
+    Vcd,
 }
 
 enum Inputs {
@@ -40,20 +44,35 @@ pub struct Asked {
     pub log: Option<PathBuf>,
     /// Whether a 13 with inputs not heard is looked into.
     pub waits: bool,
+    /// The instants of a picture.
+    pub window: RangeInclusive<u64>,
 }
 
 impl Asked {
     pub fn of(words: &Words) -> Outcome<Asked> {
         let [word] = words.exactly(["the block's file"])?;
         let block = files::block_path(word);
-        let form = words.at_most_one(&["--plain", "--csv", "--json"])?.map(|name| match name {
+        let form = words.at_most_one(&["--plain", "--csv", "--json", "--svg", "--vcd"])?.map(|name| match name {
             "--plain" => Form::Plain,
             "--csv" => Form::Csv,
-            _ => Form::Json,
+            "--json" => Form::Json,
+            "--svg" => Form::Svg,
+            _ => Form::Vcd,
         });
         let inputs = inputs_of(words, &block)?;
         let path = |name: &str| words.value(name).map(PathBuf::from);
-        let asked = Asked { block, inputs, form, expect: path("--expect"), from: path("--from"), to: path("--to"), over: words.has("--over"), log: path("--log"), waits: words.has("--waits") };
+        let asked = Asked {
+            block,
+            inputs,
+            form,
+            expect: path("--expect"),
+            from: path("--from"),
+            to: path("--to"),
+            over: words.has("--over"),
+            log: path("--log"),
+            waits: words.has("--waits"),
+            window: window(words)?,
+        };
         asked.look()?;
         Ok(asked)
     }
@@ -91,6 +110,14 @@ impl Asked {
         }
     }
 
+    /// That instants are chosen of a picture alone.
+    pub fn look_at_window(&self, words: &Words) -> Outcome<()> {
+        match [FIRST, LAST].iter().find(|option| words.has(option)) {
+            Some(option) if self.form != Some(Form::Svg) => Err(Trouble::call(format!("{} goes together with --svg alone", option))),
+            _ => Ok(()),
+        }
+    }
+
     pub fn form(&self) -> Option<Form> {
         match (self.form, &self.expect) {
             (None, None) => Some(Form::Table),
@@ -102,6 +129,14 @@ impl Asked {
         match &self.inputs {
             Inputs::File(path) | Inputs::Beside(path) => Some(path),
             Inputs::Sets(_) => None,
+        }
+    }
+
+    /// Where the inputs are from, in words.
+    pub fn inputs_in_words(&self) -> String {
+        match &self.inputs {
+            Inputs::File(path) | Inputs::Beside(path) => files::shown(path),
+            Inputs::Sets(text) => files::printable(text),
         }
     }
 
@@ -164,6 +199,32 @@ impl Asked {
             Status::BlockRefused
         }
     }
+}
+
+pub const FIRST: &str = "--from-instant";
+pub const LAST: &str = "--to-instant";
+
+/// Which instants a picture has: as many as are readable, from the first on or up to the last that is asked for.
+pub fn window(words: &Words) -> Outcome<RangeInclusive<u64>> {
+    let number = |name: &str| words.value(name).map(|text| numbered(name, &text.to_string_lossy())).transpose();
+    let (first, last) = match (number(FIRST)?, number(LAST)?) {
+        (None, None) => (1, MOST),
+        (Some(first), None) => (first, first.saturating_add(MOST - 1)),
+        (None, Some(last)) => ((last + 1).saturating_sub(MOST).max(1), last),
+        (Some(first), Some(last)) => (first, last),
+    };
+    if last < first {
+        return Err(Trouble::call(format!("{} {} comes after {} {}", FIRST, first, LAST, last)));
+    }
+    if last - first >= MOST {
+        return Err(Trouble::call(format!("a picture has {} instants at most, and {} to {} are more", MOST, first, last)).advise("draw several, each with its part"));
+    }
+    Ok(first..=last)
+}
+
+fn numbered(name: &str, text: &str) -> Outcome<u64> {
+    let number = text.parse().ok().filter(|number| (1..u64::MAX).contains(number));
+    number.ok_or_else(|| Trouble::call(format!("{} wants an instant's number, from 1 on, and not '{}'", name, files::printable(text))))
 }
 
 /// Says of a missing file what is made of it: what is printed is the run program's, which says nothing.

@@ -1,14 +1,16 @@
 //! foldheron run: a block on sets of inputs, as a table for people or as lines for programs.
 
-mod asked;
+pub mod asked;
 mod csv;
 mod expect;
-mod inputs;
+pub mod inputs;
 mod json;
 pub mod keep;
+pub mod picture;
 pub mod plain;
 mod progress;
-mod style;
+pub mod style;
+mod vcd;
 mod waits;
 pub mod words;
 
@@ -28,16 +30,24 @@ use progress::Progress;
 use std::path::Path;
 use style::{Step, Style, Tally};
 
+const CALL: &str = "FILE [--inputs FILE | --in SETS] [--plain | --csv | --json | --svg | --vcd] [--expect FILE] [--waits]
+              [--from-instant N] [--to-instant N]
+              [--from STATE] [--to STATE [--over]] [--log FILE] [--names FILE | --no-names]";
+
 pub static COMMAND: Command = Command {
     name: "run",
     does: "runs a block on sets of inputs",
-    call: "FILE [--inputs FILE | --in SETS] [--plain | --csv | --json] [--expect FILE] [--waits]\n              [--from STATE] [--to STATE [--over]] [--log FILE] [--names FILE | --no-names]",
+    call: CALL,
     options: &[
         with("--inputs", "FILE", "sets of 8 bytes each, read as they come; without it, and without --in, inputs.bin beside the block"),
         with("--in", "SETS", IN_HELP),
         flag("--plain", "exactly the lines of the run program; a missing file is empty, and a line on standard error says so"),
         flag("--csv", "a line an instant with a column for each signal: 1, 0, or x for the outputs of a refused instant"),
         flag("--json", "an object an instant, on a line of its own; the outputs of a refused instant are null"),
+        flag("--svg", "a timing diagram as a picture: present is high, absent low, and what is not known a hatched box"),
+        flag("--vcd", "a value change dump, for programs that show waves: a unit of time is an instant, and x is not known"),
+        with(asked::FIRST, "N", "the first instant of a picture, which has 240 at most; without it the picture begins with the first, or\nends with --to-instant"),
+        with(asked::LAST, "N", "the last instant of a picture"),
         with("--expect", "FILE", "compare with FILE, which has the lines of --plain, and say which is the first that differs;\nrefused instants that are expected count as good"),
         flag("--waits", "of a 13 with inputs not heard, which input, or which two, would settle it: found by trying every status\nof each; in the table and with --json"),
         with("--from", "STATE", "go on from the state in STATE; without it the run begins afresh"),
@@ -51,7 +61,7 @@ pub static COMMAND: Command = Command {
     run,
 };
 
-const IN_HELP: &str = "the sets in words, as \"DEMAND; DEMAND FAULT; -\": semicolons, or ends of lines, between sets,
+pub const IN_HELP: &str = "the sets in words, as \"DEMAND; DEMAND FAULT; -\": semicolons, or ends of lines, between sets,
 spaces or commas between inputs, - for a set without an input; an input is called by its name, or by
 its number as i0; ?NAME is an input that is not heard, and ? a set of which no input is heard; without
 a ? what is not named is absent";
@@ -63,6 +73,9 @@ columns of --csv too, and --json lists them as unheard. The sets of a file have 
 have may be named by its number, as i9: the instant is then refused with 11. As not heard, ?i9, it cannot be told to the library,
 which is given the inputs that are heard, so that is a wrong call.
 A refused instant has no outputs: x stands in their place, and the state is as it was, so the next instant goes on from there.
+
+A picture has 240 instants at most, in bands one below the other: the first ones, or those that --from-instant and --to-instant name; above them it says
+which of how many they are. All sets are run in any case. Of a 13 the outputs that are known all the same are dashed; none of them is to be switched.
 
 What is saved: the state is written beside STATE, flushed to the disk and put in its place in one step, after the last
 instant; records are flushed before that. Killed at any moment, STATE holds the old state or the new one, whole. Killed between
@@ -78,6 +91,7 @@ for each block.
 
 fn run(words: &Words, out: &mut Out) -> Outcome<Status> {
     let asked = Asked::of(words)?;
+    asked.look_at_window(words)?;
     let bytes = asked.block_bytes()?;
     if let Err(why) = foldheron::check(&bytes) {
         return refused(&asked, &Report::of(&asked.block, &bytes, why), out);

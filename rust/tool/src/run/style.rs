@@ -1,7 +1,7 @@
 //! The forms in which a run is printed, and what they all are told.
 
 use super::asked::{Asked, Form};
-use super::{csv::Csv, expect::Expect, json::Json, plain::Plain, waits::Waits, words::Table};
+use super::{csv::Csv, expect::Expect, json::Json, picture::Picture, plain::Plain, vcd::Vcd, waits::Waits, words::Table};
 use crate::block::{Block, Report};
 use crate::layout::SET;
 use crate::output::Out;
@@ -79,6 +79,8 @@ pub fn of<'a>(asked: &Asked, block: &'a Block) -> Outcome<Box<dyn Style + 'a>> {
         Form::Plain => Box::new(Plain),
         Form::Csv => Box::new(Csv { labels: &block.labels }),
         Form::Json => Box::new(Json { labels: Some(&block.labels) }),
+        Form::Svg => Box::new(Picture::new(block, asked.window.clone())),
+        Form::Vcd => Box::new(Vcd::new(block)),
     });
     with_comparison(asked, form, Some(&block.labels)).map(|style| style.unwrap_or_else(|| Box::new(Plain)))
 }

@@ -91,39 +91,6 @@ impl<'a> Table<'a> {
             self.asking = Some(how_to_ask(step.number, self.path, self.sets.as_deref(), self.labels));
         }
     }
-
-    /// Why an instant was refused, in a line under its outputs.
-    fn why(&self, step: &Step) -> String {
-        let labels = self.labels;
-        match &step.answer {
-            Instant::NotConstructive(doubt) => self.in_doubt(doubt, step.inputs.unheard != 0),
-            Instant::Clash(first, second) => format!("pauses {} and {} cannot be active together", first, second),
-            Instant::Refused(why) if why.number == 11 => {
-                let more = sentence(step.inputs.present & !labels.all_inputs(), |n| labels.input(n));
-                format!("the block has no input {}: it has {}", more, counted(labels.inputs().len() as u64, "input"))
-            }
-            other => refusal::meaning(other.number()),
-        }
-    }
-
-    fn in_doubt(&self, doubt: &Doubt, has_unheard: bool) -> String {
-        let name = |n: usize| self.labels.output(n);
-        let undecided = self.labels.all_outputs() & !(doubt.present | doubt.absent);
-        let cause = match has_unheard {
-            true => "a signal waits for an input that is not heard or for itself, perhaps by way of others",
-            false => "a signal waits for itself, perhaps by way of others",
-        };
-        let waits = match undecided {
-            0 if has_unheard => "a test waits for an input that is not heard, or a local signal for itself, perhaps by way of others".to_string(),
-            0 => "a local signal waits for itself, perhaps by way of others".to_string(),
-            one if one.is_power_of_two() => format!("{} is undecided: {}", sentence(one, name), cause),
-            more => format!("{} are undecided: {}", sentence(more, name), cause),
-        };
-        match doubt.present {
-            0 => waits,
-            known => format!("{}; known present, and not to be switched: {}", waits, sentence(known, name)),
-        }
-    }
 }
 
 impl Style for Table<'_> {
@@ -142,7 +109,7 @@ impl Style for Table<'_> {
             refused => {
                 let title = format!("{}  refused with {}", UNKNOWN, refusal::title(refused.number()));
                 out.line(&self.table.row(&[&number, &inputs, &title]))?;
-                out.line(&format!("{}   {}", self.table.indent(2), self.why(step)))?;
+                out.line(&format!("{}   {}", self.table.indent(2), why(labels, step.inputs, &step.answer)))?;
                 return match &step.waits {
                     Some(waits) => out.line(&format!("{}   {}", self.table.indent(2), waits.in_words(labels))),
                     None => Ok(()),
@@ -156,14 +123,7 @@ impl Style for Table<'_> {
     }
 
     fn end(&mut self, tally: &Tally, out: &mut Out) -> Outcome<()> {
-        let refused: Vec<String> = tally.refused.iter().map(|(number, times)| format!("{} refused with {}", grouped(*times), refusal::title(*number))).collect();
-        let answered = tally.instants - tally.refusals();
-        let ends = match refused.as_slice() {
-            [] if tally.instants == 0 => "no instant was run".to_string(),
-            [] => format!("{}, all answered", counted(tally.instants, "instant")),
-            all => format!("{}: {} answered, {}", counted(tally.instants, "instant"), grouped(answered), all.join(", ")),
-        };
-        out.line(&format!("{}; {}", ends, after(&tally.state)))?;
+        out.line(&ends(tally))?;
         match (tally.instants > 0, tally.has_unheard) {
             (true, true) => out.line("+ came, - went, ? not heard, x no outputs")?,
             (true, false) => out.line("+ came, - went, x no outputs")?,
@@ -184,6 +144,50 @@ impl Style for Table<'_> {
     fn refused(&mut self, _report: &Report, _out: &mut Out) -> Outcome<()> {
         Ok(())
     }
+}
+
+/// Why an instant was refused, in a line.
+pub fn why(labels: &Labels, given: Given, answer: &Instant) -> String {
+    match answer {
+        Instant::NotConstructive(doubt) => in_doubt(labels, doubt, given.unheard != 0),
+        Instant::Clash(first, second) => format!("pauses {} and {} cannot be active together", first, second),
+        Instant::Refused(why) if why.number == 11 => {
+            let more = sentence(given.present & !labels.all_inputs(), |n| labels.input(n));
+            format!("the block has no input {}: it has {}", more, counted(labels.inputs().len() as u64, "input"))
+        }
+        other => refusal::meaning(other.number()),
+    }
+}
+
+fn in_doubt(labels: &Labels, doubt: &Doubt, has_unheard: bool) -> String {
+    let name = |n: usize| labels.output(n);
+    let undecided = labels.all_outputs() & !(doubt.present | doubt.absent);
+    let cause = match has_unheard {
+        true => "a signal waits for an input that is not heard or for itself, perhaps by way of others",
+        false => "a signal waits for itself, perhaps by way of others",
+    };
+    let waits = match undecided {
+        0 if has_unheard => "a test waits for an input that is not heard, or a local signal for itself, perhaps by way of others".to_string(),
+        0 => "a local signal waits for itself, perhaps by way of others".to_string(),
+        one if one.is_power_of_two() => format!("{} is undecided: {}", sentence(one, name), cause),
+        more => format!("{} are undecided: {}", sentence(more, name), cause),
+    };
+    match doubt.present {
+        0 => waits,
+        known => format!("{}; known present, and not to be switched: {}", waits, sentence(known, name)),
+    }
+}
+
+/// What a run came to: how many instants were answered and refused, and the state in which it leaves the block.
+pub fn ends(tally: &Tally) -> String {
+    let refused: Vec<String> = tally.refused.iter().map(|(number, times)| format!("{} refused with {}", grouped(*times), refusal::title(*number))).collect();
+    let answered = tally.instants - tally.refusals();
+    let ends = match refused.as_slice() {
+        [] if tally.instants == 0 => "no instant was run".to_string(),
+        [] => format!("{}, all answered", counted(tally.instants, "instant")),
+        all => format!("{}: {} answered, {}", counted(tally.instants, "instant"), grouped(answered), all.join(", ")),
+    };
+    format!("{}; {}", ends, after(&tally.state))
 }
 
 /// The state in which a run leaves the block.

@@ -4,6 +4,7 @@
 mod dot;
 mod meaning;
 mod object;
+mod picture;
 mod reach;
 mod route;
 mod so;
@@ -31,13 +32,14 @@ use std::path::Path;
 pub static COMMAND: Command = Command {
     name: "why",
     does: "names the statement that made an instant what it was",
-    call: "FILE --in SETS [--from STATE] [--present NAME | --not-executed N] [--dot | --json]\n              [--names FILE | --no-names]",
+    call: "FILE --in SETS [--from STATE] [--present NAME | --not-executed N] [--dot | --svg | --json]\n              [--names FILE | --no-names]",
     options: &[
         with("--in", "SETS", "the sets of inputs in words, as run takes them; asked about is the instant of the last, after those before it"),
         with("--from", "STATE", "the state in STATE comes before the first of them; without it the block begins afresh"),
         with("--present", "NAME", "why this output is present"),
         with("--not-executed", "N", "why the emit that is statement N was not executed"),
         flag("--dot", "what a 13 waits for, as a graph for the program dot"),
+        flag("--svg", "the way round, or the chain to an input that is not heard, as a picture"),
         flag("--json", "an object"),
         names::OPTION,
         names::NO_OPTION,
@@ -85,7 +87,7 @@ pub struct Question {
 
 fn run(words: &Words, out: &mut Out) -> Outcome<Status> {
     let [word] = words.exactly(["the block's file"])?;
-    let form = words.at_most_one(&["--dot", "--json"])?;
+    let form = words.at_most_one(&["--dot", "--svg", "--json"])?;
     words.at_most_one(&["--present", "--not-executed"])?;
     let text = words.value("--in").ok_or_else(|| Trouble::call("--in is missing: the inputs of the instant, or of several, the last of which is asked about"))?;
     let from = words.value("--from").map(Path::new);
@@ -97,8 +99,8 @@ fn run(words: &Words, out: &mut Out) -> Outcome<Status> {
         None => return Ok(Status::BlockRefused),
     };
     let asked = asked(words, &block.labels)?;
-    if form == Some("--dot") && asked != Asked::Refused {
-        return Err(Trouble::call("--dot draws what a 13 waits for: it does not go together with --present or --not-executed"));
+    if let (Some(drawn @ ("--dot" | "--svg")), true) = (form, asked != Asked::Refused) {
+        return Err(Trouble::call(format!("{} draws what a 13 waits for: it does not go together with --present or --not-executed", drawn)));
     }
     let sets = sets::parse(&text.to_string_lossy(), &block.labels)?;
     let state = match keep::begins(from, &block)? {
@@ -111,6 +113,21 @@ fn run(words: &Words, out: &mut Out) -> Outcome<Status> {
         (refused, Some("--json")) => object::refused(&question, refused.number(), out),
         (refused, _) => Err(so::instead(&question, refused.number())),
     }
+}
+
+/// Why an instant that began in this state is refused with 13, in lines, and what waits for what as a picture for a page.
+pub fn explained(block: &Block, state: &[u8], number: u64, given: Given, out: &mut Out) -> Outcome<Option<String>> {
+    let mut question = Question::of(block.clone(), state.to_vec(), &[given], Asked::Refused);
+    question.number = number as usize;
+    let named = match question.reason() {
+        Reason::Statement(n) => n,
+        _ => return Ok(None),
+    };
+    let meaning = question.meaning();
+    let reach = question.reach(&meaning);
+    let waiting = Waiting::of(&reach, named, question.block.summary.inputs);
+    words::told(&question, named, &reach, waiting.as_ref(), out)?;
+    Ok(waiting.map(|waiting| picture::element(&question, &waiting)))
 }
 
 /// What is asked about.
@@ -184,6 +201,7 @@ impl Question {
         let waiting = Waiting::of(&reach, n, self.block.summary.inputs).filter(|_| self.asked == Asked::Refused);
         match form {
             Some("--json") => object::told(self, n, waiting.as_ref(), out),
+            Some("--svg") => picture::told(self, waiting.as_ref(), out),
             Some(_) => dot::told(self, waiting.as_ref(), out),
             None => words::told(self, n, &reach, waiting.as_ref(), out),
         }

@@ -129,11 +129,8 @@ fn because(question: &Question, reach: &Reach, n: usize) -> String {
 fn waits(question: &Question, waiting: &Waiting, out: &mut Out) -> Outcome<()> {
     let (cycle, chain) = (waiting.cycle(), waiting.chain());
     let found = "followed in the block, not proved";
-    let name = question.signal(waiting.reach.tests[waiting.named].statement);
-    if let Some(way) = &cycle {
-        let is_round = way.last().map_or(false, |last| last.to == waiting.named);
-        let title = if is_round { format!("how {} waits for itself", name) } else { format!("how {} waits for what waits for itself", name) };
-        out.line(&format!("{} ({}):", title, found))?;
+    if let Some((way, title)) = cycle.as_ref().zip(title(question, waiting, cycle.as_deref())) {
+        out.line(&format!("how {} ({}):", title, found))?;
         arrows(question, waiting, way, out)?;
     }
     if let Some(way) = &chain {
@@ -150,6 +147,13 @@ fn waits(question: &Question, waiting: &Waiting, out: &mut Out) -> Outcome<()> {
         (Some(_), None) => out.line(&format!("what to do: {}", refusal::advice(13))),
         _ => out.line("what to do: run it again when more is heard; foldheron run --waits tries which input would settle it"),
     }
+}
+
+/// What the way round says of the named test's signal.
+pub fn title(question: &Question, waiting: &Waiting, cycle: Option<&[Arrow]>) -> Option<String> {
+    let name = question.signal(waiting.reach.tests[waiting.named].statement);
+    let is_round = cycle?.last().map_or(false, |last| last.to == waiting.named);
+    Some(if is_round { format!("{} waits for itself", name) } else { format!("{} waits for what waits for itself", name) })
 }
 
 /// The undecided tests that the named one does not wait for, a few of them.

@@ -1,7 +1,7 @@
 //! The rooms and corridors of a maze, walked by the library's calls from the signals' rooms; and who wins in each, reckoned backwards from the rooms
 //! without corridors. Of the signals' rooms the library says it, and the two have to agree.
 
-use crate::labels::Labels;
+use super::rooms::id;
 use foldheron::{corridor, Corridor, Refusal, Room, Rooms};
 use std::collections::HashMap;
 
@@ -116,10 +116,17 @@ impl Board {
         }
     }
 
-    /// Leaves out every room to which no walk from this one leads.
-    pub fn keep_from(&mut self, start: usize) {
+    /// The move that is marked: the shortest way to win, and of a drawn room the corridor that keeps the draw where it is the only one.
+    pub fn marked(&self, n: usize) -> Option<usize> {
+        let place = &self.places[n];
+        let keeps = place.ways.iter().filter(|way| self.end(way.to) == End::Draws).count();
+        place.best.filter(|_| place.end == End::Wins || place.end == End::Draws && keeps == 1)
+    }
+
+    /// Leaves out every room to which no walk from these leads.
+    pub fn keep_from(&mut self, starts: impl IntoIterator<Item = usize>) {
         let mut kept = vec![false; self.places.len()];
-        let mut due = vec![start];
+        let mut due: Vec<usize> = starts.into_iter().collect();
         while let Some(n) = due.pop() {
             if !std::mem::replace(&mut kept[n], true) {
                 due.extend(self.places[n].ways.iter().map(|way| way.to));
@@ -134,6 +141,22 @@ impl Board {
             let ways = place.ways.iter().map(|way| Way { to: numbers[way.to], ..*way }).collect();
             self.places.push(Place { ways, ..place });
         }
+    }
+
+    /// Leaves out the corridors to rooms that are idle, and what only they lead to from these rooms; answers the rooms that are left out. A corridor to an idle
+    /// gate loses, so nobody else wins than before, only sooner; moves are counted anew.
+    pub fn leave_out(&mut self, starts: &[usize], is_idle: impl Fn(Room) -> bool) -> Vec<Room> {
+        let before: Vec<(Room, End)> = self.places.iter().map(|place| (place.room, place.end)).collect();
+        for place in &mut self.places {
+            place.ways.retain(|way| !is_idle(before[way.to].0));
+            (place.end, place.moves, place.best) = (End::Draws, 0, None);
+        }
+        self.keep_from(starts.iter().copied());
+        self.solve();
+        let (kept, left): (Vec<_>, Vec<_>) = before.into_iter().partition(|(room, _)| self.find(*room).is_some());
+        let now = self.places.iter().map(|place| (place.room, place.end));
+        assert!(now.eq(kept.into_iter()), "who wins depends on a room that is left out");
+        left.into_iter().map(|(room, _)| room).collect()
     }
 
     pub fn corridors(&self) -> usize {
@@ -171,24 +194,4 @@ fn walked(block: &[u8], inputs: u64, signals: usize) -> Result<Board, Refusal> {
         places.push(Place { room, ways, end: End::Draws, moves: 0, best: None });
     }
     Ok(Board { places })
-}
-
-/// A room in words.
-pub fn name(room: Room, labels: &Labels) -> String {
-    match room {
-        Room::Signal(s) => labels.signal(s),
-        Room::Part(i, a) => format!("part {} of {}", i, labels.signal(a)),
-        Room::Gate(i, a) => format!("gate {} of {}", i, labels.signal(a)),
-        Room::Dungeon => "dungeon".to_string(),
-    }
-}
-
-/// A room as programs have it.
-pub fn id(room: Room) -> String {
-    match room {
-        Room::Signal(s) => format!("s{}", s),
-        Room::Part(i, a) => format!("p{}-{}", i, a),
-        Room::Gate(i, a) => format!("g{}-{}", i, a),
-        Room::Dungeon => "dungeon".to_string(),
-    }
 }

@@ -16,8 +16,8 @@ pub fn told(asked: &Asked, out: &mut Out) -> Outcome<()> {
             (_, End::Draws) => "shape=hexagon",
         };
         let wide = if matches!(place.room, Room::Signal(_)) { ", penwidth=2" } else { "" };
-        let test = asked.test(place.room).map_or(String::new(), |(signal, branch)| format!("\\npresent {} {} ..", signal, branch));
-        out.line(&format!("  \"{}\" [{}{}, label=\"{}{}\\n{}\"];", asked.id(n), outline, wide, asked.name(n), test, place.end.word()))?;
+        let sees = asked.sees(place.room).map_or(String::new(), |signal| format!("\\nfor {}", signal));
+        out.line(&format!("  \"{}\" [{}{}, label=\"{}{}\\n{}\"];", asked.id(n), outline, wide, asked.what(place.room), sees, place.end.word()))?;
     }
     for (n, place) in asked.board.places.iter().enumerate() {
         for way in &place.ways {

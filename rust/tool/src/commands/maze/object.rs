@@ -2,6 +2,7 @@
 
 use super::board::{End, Place};
 use super::play::{self, Who};
+use super::rooms::id;
 use super::Asked;
 use crate::block::Block;
 use crate::files;
@@ -30,6 +31,10 @@ pub fn whole(asked: &Asked) -> String {
     };
     let such = |end: End| asked.board.places.iter().filter(|place| place.end == end).filter_map(signal).collect::<Vec<_>>();
     let object = head(&asked.block, asked.inputs, 0).texts("winning", &such(End::Wins)).texts("losing", &such(End::Loses)).texts("drawn", &such(End::Draws));
+    let object = match &asked.left {
+        Some(left) => object.texts("left_out", &left.iter().map(|room| id(*room)).collect::<Vec<_>>()),
+        None => object,
+    };
     object.objects("rooms", (0..asked.board.places.len()).map(|n| room(asked, n)).collect()).done()
 }
 

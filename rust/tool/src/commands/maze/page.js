@@ -54,8 +54,13 @@
     if (!way) { told = 'There is no move.'; show(); return; }
     shown = room.best;
     told = 'Corridor ' + (room.best + 1) + ', to ' + called(way.to) + ': ' +
-      (room.end === 'wins' ? 'it wins.' : room.end === 'draws' ? 'it keeps the draw.' : 'every corridor loses, this one takes longest.');
+      (room.end === 'wins' ? 'it wins.' : room.end === 'draws' ? keeps(room) : 'every corridor loses, this one takes longest.');
     show();
+  }
+
+  function keeps(room) {
+    var count = room.corridors.filter(function (way) { return rooms[way.to].end === 'draws'; }).length;
+    return count === 1 ? 'it alone keeps the draw.' : 'it keeps the draw, and so ' + (count === 2 ? 'does another.' : 'do others.');
   }
 
   function turn() {
@@ -92,9 +97,9 @@
   }
 
   function token(at) {
-    var mark = picture.querySelector('.token'), box = drawn[at.room].querySelector('.outline').getBBox();
-    mark.setAttribute('transform', 'translate(' + (box.x + box.width - 2) + ' ' + (box.y + 2) + ')');
-    mark.querySelector('text').textContent = at.who === 'player' ? 'P' : 'O';
+    var box = drawn[at.room].querySelector('.outline').getBBox();
+    piece.setAttribute('transform', 'translate(' + (box.x + box.width - 2) + ' ' + (box.y + 2) + ')');
+    piece.querySelector('text').textContent = at.who === 'player' ? 'P' : 'O';
   }
 
   function show() {
@@ -114,11 +119,43 @@
         way.classList.toggle('move', id === at.room && k === shown);
       });
     });
+    mark(at);
     token(at);
-    if (large) drawn[at.room].scrollIntoView({ block: 'center', inline: 'center' });
+    into(board, drawn[at.room]);
     clearTimeout(waiting);
     if (by('alone').checked && at.who === 'opponent' && rooms[at.room].corridors.length) waiting = setTimeout(function () { take(rooms[at.room].best); }, 900);
   }
+
+  // In the block's text: the statement of the room, or the emits of a signal.
+  function mark(at) {
+    var statement = String(rooms[at.room].statement), here = null;
+    document.querySelectorAll('.line').forEach(function (line) {
+      var is = line.getAttribute('data-statement') === statement;
+      line.classList.toggle('here', is);
+      line.classList.toggle('emits', line.getAttribute('data-emits') === at.room);
+      if (is || !here && line.classList.contains('emits')) here = line;
+    });
+    if (here) into(by('program').parentNode, here);
+  }
+
+  // Scrolls a box so that what is in it stands in the middle, where it can.
+  function into(box, part) {
+    var outer = box.getBoundingClientRect(), inner = part.getBoundingClientRect();
+    box.scrollBy(inner.left + inner.width / 2 - outer.left - outer.width / 2, inner.top + inner.height / 2 - outer.top - outer.height / 2);
+  }
+
+  // By default the maze is as wide as its place, within reason; the whole of it may be much smaller.
+  function size(next) {
+    scale = Math.min(6, Math.max(0.2, next));
+    picture.style.width = natural.width * scale + 'px';
+    picture.style.height = natural.height * scale + 'px';
+    if (past.length) into(board, drawn[now().room]);
+  }
+
+  function wide() { size(Math.min(2.2, Math.max(1, (board.clientWidth - 2) / natural.width))); }
+  function whole() { size(Math.min(board.clientWidth / natural.width, board.clientHeight / natural.height)); }
+  function larger() { size(scale * 1.2); }
+  function smaller() { size(scale / 1.2); }
 
   // A plain box behind each outline, for when it is hidden who wins.
   function prepare(group) {
@@ -153,25 +190,28 @@
     root.setAttribute('data-light', isLight ? 'off' : 'on');
   }
 
-  // A picture that could not be read on one screen keeps its size, and is scrolled.
-  var natural = picture.viewBox.baseVal, large = natural.width > 1900 || natural.height > 1900;
-  if (large) picture.style.cssText = 'width:' + natural.width + 'px;max-height:none';
-  if (large) picture.parentNode.style.maxHeight = 'calc(100vh - 110px)';
+  var board = by('board'), natural = picture.viewBox.baseVal, scale = 1;
+  // Where there is little height, the maze has it.
+  if (window.innerHeight < 760) by('about').removeAttribute('open');
+  wide();
   picture.removeAttribute('role');
   picture.querySelectorAll('.room').forEach(prepare);
   picture.querySelectorAll('.corridor').forEach(function (way) {
     var from = way.getAttribute('data-from');
     (corridors[from] = corridors[from] || []).push(way);
   });
-  var mark = document.createElementNS(space, 'g');
-  mark.setAttribute('class', 'token');
-  mark.innerHTML = '<circle r="11"/><text y="4.5" font-size="13" text-anchor="middle"></text>';
-  picture.appendChild(mark);
+  var piece = document.createElementNS(space, 'g');
+  piece.setAttribute('class', 'token');
+  piece.innerHTML = '<circle r="11"/><text y="4.5" font-size="13" text-anchor="middle"></text>';
+  picture.appendChild(piece);
 
   by('who').addEventListener('click', who);
   by('hint').addEventListener('click', hint);
   by('back').addEventListener('click', back);
   by('again').addEventListener('click', again);
+  by('smaller').addEventListener('click', smaller);
+  by('larger').addEventListener('click', larger);
+  by('fit').addEventListener('click', whole);
   by('alone').addEventListener('change', show);
   by('hide').addEventListener('change', function () { document.body.classList.toggle('hides', this.checked); name(); });
   by('light').addEventListener('click', light);
@@ -179,7 +219,7 @@
   document.addEventListener('keydown', function (event) {
     if (event.ctrlKey || event.metaKey || event.altKey) return;
     if (event.key >= '1' && event.key <= '9') take(Number(event.key) - 1);
-    var keys = { w: who, m: hint, b: back }, act = keys[event.key.toLowerCase()];
+    var keys = { w: who, m: hint, b: back, '+': larger, '=': larger, '-': smaller, 0: whole }, act = keys[event.key.toLowerCase()];
     if (act) act();
   });
 

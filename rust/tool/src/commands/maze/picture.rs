@@ -5,8 +5,7 @@ use super::words::size;
 use super::Asked;
 use crate::draw::layers::{lay, Laid};
 use crate::draw::text::Words;
-use crate::draw::{at, Area, Outline, Picture, Point, Tip, POINT};
-use crate::files;
+use crate::draw::{at, side_by_side, style, Area, Outline, Picture, Point, Tip, POINT};
 use foldheron::Room;
 
 const MARGIN: f64 = 20.0;
@@ -24,19 +23,8 @@ pub fn element(asked: &Asked) -> String {
     drawn(asked, &[]).element(&heading(asked), &about(asked))
 }
 
-/// What the block is called: its file without the ending, or its folder.
-pub fn title(asked: &Asked) -> String {
-    let path = &asked.block.path;
-    let folder = path.parent().and_then(|folder| folder.file_name());
-    let name = match path.file_name() {
-        Some(name) if name == "block.bin" => folder.or(Some(name)),
-        _ => path.file_stem(),
-    };
-    name.map_or("a block".to_string(), |name| files::printable(&name.to_string_lossy()))
-}
-
 pub fn heading(asked: &Asked) -> String {
-    format!("The maze of {}, inputs {}", title(asked), asked.given())
+    format!("The maze of {}, {}", asked.block.title(), asked.given())
 }
 
 fn about(asked: &Asked) -> String {
@@ -55,7 +43,7 @@ fn drawn(asked: &Asked, heads: &[Words]) -> Picture {
     let top = MARGIN + 26.0 * heads.len() as f64;
     let key = key(inner);
     let foot = top + laid.height + 30.0;
-    let mut picture = Picture::new(inner + 2.0 * MARGIN, foot + key.last().map_or(0.0, |item| item.at.y + 34.0) + MARGIN);
+    let mut picture = Picture::new(inner + 2.0 * MARGIN, foot + key.last().map_or(0.0, |item| item.at.y + 34.0) + MARGIN, &style::MAZE);
     for (k, line) in heads.iter().enumerate() {
         picture.words(at(MARGIN + line.width() / 2.0, MARGIN + 14.0 + 20.0 * k as f64), line, if k == 0 { "head" } else { "faint" });
     }
@@ -69,13 +57,12 @@ fn drawn(asked: &Asked, heads: &[Words]) -> Picture {
 /// The lines in a room.
 fn label(asked: &Asked, n: usize) -> Vec<Words> {
     let place = &asked.board.places[n];
-    let (name, end) = (asked.name(n), place.end.word());
-    match (place.room, asked.test(place.room)) {
-        (Room::Signal(_), _) => vec![Words::bold(name, 14.0), Words::new(format!("{}: {}", end, place.end.status()), 11.0)],
-        (Room::Dungeon, _) => vec![Words::bold(name, 13.0), Words::new("no way out", 11.0)],
-        (_, Some((signal, branch))) => vec![Words::new(format!("present {} {}", signal, branch), 12.0), Words::new(name, 11.0), Words::new(end, 11.0)],
-        _ if place.ways.is_empty() => vec![Words::new(name, 12.0), Words::new(format!("{}: no way out", end), 11.0)],
-        _ => vec![Words::new(name, 12.0), Words::new(end, 11.0)],
+    let (what, end) = (asked.what(place.room), place.end.word());
+    let lost = if place.ways.is_empty() { ": no way out" } else { "" };
+    match (place.room, asked.sees(place.room)) {
+        (Room::Dungeon, _) => vec![Words::bold(what, 13.0), Words::new("no way out", 11.0)],
+        (_, Some(signal)) => vec![Words::new(what, 12.0), Words::new(format!("for {}", signal), 11.0), Words::new(format!("{}{}", end, lost), 11.0)],
+        _ => vec![Words::bold(what, 14.0), Words::new(format!("{}: {}", end, place.end.status()), 11.0)],
     }
 }
 
@@ -132,7 +119,7 @@ fn corridors(asked: &Asked, laid: &Laid, corner: Point, picture: &mut Picture) {
     for (from, place) in asked.board.places.iter().enumerate() {
         for (k, way) in place.ways.iter().enumerate() {
             let route: Vec<Point> = routes.next().map_or(Vec::new(), |route| route.iter().map(|p| at(corner.x + p.x, corner.y + p.y)).collect());
-            let best = if place.end == End::Wins && place.best == Some(k) { " best" } else { "" };
+            let best = if asked.board.marked(from) == Some(k) { " best" } else { "" };
             let (sort, tip) = if way.visible { ("visible", Tip::Filled) } else { ("secret", Tip::Hollow) };
             let told = [("class", format!("corridor {}{}", sort, best)), ("data-from", asked.id(from)), ("data-to", asked.id(way.to))];
             picture.arrow(&route, tip, &[(told[0].0, &told[0].1), (told[1].0, &told[1].1), (told[2].0, &told[2].1)]);
@@ -160,7 +147,7 @@ const KEY: [(Sample, &str); 7] = [
     (Sample::Room(Outline::Barred, "dungeon"), "no corridor: lost"),
     (Sample::Corridor(Tip::Filled, "visible"), "visible: the other is to move"),
     (Sample::Corridor(Tip::Hollow, "secret"), "secret: who took it moves on"),
-    (Sample::Corridor(Tip::Filled, "visible best"), "the move to make"),
+    (Sample::Corridor(Tip::Filled, "visible best"), "the move to make: it wins, or alone keeps the draw"),
 ];
 
 impl Sample {
@@ -175,18 +162,10 @@ impl Sample {
 
 /// The items side by side, and below each other where there is no room.
 fn key(width: f64) -> Vec<Item> {
-    let mut next = at(0.0, 0.0);
-    let items = KEY.iter().map(|(sample, text)| {
-        let words = Words::new(*text, 11.0);
-        let needs = sample.room() + words.width();
-        if next.x > 0.0 && next.x + needs > width {
-            next = at(0.0, next.y + 34.0);
-        }
-        let item = Item { sample: *sample, words, at: next };
-        next.x += needs + 22.0;
-        item
-    });
-    items.collect()
+    let words: Vec<Words> = KEY.iter().map(|(_, text)| Words::new(*text, 11.0)).collect();
+    let needs: Vec<f64> = KEY.iter().zip(&words).map(|((sample, _), words)| sample.room() + words.width()).collect();
+    let places = side_by_side(&needs, width, 34.0);
+    KEY.iter().zip(words).zip(places).map(|(((sample, _), words), at)| Item { sample: *sample, words, at }).collect()
 }
 
 impl Item {

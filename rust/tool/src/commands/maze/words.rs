@@ -11,13 +11,13 @@ use crate::trouble::Outcome;
 use crate::walk::counted;
 
 pub fn whole(asked: &Asked, out: &mut Out) -> Outcome<()> {
-    out.line(&format!("{}, inputs {}: the maze of the first instant has {}", files::shown(&asked.block.path), asked.given(), size(asked)))?;
+    out.line(&format!("{}, {}: the maze of the first instant has {}", files::shown(&asked.block.path), asked.given(), size(asked)))?;
     signals(asked, out)?;
-    out.line("the corridors: --> is visible, and the other is to move; ~~> is secret, and who took it moves on; * is the move to make")?;
+    out.line("the corridors: --> is visible, and the other is to move; ~~> is secret, and who took it moves on; * is the move to make, which wins or alone keeps the draw")?;
     for (n, place) in asked.board.places.iter().enumerate().filter(|(_, place)| !place.ways.is_empty()) {
-        out.line(&format!("{}{} {}", asked.name(n), test(asked, n), place.end.word()))?;
+        out.line(&format!("{} {}", asked.name(n), place.end.word()))?;
         for (k, way) in place.ways.iter().enumerate() {
-            let best = if place.best == Some(k) && place.end == End::Wins { "*" } else { " " };
+            let best = if asked.board.marked(n) == Some(k) { "*" } else { " " };
             let arrow = if way.visible { "-->" } else { "~~>" };
             out.line(&format!("  {} {} {}, which {}", best, arrow, asked.name(way.to), asked.board.places[way.to].end.word()))?;
         }
@@ -26,14 +26,15 @@ pub fn whole(asked: &Asked, out: &mut Out) -> Outcome<()> {
     out.line(&format!("without a corridor, so that who is to move there has lost: {}", listed(&without)))
 }
 
-/// How many rooms and corridors there are.
+/// How many rooms and corridors there are, and how many rooms are left out.
 pub fn size(asked: &Asked) -> String {
     let (rooms, corridors, secret) = (asked.board.places.len() as u64, asked.board.corridors() as u64, asked.board.secret());
     let hidden = match secret {
         0 => "none of them secret".to_string(),
         n => format!("{} of them secret", n),
     };
-    format!("{} and {}, {}", counted(rooms, "room"), counted(corridors, "corridor"), hidden)
+    let left = asked.left.as_ref().map_or(String::new(), |left| format!("; {} that decide nothing are left out", counted(left.len() as u64, "room")));
+    format!("{} and {}, {}{}", counted(rooms, "room"), counted(corridors, "corridor"), hidden, left)
 }
 
 fn signals(asked: &Asked, out: &mut Out) -> Outcome<()> {
@@ -49,14 +50,6 @@ fn signals(asked: &Asked, out: &mut Out) -> Outcome<()> {
         out.line(&table.row(&[&labels.with_number(n), place.end.word(), place.end.status(), &moves]))?;
     }
     Ok(())
-}
-
-/// What a gate stands before.
-fn test(asked: &Asked, n: usize) -> String {
-    match asked.test(asked.board.places[n].room) {
-        Some((signal, branch)) => format!(", present {} {} ..,", signal, branch),
-        None => String::new(),
-    }
 }
 
 pub fn play(asked: &Asked, start: usize, out: &mut Out) -> Outcome<()> {

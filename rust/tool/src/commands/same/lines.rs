@@ -26,7 +26,7 @@ fn joined(numbers: impl Iterator<Item = u64>, between: &str) -> String {
 /// A line an instant of eight numbers; a refusal of the two is one line.
 pub fn plain(found: &Found, out: &mut Out) -> Outcome<()> {
     match found {
-        Found::Alike => Ok(()),
+        Found::Alike | Found::SameBytes(_) => Ok(()),
         Found::Refused(why) => out.line(&format!("refused {}", why.number)),
         Found::Different(steps) => steps.iter().enumerate().try_for_each(|(n, step)| {
             let answers = step.answers.iter().flat_map(numbers);
@@ -97,10 +97,10 @@ pub fn json(pair: &Pair, found: &Found, out: &mut Out) -> Outcome<()> {
     out.line(&answer(pair, found).done())
 }
 
-/// The last object: alike is null where it cannot be told.
+/// The last object: alike is null where it cannot be told; renamed are the signals with two names.
 fn answer(pair: &Pair, found: &Found) -> Object {
     let object = match found {
-        Found::Alike => Object::new().flag("alike", true).number("refusal", 0u64).number("instants", 0u64),
+        Found::Alike | Found::SameBytes(_) => Object::new().flag("alike", true).number("refusal", 0u64).number("instants", 0u64),
         Found::Different(steps) => Object::new().flag("alike", false).number("refusal", 0u64).number("instants", steps.len() as u64),
         Found::Refused(why) => Object::new().null("alike").number("refusal", why.number).text("name", name_of(why.number).unwrap_or("")),
     };
@@ -108,6 +108,7 @@ fn answer(pair: &Pair, found: &Found) -> Object {
         let key = |what: &str| format!("{}_{}", side, what);
         object.text(&key("file"), &block.path.to_string_lossy()).number(&key("version"), block.summary.version).text(&key("sha256"), &sha256(&block.bytes))
     };
-    let object = object.flag("one_version", pair.old.summary.version == pair.new.summary.version).flag("same_bytes", pair.old.bytes == pair.new.bytes);
-    about(about(object, SIDES[0], &pair.old), SIDES[1], &pair.new)
+    let object = object.flag("one_version", pair.old.summary.version == pair.new.summary.version).flag("same_bytes", pair.has_same_bytes());
+    let renamed = pair.renamed.iter().map(|two| Object::new().number("signal", two.signal as u64).text(SIDES[0], &two.old).text(SIDES[1], &two.new));
+    about(about(object, SIDES[0], &pair.old), SIDES[1], &pair.new).objects("renamed", renamed.collect())
 }

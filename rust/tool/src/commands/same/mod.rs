@@ -2,6 +2,7 @@
 //! run, run on both.
 
 mod lines;
+mod picture;
 mod search;
 mod words;
 
@@ -16,22 +17,23 @@ use crate::names;
 use crate::output::{warn, Out};
 use crate::replace::{look, replace};
 use crate::run::plain::block_line;
-use crate::sets::listed;
 use crate::status::Status;
 use crate::trouble::{Outcome, Trouble};
+use foldheron::RUN_MOST;
 use search::Found;
 use std::path::{Path, PathBuf};
 
 pub static COMMAND: Command = Command {
     name: "same",
     does: "says whether two blocks do the same, or shows a run that tells them apart",
-    call: "[--plain | --csv | --json] [--to FILE [--over]] [--names FILE | --no-names] OLD NEW",
+    call: "[--plain | --csv | --json | --svg] [--to FILE [--over]] [--names FILE | --no-names] OLD NEW",
     options: &[
-        flag("--plain", "of the run a line an instant: its number, the inputs, then refusal, code and outputs of the old block, and of\nthe new one; no line where they are alike"),
+        flag("--plain", PLAIN),
         flag("--csv", "the same with a head, and a column for each signal"),
         flag("--json", "an object an instant, each on a line of its own, and a last one with the answer"),
+        flag("--svg", "the run as a timing diagram: the inputs, the old block and the new one, with the first difference framed"),
         with("--to", "FILE", "write the run into FILE, as sets of inputs that foldheron run takes with --inputs"),
-        flag("--over", "write it over a file of sets that is there"),
+        flag("--over", "write it over a file that is there, where that holds sets of up to 6 inputs"),
         with("--names", "FILE", "take the signals' names from FILE, the names file of either block, not from the files beside them"),
         names::NO_OPTION,
     ],
@@ -39,9 +41,16 @@ pub static COMMAND: Command = Command {
     run,
 };
 
+const PLAIN: &str = "of the run a line an instant: its number, the inputs, then refusal, code and outputs of the old block, and of
+the new one, sets as numbers; no line where they are alike, 'refused N' where the two are turned down,
+and 'old block N P' or 'new block N P' where one of them is, with N at offset P";
+
 const MORE: &str = "Alike means: from fresh, in every instant of every run of inputs, both are refused with 13, or both are answered with the same
 outputs and the same code. Rounds are not compared, and every input is heard. That is the library's answer, and proved, and so is that no shorter
-run shows the difference that is shown. The signals are compared by their numbers, whatever their names are.
+run shows the difference that is shown. The signals are compared by their numbers, whatever their names are;
+where the two names files call one signal by two names the answer says so.
+
+Two files with the same bytes are alike, whatever else is said below.
 
 It says nothing of saved states: two blocks that are alike may go on from one state otherwise. After an update start afresh.
 
@@ -57,6 +66,24 @@ pub struct Pair {
     pub old: Block,
     pub new: Block,
     pub labels: Labels,
+    pub renamed: Vec<Renamed>,
+}
+
+impl Pair {
+    pub fn has_same_bytes(&self) -> bool {
+        self.old.bytes == self.new.bytes
+    }
+}
+
+/// A signal that the two names files call by two names.
+pub struct Renamed {
+    pub signal: usize,
+    pub old: String,
+    pub new: String,
+}
+
+pub fn in_words(renamed: &[Renamed]) -> String {
+    renamed.iter().map(|two| format!("signal {} is {} and {}", two.signal, two.old, two.new)).collect::<Vec<_>>().join(", ")
 }
 
 /// What stands for the two blocks wherever they are spoken of.
@@ -68,12 +95,19 @@ enum Form {
     Plain,
     Csv,
     Json,
+    Svg,
 }
 
 struct Asked {
     form: Form,
     paths: [PathBuf; 2],
-    to: Option<PathBuf>,
+    to: Option<To>,
+}
+
+/// The file that the run is written into, and how many sets it had before.
+pub struct To {
+    pub path: PathBuf,
+    pub before: usize,
 }
 
 fn run(words: &Words, out: &mut Out) -> Outcome<Status> {
@@ -90,7 +124,7 @@ fn run(words: &Words, out: &mut Out) -> Outcome<Status> {
     let found = search::search(&pair);
     if let (Some(to), Found::Different(steps)) = (&asked.to, &found) {
         let sets: Vec<u8> = steps.iter().flat_map(|step| step.inputs.to_le_bytes()).collect();
-        replace(to, &sets)?;
+        replace(&to.path, &sets)?;
     }
     tell(&asked, &pair, &found, out)?;
     Ok(found.status())
@@ -98,25 +132,28 @@ fn run(words: &Words, out: &mut Out) -> Outcome<Status> {
 
 fn asked(words: &Words) -> Outcome<Asked> {
     let [old, new] = words.exactly(["the old block's file", "the new block's file"])?;
-    let form = match words.at_most_one(&["--plain", "--csv", "--json"])? {
+    let form = match words.at_most_one(&["--plain", "--csv", "--json", "--svg"])? {
         Some("--plain") => Form::Plain,
         Some("--csv") => Form::Csv,
+        Some("--svg") => Form::Svg,
         Some(_) => Form::Json,
         None => Form::Words,
     };
     if old == files::STDIN && new == files::STDIN {
         return Err(Trouble::call("only one file can be - , standard input"));
     }
-    let asked = Asked { form, paths: [old, new].map(files::block_path), to: words.value("--to").map(PathBuf::from) };
-    match &asked.to {
-        None if words.has("--over") => Err(Trouble::call("--over goes together with --to alone")),
-        None => Ok(asked),
-        Some(to) => may_be_written(to, &asked.paths, words.has("--over")).map(|_| asked),
-    }
+    let paths = [old, new].map(files::block_path);
+    let to = match words.value("--to").map(PathBuf::from) {
+        None if words.has("--over") => return Err(Trouble::call("--over goes together with --to alone")),
+        None => None,
+        Some(path) => Some(may_be_written(path, &paths, words.has("--over"))?),
+    };
+    Ok(Asked { form, paths, to })
 }
 
 /// The run goes into a file that is not there or is empty; over another only if that is asked for and it holds sets. That is told before the search.
-fn may_be_written(to: &Path, read: &[PathBuf], over: bool) -> Outcome<()> {
+fn may_be_written(path: PathBuf, read: &[PathBuf], over: bool) -> Outcome<To> {
+    let to = path.as_path();
     if to == Path::new(files::STDIN) {
         return Err(Trouble::call("--to wants a file: - is standard input"));
     }
@@ -124,14 +161,24 @@ fn may_be_written(to: &Path, read: &[PathBuf], over: bool) -> Outcome<()> {
         return Err(Trouble::call(format!("--to {} would write over a file that is read", files::shown(to))));
     }
     look(to)?;
-    let holds_sets = |size: u64| size % SET as u64 == 0 && !block::is_good(to);
     let left = |what: &str| Trouble::call(format!("{} is there{}: it is left as it is", files::shown(to), what));
     match files::size(to) {
-        None | Some(0) => Ok(()),
-        Some(size) if over && holds_sets(size) => Ok(()),
-        Some(_) if over => Err(left(" and holds no sets of inputs")),
-        Some(_) => Err(left("").advise("with --over the run takes its place, where it holds sets of inputs")),
+        None | Some(0) => Ok(To { path, before: 0 }),
+        Some(_) if over => match sets_in(to) {
+            Some(before) => Ok(To { path, before }),
+            None => Err(left(" and holds no sets of up to 6 inputs")),
+        },
+        Some(_) => Err(left("").advise("with --over the run takes its place, where it holds sets of up to 6 inputs")),
     }
+}
+
+/// How many sets a file holds, where it may be one that was written here: no more than a run has, and of no more inputs than are compared. A text is none.
+fn sets_in(path: &Path) -> Option<usize> {
+    let most = RUN_MOST * SET;
+    let bytes = files::first(path, most + 1).ok()?;
+    let is_set = |set: &[u8]| set[0] < 1 << 6 && set[1..].iter().all(|byte| *byte == 0);
+    let is_run = bytes.len() <= most && bytes.len() % SET == 0 && bytes.chunks_exact(SET).all(is_set);
+    is_run.then(|| bytes.len() / SET)
 }
 
 /// One of the two blocks, or none where it is refused and that is told as a line.
@@ -145,7 +192,7 @@ fn good(asked: &Asked, side: usize, out: &mut Out) -> Outcome<Option<Block>> {
     match asked.form {
         Form::Json => out.line(&check::refused(&report).text("block", SIDES[side]).done())?,
         Form::Plain => out.line(&format!("{} {}", SIDES[side], block_line(&report)))?,
-        Form::Words | Form::Csv => {
+        Form::Words | Form::Csv | Form::Svg => {
             let mut lines = report.lines();
             lines[0] = format!("the {} block, {}", SIDES[side], lines[0]);
             return Err(Trouble { status: Status::BlockRefused, lines });
@@ -180,26 +227,26 @@ fn named(words: &Words, old: Block, new: Block) -> Outcome<Pair> {
             let _ = labels.give(signal, name);
         }
     }
-    if labels.outputs() == numbered(&new).outputs() {
-        look_at_names(&labels, &first, &second);
-    }
-    Ok(Pair { old: Block { labels: first, ..old }, new: Block { labels: second, ..new }, labels })
+    let renamed = if labels.outputs() == numbered(&new).outputs() { renamed(&labels, &first, &second) } else { Vec::new() };
+    Ok(Pair { old: Block { labels: first, ..old }, new: Block { labels: second, ..new }, labels, renamed })
 }
 
-/// Where the two files call a signal by two names, a warning says so: the update may have moved a wire.
-fn look_at_names(labels: &Labels, old: &Labels, new: &Labels) {
+/// Where the two files call a signal by two names, a warning says so too: the update may have moved a wire.
+fn renamed(labels: &Labels, old: &Labels, new: &Labels) -> Vec<Renamed> {
     let both = labels.inputs().chain(labels.outputs()).filter_map(|n| Some((n, old.name(n)?, new.name(n)?)));
-    let unlike: Vec<String> = both.filter(|(_, one, other)| one != other).map(|(n, one, other)| format!("signal {} is {} and {}", n, one, other)).collect();
+    let unlike: Vec<Renamed> = both.filter(|(_, one, other)| one != other).map(|(signal, one, other)| Renamed { signal, old: one.to_string(), new: other.to_string() }).collect();
     if !unlike.is_empty() {
-        warn(format!("by the old names and the new ones {}", listed(&unlike)), "signals are compared by their numbers, whatever they are called; the old names are used");
+        warn(format!("by the old names and the new ones {}", in_words(&unlike)), "signals are compared by their numbers, whatever they are called; the old names are used");
     }
+    unlike
 }
 
 fn tell(asked: &Asked, pair: &Pair, found: &Found, out: &mut Out) -> Outcome<()> {
     match asked.form {
-        Form::Words => words::tell(pair, found, asked.to.as_deref(), out),
+        Form::Words => words::tell(pair, found, asked.to.as_ref(), out),
         Form::Plain => lines::plain(found, out),
         Form::Csv => lines::csv(pair, found, out),
         Form::Json => lines::json(pair, found, out),
+        Form::Svg => picture::tell(pair, found, out),
     }
 }

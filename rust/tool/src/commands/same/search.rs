@@ -17,6 +17,8 @@ const SECOND: Duration = Duration::from_secs(1);
 
 pub enum Found {
     Alike,
+    /// The bytes are the same, so the two are alike although the library turned them down.
+    SameBytes(Refusal),
     Different(Vec<Step>),
     Refused(Refusal),
 }
@@ -30,7 +32,7 @@ pub struct Step {
 impl Found {
     pub fn status(&self) -> Status {
         match self {
-            Found::Alike => Status::Good,
+            Found::Alike | Found::SameBytes(_) => Status::Good,
             Found::Different(_) => Status::Different,
             Found::Refused(why) => Status::of(why.number),
         }
@@ -47,11 +49,12 @@ impl Step {
     }
 }
 
-/// What the library says of the two.
+/// What the library says of the two. Of the same bytes nobody has to say it: they are one block, and what it does is fixed by them.
 pub fn search(pair: &Pair) -> Found {
     match waited_for(pair) {
         Ok(run) if run.is_empty() => Found::Alike,
         Ok(run) => Found::Different(steps(pair, &run)),
+        Err(why) if pair.has_same_bytes() => Found::SameBytes(why),
         Err(why) => Found::Refused(why),
     }
 }

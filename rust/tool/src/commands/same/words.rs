@@ -1,7 +1,7 @@
 //! The answer for people: what is so, whether the two carry one version number, and where they are not alike the run as a table with both side by side.
 
 use super::search::{Found, Step, PAIRS};
-use super::{Pair, SIDES};
+use super::{Pair, To, SIDES};
 use crate::block::{counts, Block};
 use crate::files;
 use crate::labels::Labels;
@@ -15,44 +15,59 @@ use crate::trouble::{Outcome, Trouble};
 use crate::walk::{counted, grouped};
 use crate::why::how_to_ask;
 use foldheron::{Instant, Refusal};
-use std::path::Path;
 
 /// A column of signals is at most so wide, so that the table has 80 columns; a longer list pushes what is to its right.
 const WIDEST: usize = 16;
 
-pub fn tell(pair: &Pair, found: &Found, to: Option<&Path>, out: &mut Out) -> Outcome<()> {
-    let verdict = match found {
-        Found::Alike => "alike: from fresh, with every input heard, no run of inputs tells the two apart".to_string(),
-        Found::Different(steps) => format!("different: a shortest run of inputs that tells the two apart has {}", counted(steps.len() as u64, "instant")),
-        Found::Refused(why) if why.number == 25 => format!("cannot be told: refused with {}", refusal::title(why.number)),
-        Found::Refused(why) => return Err(turned_down(pair, *why)),
-    };
-    out.line(&verdict)?;
+pub fn tell(pair: &Pair, found: &Found, to: Option<&To>, out: &mut Out) -> Outcome<()> {
+    match found {
+        Found::Refused(why) if why.number != 25 => return Err(turned_down(pair, *why)),
+        _ => {}
+    }
+    out.line(&verdict(pair, found))?;
     for (side, block) in SIDES.iter().zip([&pair.old, &pair.new]) {
         out.line(&format!("  {}: {}: {}", side, files::shown(&block.path), counts(&block.summary, block.bytes.len())))?;
     }
     out.line(&format!("  {}", versions(pair, found)))?;
+    if !pair.renamed.is_empty() {
+        out.line(&format!("  two names for one signal: {}; a panel that is wired by names gets other signals", super::in_words(&pair.renamed)))?;
+    }
     match found {
         Found::Alike => out.line(&format!("  {}", states(pair))),
+        Found::SameBytes(why) => {
+            out.line(&format!("  {}", states(pair)))?;
+            out.line(&format!("  the library does not compare them ({}), and is not needed: what a block does is fixed by its bytes", refusal::title(why.number)))
+        }
         Found::Different(steps) => table(pair, steps, out),
         Found::Refused(_) => out.line(&format!("  runs that show no difference lead to over {} pairs of states", grouped(PAIRS))),
     }?;
     match (to, found) {
         (Some(to), Found::Different(steps)) => {
-            let call = format!("foldheron run {} --inputs {}", files::shown(&pair.old.path), files::shown(to));
-            out.line(&format!("{}: {}, for {}", files::shown(to), counted(steps.len() as u64, "set"), call))
+            let call = format!("foldheron run {} --inputs {}", files::shown(&pair.old.path), files::shown(&to.path));
+            let over = if to.before == 0 { String::new() } else { format!(" in the place of {} that were there", to.before) };
+            out.line(&format!("{}: {}{}, for {}", files::shown(&to.path), counted(steps.len() as u64, "set"), over, call))
         }
-        (Some(to), _) => out.line(&format!("{}: nothing is written, for there is no run to write", files::shown(to))),
+        (Some(to), _) => out.line(&format!("{}: nothing is written, for there is no run to write", files::shown(&to.path))),
         (None, _) => Ok(()),
     }
 }
 
+/// The answer in a line.
+pub fn verdict(pair: &Pair, found: &Found) -> String {
+    match found {
+        _ if pair.has_same_bytes() => "alike: the two files have the same bytes".to_string(),
+        Found::Alike | Found::SameBytes(_) => "alike: from fresh, with every input heard, no run of inputs tells the two apart".to_string(),
+        Found::Different(steps) => format!("different: a shortest run of inputs that tells the two apart has {}", counted(steps.len() as u64, "instant")),
+        Found::Refused(why) => format!("cannot be told: refused with {}", refusal::title(why.number)),
+    }
+}
+
 /// What the answer says of the numbers that the two carry.
-fn versions(pair: &Pair, found: &Found) -> String {
+pub fn versions(pair: &Pair, found: &Found) -> String {
     let [old, new] = [pair.old.summary.version, pair.new.summary.version];
     let numbers = if old == new { format!("one version number, {}", old) } else { format!("two version numbers, {} and {}", old, new) };
     match found {
-        Found::Alike => format!("{}, and one behaviour", numbers),
+        Found::Alike | Found::SameBytes(_) => format!("{}, and one behaviour", numbers),
         Found::Different(_) if old == new => format!("{}, and two behaviours: the new block wants a number of its own", numbers),
         Found::Different(_) => format!("{}, and two behaviours", numbers),
         Found::Refused(_) if old == new => format!("{}: {}", numbers, refusal::advice(25)),
@@ -63,8 +78,8 @@ fn versions(pair: &Pair, found: &Found) -> String {
 /// What becomes of a saved state, of which alike says nothing.
 fn states(pair: &Pair) -> &'static str {
     let key = |block: &Block| (block.summary.version, block.summary.statements);
-    if pair.old.bytes == pair.new.bytes {
-        "the two files have the same bytes, so a state of one is a state of the other"
+    if pair.has_same_bytes() {
+        "a state of one is a state of the other"
     } else if key(&pair.old) == key(&pair.new) {
         "of saved states this says nothing: each takes the other's, and may go on otherwise from it; start afresh after the change"
     } else {
@@ -122,7 +137,7 @@ fn table(pair: &Pair, steps: &[Step], out: &mut Out) -> Outcome<()> {
 }
 
 /// In what the two differ in an instant.
-fn difference(step: &Step, labels: &Labels) -> String {
+pub fn difference(step: &Step, labels: &Labels) -> String {
     let [old, new] = match &step.answers {
         [Instant::Answered(old), Instant::Answered(new)] => [old, new],
         [Instant::Answered(_), refused] => return format!("old is answered, and new is refused with {}", refusal::title(refused.number())),
