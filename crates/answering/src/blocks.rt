@@ -1,7 +1,7 @@
 // The calls that take blocks alone, with no state.
-use crate::text::put;
-use crate::text::put_numbers;
-use crate::text::put_until;
+use printing::put;
+use printing::put_numbers;
+use printing::put_until;
 
 // What is lent for an output holds this byte, with which none ends.
 const LENT: u8 = 165;

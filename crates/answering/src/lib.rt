@@ -2,11 +2,10 @@
 // written, as it is after the call; of a part that comes back its bytes. reference/README.md says how the lines are written.
 mod blocks;
 mod shelves;
-mod text;
 
-use text::put;
-use text::put_bytes;
-use text::put_numbers;
+use printing::put;
+use printing::put_bytes;
+use printing::put_numbers;
 
 // A case: which call it is, how many bytes are lent to it, and its numbers.
 pub struct Case {

@@ -1,10 +1,10 @@
 // The calls on a shelf: number and place, and the shelf after the call or the block that was fetched.
-use crate::text::put;
-use crate::text::put_bytes;
-use crate::text::put_numbers;
-use crate::text::put_until;
 use foldheron::Shelved;
 use foldheron::number_of;
+use printing::put;
+use printing::put_bytes;
+use printing::put_numbers;
+use printing::put_until;
 
 pub(crate) fn install(shelf: &mut [u8], party: u64, name: u64, block: &[u8]) {
     let answer = foldheron::install(shelf, two_bytes(party), two_bytes(name), block);

@@ -1,9 +1,9 @@
--- `answering::text::put_front` is safe: the part is as long as it is asked to be. Assumes nothing.
+-- `printing::put_front` is safe: the part is as long as it is asked to be. Assumes nothing.
 use native.Mathlib.Omega.{arith}
 use lib.ListN.{length-take}
 use borrow.Author.Needs.{needs}
-use Rattle.answering.proofs.text.put_front.Statement.{statement}
-use Rattle.answering.proofs.text.put_front.Tie as tie
+use Rattle.printing.proofs.put_front.Statement.{statement}
+use Rattle.printing.proofs.put_front.Tie as tie
 
 slice-aggregate-put : tie.Need-slice-aggregate-put
 slice-aggregate-put c = simp length-take (omega arith)

@@ -1,8 +1,8 @@
--- `answering::text::put_numbers` is safe and ends. The loop's invariant: `i` is at most the count. The measure is how many numbers are left. Assumes nothing.
+-- `printing::put_numbers` is safe and ends. The loop's invariant: `i` is at most the count. The measure is how many numbers are left. Assumes nothing.
 use Prim.Native.Nat.{_≤_, _-_}
 use borrow.Author.Needs.{needs}
-use Rattle.answering.proofs.text.put_numbers.Statement.{statement}
-use Rattle.answering.proofs.text.put_numbers.Tie as tie
+use Rattle.printing.proofs.put_numbers.Statement.{statement}
+use Rattle.printing.proofs.put_numbers.Tie as tie
 
 abbrev Inv-loop : tie.InvT-loop
 Inv-loop numbers count i₀ i = i ≤ count

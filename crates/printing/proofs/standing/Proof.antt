@@ -1,10 +1,10 @@
--- `answering::text::standing` meets its contract. The loop's invariant: the count is within the bytes. The measure is the count. Assumes nothing.
+-- `printing::standing` meets its contract. The loop's invariant: the count is within the bytes. The measure is the count. Assumes nothing.
 use Prim.Native.Nat.{_≤_}
 use lib.ListN.{length}
 use borrow.Author.Needs.{needs}
 use Rattle.io.proofs.Counting.{counts}
-use Rattle.answering.proofs.text.standing.Statement.{statement}
-use Rattle.answering.proofs.text.standing.Tie as tie
+use Rattle.printing.proofs.standing.Statement.{statement}
+use Rattle.printing.proofs.standing.Tie as tie
 
 abbrev Inv-loop : tie.InvT-loop
 Inv-loop bytes rest count₀ count = count ≤ length bytes

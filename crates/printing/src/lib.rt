@@ -4,7 +4,7 @@ ghost use Prim.Native.Nat.{_≤_, _<_};
 ghost use Rattle.io.specs.Counts.{Counts};
 
 // Bytes as they are; tells whether they were written.
-pub(crate) fn put(bytes: &[u8]) -> bool {
+pub fn put(bytes: &[u8]) -> bool {
     io::write_all(STDOUT_FILENO, bytes)
 }
 
@@ -20,7 +20,7 @@ fn put_number(n: u64) {
 }
 
 // The first `count` of the numbers.
-pub(crate) fn put_numbers(numbers: &[u64; 11], count: usize)
+pub fn put_numbers(numbers: &[u64; 11], count: usize)
     requires { ⌜ count ≤ 11 ⌝ }
 {
     let mut i = 0;
@@ -31,7 +31,7 @@ pub(crate) fn put_numbers(numbers: &[u64; 11], count: usize)
 }
 
 // A space and bytes, two digits each; a dash for none.
-pub(crate) fn put_bytes(bytes: &[u8]) {
+pub fn put_bytes(bytes: &[u8]) {
     put(b" ");
     if bytes.len() == 0 {
         put(b"-");
@@ -91,7 +91,7 @@ fn digit(d: u8) -> u8
 }
 
 // Bytes up to the last that is not the rest's, and how many of the rest come after it.
-pub(crate) fn put_until(bytes: &[u8], rest: u8) {
+pub fn put_until(bytes: &[u8], rest: u8) {
     let stands = standing(bytes, rest);
     put_bytes(&bytes[..stands]);
     put(b"+");

@@ -1,10 +1,10 @@
--- `answering::text::put_digits` is safe and ends. The loop's invariant: the digits keep their length. The measure is how many bytes are left. Assumes nothing.
+-- `printing::put_digits` is safe and ends. The loop's invariant: the digits keep their length. The measure is how many bytes are left. Assumes nothing.
 use Prim.Native.Nat.{_-_}
 use mathlib.Core.Path.{_≡_}
 use lib.ListN.{length}
 use borrow.Author.Needs.{needs}
-use Rattle.answering.proofs.text.put_digits.Statement.{statement}
-use Rattle.answering.proofs.text.put_digits.Tie as tie
+use Rattle.printing.proofs.put_digits.Statement.{statement}
+use Rattle.printing.proofs.put_digits.Tie as tie
 
 abbrev Inv-loop : tie.InvT-loop
 Inv-loop bytes digits₀ count₀ i₀ digits count i = 4096 ≡ length digits
