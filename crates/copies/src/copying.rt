@@ -79,50 +79,29 @@ pub(crate) fn put_copy(
     let next = spot.next;
     let to = put_record(out, spot.to, kind, new_operand(kind, operand, names, next));
     let node = node_at(kinds, sizes, at);
+    let here = Spot { to: to, next: next };
     match node {
-        Node::Leaf => Spot { to: to, next: next },
+        Node::Leaf => here,
         Node::Over(p) => {
             let inner = names_inside(names, kind, operand, next);
             let after = next_inside(kind, next);
-            put_copy(
-                kinds,
-                operands,
-                sizes,
-                p,
-                inner,
-                Spot {
-                    to: to,
-                    next: after,
-                },
-                out,
-            )
+            let below = Spot {
+                to: to,
+                next: after,
+            };
+            put_copy(kinds, operands, sizes, p, inner, below, out)
         }
         Node::Twice(p) => {
             let begun = put_record(out, to, 21, 0);
-            let half = put_copy(
-                kinds,
-                operands,
-                sizes,
-                p,
-                names,
-                Spot {
-                    to: begun,
-                    next: next,
-                },
-                out,
-            );
+            let first = Spot {
+                to: begun,
+                next: next,
+            };
+            let half = put_copy(kinds, operands, sizes, p, names, first, out);
             put_copy(kinds, operands, sizes, p, names, half, out)
         }
         Node::Joins(p, q) => {
-            let half = put_copy(
-                kinds,
-                operands,
-                sizes,
-                p,
-                names,
-                Spot { to: to, next: next },
-                out,
-            );
+            let half = put_copy(kinds, operands, sizes, p, names, here, out);
             put_copy(kinds, operands, sizes, q, names, half, out)
         }
     }
