@@ -1,5 +1,6 @@
 //! Runs of one side over a shape, and the two sides timed in turn.
 
+use crate::clock::spent;
 use crate::plain::Answer;
 use crate::shapes::Shape;
 use crate::{library, plain};
@@ -39,10 +40,16 @@ fn needed(answer: Answer) {
 
 /// Nanoseconds an instant, from whole runs from fresh for about so long.
 pub fn measure(call: Call, shape: &Shape, about: Duration) -> f64 {
-    let begins: Vec<_> = shape.blocks.iter().map(|block| (block, fresh(block))).collect();
     let begun = Instant::now();
+    timed(call, shape, about, || begun.elapsed().as_nanos() as f64)
+}
+
+/// The same by a clock that begins at 0.
+fn timed(call: Call, shape: &Shape, about: Duration, clock: impl Fn() -> f64) -> f64 {
+    let begins: Vec<_> = shape.blocks.iter().map(|block| (block, fresh(block))).collect();
+    let begun = clock();
     let mut instants = 0u32;
-    while instants == 0 || begun.elapsed() < about {
+    while instants == 0 || clock() - begun < about.as_nanos() as f64 {
         for &(block, mut state) in &begins {
             for &inputs in &shape.inputs {
                 needed(call(block, &mut state, inputs));
@@ -50,7 +57,7 @@ pub fn measure(call: Call, shape: &Shape, about: Duration) -> f64 {
             }
         }
     }
-    begun.elapsed().as_nanos() as f64 / f64::from(instants)
+    (clock() - begun) / f64::from(instants)
 }
 
 /// Nanoseconds an instant of the library and of the plain evaluator: the two in turn, many times for a short while each, and the least
@@ -66,4 +73,24 @@ pub fn race(shape: &Shape, pace: Pace) -> (f64, f64) {
         least.1 = least.1.min(measure(plain::instant, shape, pace.about));
     }
     least
+}
+
+/// Both sides' nanoseconds an instant by processor time, the least of so many times each.
+pub fn by_processor(shape: &Shape, pace: Pace) -> (f64, f64) {
+    let least = |call: Call| (0..pace.times).map(|_| timed(call, shape, pace.about, spent)).fold(f64::MAX, f64::min);
+    (least(library::instant), least(plain::instant))
+}
+
+/// Nanoseconds of processor time of the longest of four instants from fresh with no input present, each the least of so many runs.
+pub fn longest(call: Call, block: &[u8], runs: u32) -> f64 {
+    let mut least = [f64::MAX; 4];
+    for _ in 0..runs {
+        let mut state = fresh(block);
+        for time in &mut least {
+            let begun = spent();
+            needed(call(block, &mut state, 0));
+            *time = time.min(spent() - begun);
+        }
+    }
+    least.iter().copied().fold(0.0, f64::max)
 }

@@ -1,5 +1,6 @@
 //! Statements as a tree, and the bytes of the block that they make.
 
+#[derive(Clone)]
 pub enum Tree {
     Nothing,
     Pause,
@@ -120,5 +121,93 @@ pub fn count(tree: &Tree) -> usize {
         Present(_, one, other) | Sequence(one, other) | Parallel(one, other) => count(one) + count(other),
         Suspend(_, body) | Loop(body) | Trap(body) | Local(_, body) => count(body),
         _ => 0,
+    }
+}
+
+/// The statements of a block's bytes.
+pub fn tree_of(block: &[u8]) -> Tree {
+    let mut at = HEADER;
+    read(block, &mut at)
+}
+
+/// The bytes of a header.
+const HEADER: usize = 14;
+
+fn read(block: &[u8], at: &mut usize) -> Tree {
+    let word = |place: usize| u16::from_le_bytes([block[place], block[place + 1]]);
+    let (begun, kind) = (*at, word(*at + 2));
+    let operand = || word(begun + 4);
+    *at += usize::from(word(begun));
+    match kind {
+        16 => Nothing,
+        17 => Pause,
+        18 => Emit(operand()),
+        19 => {
+            let then = read(block, at);
+            present(operand(), then, read(block, at))
+        }
+        20 => suspend(operand(), read(block, at)),
+        21 => {
+            let first = read(block, at);
+            sequence(first, read(block, at))
+        }
+        22 => again(read(block, at)),
+        23 => {
+            let one = read(block, at);
+            parallel(one, read(block, at))
+        }
+        24 => trap(read(block, at)),
+        25 => Exit(operand()),
+        _ => local(operand(), read(block, at)),
+    }
+}
+
+/// The children, in their order.
+pub fn children(tree: &mut Tree) -> Vec<&mut Tree> {
+    match tree {
+        Present(_, one, other) | Sequence(one, other) | Parallel(one, other) => vec![one, other],
+        Suspend(_, body) | Loop(body) | Trap(body) | Local(_, body) => vec![body],
+        _ => Vec::new(),
+    }
+}
+
+/// The statement of that number, counted from the root as the block counts them.
+pub fn numbered(tree: &mut Tree, n: usize) -> &mut Tree {
+    if n == 0 {
+        return tree;
+    }
+    let mut left = n - 1;
+    for child in children(tree) {
+        let size = count(child);
+        if left < size {
+            return numbered(child, left);
+        }
+        left -= size;
+    }
+    unreachable!("a statement has the number of one of its parts")
+}
+
+/// A statement and all below it in words, in the block's order.
+pub fn words(tree: &Tree, out: &mut Vec<String>) {
+    out.push(match tree {
+        Nothing => "nothing".to_string(),
+        Pause => "pause".to_string(),
+        Emit(s) => format!("emit {}", s),
+        Exit(depth) => format!("exit {}", depth),
+        Present(s, _, _) => format!("present {}", s),
+        Suspend(s, _) => format!("suspend {}", s),
+        Sequence(_, _) => "sequence".to_string(),
+        Parallel(_, _) => "parallel".to_string(),
+        Loop(_) => "loop".to_string(),
+        Trap(_) => "trap".to_string(),
+        Local(s, _) => format!("local {}", s),
+    });
+    match tree {
+        Present(_, one, other) | Sequence(one, other) | Parallel(one, other) => {
+            words(one, out);
+            words(other, out);
+        }
+        Suspend(_, body) | Loop(body) | Trap(body) | Local(_, body) => words(body, out),
+        _ => {}
     }
 }

@@ -7,7 +7,8 @@ use Prim.Native.Nat.{ℕ, _+_, _≤_, _<_}
 use native.Mathlib.Omega.{arith}
 use lib.Dec.{T, eqb, ltb, ltb→lt, T-not}
 use lib.ListN.{length}
-use borrow.Author.Tests.{lt-ltb, eqb-true, eqb-false}
+use native.Mathlib.Decide.{decLt, ℕ-discrete}
+use borrow.Author.Tests.{lt-ltb, eqb-true, eqb-false, not-true}
 use Rattle.sets.specs.Numbers.{Numbers, some-to}
 use Rattle.sets.specs.Words.{set-of}
 use Rattle.sets.proofs.Members.{is-true, is-false, of-false, and-left, and-right}
@@ -15,20 +16,22 @@ use Rattle.sets.proofs.Maxima.{some-to-in, some-to-out}
 use Rattle.sets.proofs.Counts.{lowest-in, lowest-empty}
 use Rattle.rules.specs.Statements.{Stmt, pauses}
 use Rattle.rules.specs.States.{compatible}
-use Rattle.records.specs.StateRecord.{clashes, first-clash, with-second, paired}
-use Rattle.records.specs.Clashing.{Searchable, before, Filled, Place}
+use Rattle.records.specs.StateRecord.{clashes, first-clash, with-second, paired, beyond}
+use Rattle.records.specs.Clashing.{Searchable, before, Filled, Standing, Place}
+use Rattle.records.proofs.TwoWords.{beyond-in}
+
+-- The tree stands at the root.
+pub root-stands : {kinds sizes active : List ℕ} {count : ℕ} {t : Stmt} → Searchable kinds sizes count active t → Standing kinds sizes count 0 t
+unfolding before
+root-stands S = record { operands = S .operands; has = S .has; numbered = S .numbered; ends = omega (arith, S .counted); few = S .few }
 
 -- Two active pauses are in the tree, so that the walk may start at its root.
 pub root-place : (kinds sizes firsts active : List ℕ) (count m n : ℕ) (t : Stmt) → Searchable kinds sizes count active t → Filled kinds count firsts
     → m < n → T (set-of active n) → Place kinds sizes firsts m n 0 t
 unfolding before
 root-place kinds sizes firsts active count m n t S f l h = record {
-  operands = S .operands;
   count = count;
-  has = S .has;
-  numbered = S .numbered;
-  ends = omega (arith, S .counted);
-  few = S .few;
+  stands = root-stands S;
   filled = f;
   lower = l;
   low = omega arith;
@@ -107,6 +110,9 @@ module _ (t : Stmt) (A : Numbers) where
       sym (ap (with-second t A) (lowest-empty 128 (λ m. some-to (clashes t A m) 127)
       (λ m h c. let r = some-second m c in C .none-below m (r .0) (omega arith) (r .1) (r .2))))
 
+  pub no-pair : ((m n : ℕ) → m < n → T (A m) → T (A n) → ⊥) → none ≡ first-clash t A
+  no-pair f = none-found 128 (omega arith) (record { none-below = λ m n h l c. f m n (clash-lower t A m n c) (clash-first t A m n c) (clash-second t A m n c) })
+
   -- No pause from the bound on is active.
   pub bound-passed : (m : ℕ) {k : ℕ} → ((j : ℕ) → T (A j) → j < k) → k ≤ m → Clear-first t A m → none ≡ first-clash t A
   bound-passed m f l C =
@@ -120,3 +126,19 @@ module _ (t : Stmt) (A : Numbers) where
       (lowest-in 128 (λ i. some-to (clashes t A i) 127) h (some-to-in (clashes t A m) 127 (omega arith) c)
       (λ i k s. let r = some-second i s in C .none-below i (r .0) k (r .1) (r .2)))
       ∙ ap (paired m) (lowest-in 128 (clashes t A m) l c (D .none-before)))
+
+-- No two pauses are active: none is below m, and none behind it.
+pub none-and-one : (A : Numbers) (m : ℕ) {b : Bool} → ((k : ℕ) → k < m → T (A k) → ⊥) → ((k : ℕ) → T (A k) → k < 128) → b ≡ beyond (m + 1) A → not b ≡ true
+    → (i j : ℕ) → i < j → T (A i) → T (A j) → ⊥
+none-and-one A m {b} f w e h i j l s t = go (decLt i m)
+  where
+    go : Dec (i < m) → ⊥
+    go (yes k) = f i k s
+    go (no k) = of-false (sym e ∙ not-true b h) (beyond-in (m + 1) A (w j t) (omega arith) t)
+
+pub none-more : (A : Numbers) (m : ℕ) {b : Bool} → ((k : ℕ) → k < m → T (A k) → ⊥) → b ≡ A m → b ≡ false → (k : ℕ) → k < m + 1 → T (A k) → ⊥
+none-more A m f e h k l t = go (ℕ-discrete k m)
+  where
+    go : Dec (k ≡ m) → ⊥
+    go (yes q) = of-false (sym e ∙ h) (subst (λ (x : ℕ). T (A x)) q t)
+    go (no q) = f k (omega arith) t

@@ -1,7 +1,7 @@
 -- What the search for the first clash asks of its table, and what its steps say. Assumes nothing.
 use mathlib.Core.Path.{_≡_}
 use mathlib.Core.Logic.{_⊎_}
-use mathlib.Core.Bool.{Bool, cond}
+use mathlib.Core.Bool.{Bool, false, cond}
 use mathlib.Core.List.{List}
 use mathlib.Core.Option.{Option, none, some}
 use Prim.Native.Nat.{ℕ, zero, suc, _+_, _≤_, _<_}
@@ -58,14 +58,18 @@ unfoldable pub two-parts : ℕ → Bool
 unfolding children-of
 two-parts kind = eqb (children-of kind) 2
 
--- The statement p is at i and holds both pauses, the first the lower one.
-pub record Place (kinds sizes firsts : List ℕ) (m n i : ℕ) (p : Stmt) : Type 0 where
+-- The statement p stands at i, with all below it among the first so many rows, and its pauses are numbered from those before it.
+pub record Standing (kinds sizes : List ℕ) (count i : ℕ) (p : Stmt) : Type 0 where
   pub operands : List ℕ
-  pub count : ℕ
   pub has : Has (record { kinds = kinds; operands = operands; sizes = sizes }) i p
   pub numbered : Numbered (before kinds i) p
   pub ends : i + statements p ≤ count
   pub few : count ≤ 512
+
+-- The statement p at i holds both pauses, the first the lower one.
+pub record Place (kinds sizes firsts : List ℕ) (m n i : ℕ) (p : Stmt) : Type 0 where
+  pub count : ℕ
+  pub stands : Standing kinds sizes count i p
   pub filled : Filled kinds count firsts
   pub lower : m < n
   pub low : before kinds i ≤ m
@@ -76,3 +80,22 @@ unfoldable pub Goes : List ℕ → List ℕ → List ℕ → ℕ → ℕ → ℕ
 Goes kinds sizes firsts m n i r p =
     ((r ≡ i) × (eqb (getD kinds i 0) 23 ≡ compatible p m n))
     ⊎ ((q : Stmt) × (i < r) × Place kinds sizes firsts m n r q × (compatible q m n ≡ compatible p m n))
+
+-- Pause k is active, and the statement p at i holds it.
+pub record Holds (kinds active : List ℕ) (i : ℕ) (p : Stmt) (k : ℕ) : Type 0 where
+  pub member : T (set-of active k)
+  pub low : before kinds i ≤ k
+  pub high : k < before kinds i + length (pauses p)
+
+-- The flag of row i: set where the statement there holds an active pause.
+pub record Flagged (kinds sizes : List ℕ) (count : ℕ) (active : List ℕ) (i : ℕ) (flag : Bool) : Type 0 where
+  pub set : (p : Stmt) → Standing kinds sizes count i p → (k : ℕ) → Holds kinds active i p k → T flag
+
+-- Any two active pauses that the statement at i holds are compatible.
+pub record Agreed (kinds sizes : List ℕ) (count : ℕ) (active : List ℕ) (i : ℕ) : Type 0 where
+  pub agree : (p : Stmt) → Standing kinds sizes count i p → (m n : ℕ) → m < n → Holds kinds active i p m → Holds kinds active i p n → T (compatible p m n)
+
+-- Both, of every row from i on.
+pub record Quiet (kinds sizes : List ℕ) (count : ℕ) (active : List ℕ) (live : List Bool) (i : ℕ) : Type 0 where
+  pub flagged : (j : ℕ) → i ≤ j → Flagged kinds sizes count active j (getD live j false)
+  pub agreed : (j : ℕ) → i ≤ j → Agreed kinds sizes count active j

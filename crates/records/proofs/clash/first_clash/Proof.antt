@@ -1,117 +1,35 @@
--- `clash::first_clash`: no pair before the present one clashes, so that the pair at the label is the first. Assumes nothing.
-use borrow.Author.Needs.{needs}
-use native.Mathlib.Omega.{arith}
-use mathlib.Core.Path.{_≡_, refl, sym, ap, _∙_}
-use mathlib.Core.Logic.{⊎-elim}
-use Prim.Native.Nat.{_-_, _<_}
+-- `clash::first_clash`: none where at most one pause is active or the flags say that there is none, else the one that is named. Assumes nothing.
 use Rattle.sets.specs.Words.{set-of}
-use Rattle.sets.proofs.Members.{of-true}
-use Rattle.rules.specs.Statements.{Stmt}
-use Rattle.records.specs.declared.clash.Clash.the-variants as clash
-use Rattle.records.specs.Clashing.{Searchable, pair-of}
-use Rattle.records.proofs.Pairs.{Clear-first, Clear-second, first-begin, second-begin, second-more, first-tested, first-passed, bound-passed, pair-found}
+use Rattle.records.specs.Clashing.{pair-of}
+use Rattle.records.proofs.Pairs.{no-pair}
 use Rattle.records.proofs.clash.first_clash.Statement.{statement}
 use Rattle.records.proofs.clash.first_clash.Tie as tie
 
-abbrev Inv-loop : tie.InvT-loop
-Inv-loop kinds sizes count pauses active firsts found₀ m n₀ found n =
-    (found ≡ clash.None) × (m < n) × ((t : Stmt) → Searchable kinds sizes count active t → Clear-second t (set-of active) m n)
-
-abbrev μ-loop : tie.MeasureT-loop
-μ-loop kinds sizes count pauses active firsts found₀ m n₀ found n = pauses - n
-
-abbrev Inv-pairs : tie.InvT-pairs
-Inv-pairs kinds sizes count pauses active firsts found₀ m₀ found m =
-    (found ≡ clash.None) × ((t : Stmt) → Searchable kinds sizes count active t → Clear-first t (set-of active) m)
-
-abbrev μ-pairs : tie.MeasureT-pairs
-μ-pairs kinds sizes count pauses active firsts found₀ m₀ found m = pauses - m
-
-pauses-before-requires : tie.Need-pauses-before-requires Inv-loop μ-loop Inv-pairs μ-pairs
-pauses-before-requires c κs = c .pre .0 .1 .few
-
-pairs-holds : tie.Need-pairs-holds Inv-loop μ-loop Inv-pairs μ-pairs
-pairs-holds c = (refl, λ t S. first-begin t (set-of (c .before .args .active)))
-
-loop-holds : tie.Need-loop-holds Inv-loop μ-loop Inv-pairs μ-pairs
-loop-holds c =
-    let at-place = c .before .before .before in
-    let o = at-place in let s = o .before .before in
-    (o .pairs .inv .0, search needs, λ t S. second-begin t (set-of (s .args .active)) (o .pairs .m))
-
-clashing-requires : tie.Need-clashing-requires Inv-loop μ-loop Inv-pairs μ-pairs
-clashing-requires c κs =
-    let l = c .before .before in let o = l .before .before .before .before in let s = o .before .before in
-    record {
-      count = s .args .count;
-      tree = s .pre .0 .0;
-      searchable = s .pre .0 .1;
-      filled = o .before .pauses-before .ensures;
-      member = of-true (sym (l .before .before .has .ensures) ∙ l .before .if1 .taken);
-      lower = l .loop .inv .1;
-      in-width = let t = c .before .loop-test .taken in let w = s .pre .1 .width in omega arith;
-    }
-
-loop-again : tie.Need-loop-again Inv-loop μ-loop Inv-pairs μ-pairs
-loop-again c =
-    let at-clashing = c .before in
-    let at-place = at-clashing .before .before .before in
-    let l = at-place in let o = l .before .before .before .before in let s = o .before .before in (
-      l .loop .inv .0,
-      search needs,
-      λ t S. second-more t (set-of (s .args .active)) (o .pairs .m) (l .loop .n) (l .loop .inv .2 t S)
-          (at-clashing .clashing .ensures (s .args .count) t S (o .before .pauses-before .ensures)) (c .if2 .left),
-    )
-
-pairs-again : tie.Need-pairs-again Inv-loop μ-loop Inv-pairs μ-pairs
-pairs-again c =
-    let at-has = c .before in
-    let at-place = at-has .before .before in
-    let o = at-place in let s = o .before .before in (
-      ⊎-elim (λ w. w .3 ∙ w .1 .inv .0) (λ w. w .1 ∙ o .pairs .inv .0) (c .if1 .came),
-      λ t S. ⊎-elim
-          (λ w. first-tested t (set-of (s .args .active)) (o .pairs .m) (w .1 .n) (o .pairs .inv .1 t S) (w .1 .inv .2 t S) (s .pre .1 .bound) (w .2 .left))
-          (λ w. first-passed t (set-of (s .args .active)) (o .pairs .m) (o .pairs .inv .1 t S) (at-has .has .ensures) (w .0 .left)) (c .if1 .came),
-    )
-
-returns : tie.Need-returns Inv-loop μ-loop Inv-pairs μ-pairs
+returns : tie.Need-returns
 unfolding pair-of
-returns c =
-    let o = c .before in let s = o .before .before in
-    λ t S. ap pair-of (o .pairs .inv .0) ∙ bound-passed t (set-of (s .args .active)) (o .pairs .m) (s .pre .1 .bound) (c .pairs-test .left) (o .pairs .inv .1 t S)
+returns c = λ t S. no-pair t (set-of (c .before .before .args .active)) (c .before .at-most-one .ensures (c .if1 .taken))
 
-returns-2 : tie.Need-returns-2 Inv-loop μ-loop Inv-pairs μ-pairs
+some-clash-requires : tie.Need-some-clash-requires
+some-clash-requires c κs = let f = c .before in let s = f .before .before .before in (s .pre .0 .1 .few, f .pauses-before .ensures, s .pre .1)
+
+named-clash-requires : tie.Need-named-clash-requires
+named-clash-requires c κs =
+    let f = c .before .before .before .before in
+    let s = f .before .before .before in
+    (s .pre .0, s .pre .1, f .pauses-before .ensures)
+
+returns-3 : tie.Need-returns-3
 unfolding pair-of
-returns-2 c =
-    let at-clashing = c .before in
-    let at-loop-test = at-clashing .before .before in
-    let at-place = at-loop-test .before in
-    let l = at-place in let o = l .before .before .before .before in let s = o .before .before in
-    λ t S. pair-found t (set-of (s .args .active)) (o .pairs .m) (l .loop .n)
-    (let h = l .before .before .before .pairs-test .taken in omega (arith, h, s .pre .1 .width))
-    (let h = at-loop-test .loop-test .taken in omega (arith, h, s .pre .1 .width))
-    (o .pairs .inv .1 t S) (l .loop .inv .2 t S)
-    (of-true (sym (at-clashing .clashing .ensures (s .args .count) t S (o .before .pauses-before .ensures)) ∙ c .if2 .taken))
+returns-3 c = c .before .some-clash .ensures (c .if2 .left)
 
 pub first-clash-spec : {M : Type 1} → statement M
 first-clash-spec =
     tie.close
     (tie.spec
-    Inv-loop
-    μ-loop
-    Inv-pairs
-    μ-pairs
-    pauses-before-requires
-    pairs-holds
-    (λ c κs. search needs)
-    (λ c. search needs)
-    loop-holds
-    clashing-requires
-    (λ c. search needs)
-    (λ c. search needs)
-    loop-again
-    (λ c. search needs)
-    (λ c. search needs)
-    pairs-again
+    (λ c κs. c .pre .1)
     returns
-    returns-2)
+    (λ c κs. c .before .before .pre .0 .1 .few)
+    some-clash-requires
+    named-clash-requires
+    (λ c. c .named-clash .ensures)
+    returns-3)

@@ -3,12 +3,13 @@ use mathlib.Core.Path.{sym, _∙_}
 use native.Mathlib.Omega.{arith}
 use denote.Ref.{now}
 use borrow.Author.Needs.{needs}
-use Rattle.records.proofs.Steps.{here, next-in, second-below, goes-first, goes-second, goes-only, stays}
+use Rattle.records.proofs.Standing.{here}
+use Rattle.records.proofs.Steps.{next-in, second-below, goes-first, goes-second, goes-only, stays}
 use Rattle.records.proofs.clash.toward.Statement.{statement}
 use Rattle.records.proofs.clash.toward.Tie as tie
 
 element-copy-out-has-two-parts : tie.Need-element-copy-out-has-two-parts
-element-copy-out-has-two-parts c = let a = c .args in here (now (a .kinds)) (now (a .sizes)) (now (a .firsts)) (a .m) (a .n) (a .i) (c .pre .0) (c .pre .1)
+element-copy-out-has-two-parts c = here (c .pre .1 .stands)
 
 element-copy-out-second : tie.Need-element-copy-out-second
 element-copy-out-second c =
