@@ -14,7 +14,6 @@ use Rattle.rules.specs.MustCan.{plus, must, can, local-status, gives}
 use Rattle.rules.specs.States.{kept, executed-as}
 use Rattle.tables.specs.Table.{Table}
 use Rattle.words.specs.declared.events.Heard.{Heard}
-use Rattle.words.specs.declared.given.MustCan.{MustCan}
 use Rattle.tables.specs.declared.kinds.Depth.{Depth}
 use Rattle.words.specs.declared.pauses.Kept.{Kept}
 use Rattle.forms.specs.declared.form.Task.{Task}
@@ -22,7 +21,9 @@ use Rattle.forms.specs.declared.form.Form.{Form}
 use Rattle.forms.specs.declared.form.Form.the-variants.{Done, Stay, Keep, Say, Leave, Test, Catch, Scope, Chain, Beside, Same}
 use Rattle.words.specs.Words.{event-of, given-of, KeptWith}
 use Rattle.forms.specs.Forms.{At, Shows, Formed}
-use Rattle.walk.specs.Walks.{Walked}
+use Rattle.walk.specs.declared.memo.Entry.{Entry}
+use Rattle.walk.specs.Memo.{Settling}
+use Rattle.walk.proofs.Steps.{settled-here}
 use Rattle.evaluate.specs.Next.{KeptAs, Keeping}
 use Rattle.forms.proofs.FormLaws.{formed}
 
@@ -170,16 +171,16 @@ module _ {A : Numbers} {tab : Table} {live : List Bool} {e : Heard} {r : Kept} w
   unfolding Shows
   keep-skip b w z j = record { at = λ l p t. same-kept (t .made) (skip-kept (t .first) (t .later) (event-of e) b w z (j .at l (t .first) (t .left))) }
 
-  pub keep-scope : {s : ℕ} {p : Task} {u h : Heard} {m : MustCan} {a : Kept} (v : Status) → KeptWith r (bits (a .codes)) (set-of (a .pauses)) → (s < 64 → event-of u ≡ giving (event-of e) s unknown)
-      → Walked plus tab live (Same p) u m → (s < 64 → v ≡ local-status (can plus) s (given-of (m .must)) (given-of (m .can))) → (s < 64 → event-of h ≡ giving (event-of e) s v)
-      → Keeping A tab live (Same p) h a
+  pub keep-scope : {s : ℕ} {p : Task} {u h : Heard} {x : Entry} {a : Kept} (v : Status) → KeptWith r (bits (a .codes)) (set-of (a .pauses)) → (s < 64 → event-of u ≡ giving (event-of e) s unknown)
+      → Settling plus tab live s p u x → (s < 64 → v ≡ local-status (can plus) s (given-of (x .found .said .must)) (given-of (x .found .said .can)))
+      → (s < 64 → event-of h ≡ giving (event-of e) s v) → Keeping A tab live (Same p) h a
       → Keeping A tab live (Scope s p) e r
   unfolding Shows
-  keep-scope {s} {h = h} v w uk wa st hv k = record {
+  keep-scope {s} {u = u} {h = h} v w uk t st hv k = record {
     at = λ l p d.
-        let t = d .1 in
-        let m = wa .in-must refl .at A l (t .inner) (t .does) ∙ ap (gives must (t .inner)) (uk (d .0)) in
-        let n = wa .in-can .at A l (t .inner) (t .does) ∙ ap (gives (can plus) (t .inner)) (uk (d .0)) in
-        same-kept (t .made)
-        (scope-kept s (t .inner) (event-of e) (event-of h) (hv (d .0) ∙ ap (giving (event-of e) s) (st (d .0) ∙ ap₂ (local-status must s) m n)) w (k .at l (t .inner) (t .does)));
+        let y = d .1 in
+        let settled = settled-here t st (d .0) A l (y .inner) (y .does)
+        ∙ ap (λ (U : Event). local-status must s (gives must (y .inner) U) (gives (can plus) (y .inner) U)) (uk (d .0)) in
+        same-kept (y .made)
+        (scope-kept s (y .inner) (event-of e) (event-of h) (hv (d .0) ∙ ap (giving (event-of e) s) settled) w (k .at l (y .inner) (y .does)));
   }

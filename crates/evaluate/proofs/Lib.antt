@@ -1,3 +1,4 @@
 pub mod KeptSteps
 pub mod RoundLaws
 pub mod OneAnswer
+pub mod Memory

@@ -4,7 +4,7 @@ use forms::active::actives;
 use forms::form::Going;
 use forms::form::Task;
 use tables::kinds::Code;
-use walk::must_can;
+use walk::walk;
 use words::events::Heard;
 use words::given::Mark;
 use words::given::MustCan;
@@ -24,7 +24,8 @@ ghost use Rattle.rules.specs.States.{step};
 ghost use Rattle.rules.specs.Rounds.{undecided, answer, code-width};
 ghost use Rattle.words.specs.Words.{event-of, hearing-of};
 ghost use Rattle.tables.specs.Table.{table-of};
-ghost use Rattle.forms.specs.Forms.{At, Placed, step-of};
+ghost use Rattle.forms.specs.Forms.{At, Placed, Live, step-of};
+ghost use Rattle.walk.specs.Memo.{Sound};
 ghost use Rattle.evaluate.specs.Reacts.{outs-from, statuses, marks-of, Fine, Marks, Sized, Rounded, Ends, state-of, IsAnswer, Reacts};
 
 // A state's phase; the active set stands beside it.
@@ -117,19 +118,22 @@ fn round_of(
     operands: &[u16; 512],
     sizes: &[u16; 512],
     live: &[bool; 512],
+    memo: &mut [u64],
     task: Task,
     inputs: u16,
     outputs: u16,
     given: Heard,
     marks: Heard,
 ) -> Heard
-    requires { ⌜ (inputs + outputs ≤ 64) × Placed (table-of (now kinds) (now operands) (now sizes)) (task .at) ⌝ }
-    ensures { λ r. ⌜ Rounded (table-of (now (kinds .entry)) (now (operands .entry)) (now (sizes .entry))) (now (live .entry)) task inputs outputs given marks r ⌝ }
+    requires { ⌜ (inputs + outputs ≤ 64) × Placed (table-of (now kinds) (now operands) (now sizes)) (task .at)
+        × Sound (table-of (now kinds) (now operands) (now sizes)) (now live) (now memo) ⌝ }
+    ensures { λ r. ⌜ Rounded (table-of (now (kinds .entry)) (now (operands .entry)) (now (sizes .entry))) (now (live .entry)) task inputs outputs given marks r
+        × Sound (table-of (now (kinds .entry)) (now (operands .entry)) (now (sizes .entry))) (now (live .entry)) (now (memo .exit)) ⌝ }
 {
     let e = heard_in(inputs, given, marks);
-    let a = must_can(kinds, operands, sizes, live, Mark::Plus, task, e);
+    let a = walk(kinds, operands, sizes, live, memo, Mark::Plus, task, e);
     let outs = outputs_of(inputs, outputs);
-    marked_by(outs, marks, a)
+    marked_by(outs, marks, a.said)
 }
 
 fn same_marks(a: Heard, b: Heard) -> bool
@@ -148,13 +152,16 @@ pub(crate) fn all_rounds(
     operands: &[u16; 512],
     sizes: &[u16; 512],
     live: &[bool; 512],
+    memo: &mut [u64],
     task: Task,
     inputs: u16,
     outputs: u16,
     given: Heard,
 ) -> Ended
-    requires { ⌜ (inputs + outputs ≤ 64) × Placed (table-of (now kinds) (now operands) (now sizes)) (task .at) ⌝ }
-    ensures { λ r. ⌜ Ends (table-of (now (kinds .entry)) (now (operands .entry)) (now (sizes .entry))) (now (live .entry)) task inputs outputs given r ⌝ }
+    requires { ⌜ (inputs + outputs ≤ 64) × Placed (table-of (now kinds) (now operands) (now sizes)) (task .at)
+        × Sound (table-of (now kinds) (now operands) (now sizes)) (now live) (now memo) ⌝ }
+    ensures { λ r. ⌜ Ends (table-of (now (kinds .entry)) (now (operands .entry)) (now (sizes .entry))) (now (live .entry)) task inputs outputs given r
+        × Sound (table-of (now (kinds .entry)) (now (operands .entry)) (now (sizes .entry))) (now (live .entry)) (now (memo .exit)) ⌝ }
 {
     let mut marks = Heard {
         present: 0,
@@ -173,6 +180,7 @@ pub(crate) fn all_rounds(
             operands,
             sizes,
             live,
+            memo,
             task,
             inputs,
             outputs,
@@ -266,7 +274,44 @@ fn answer_of(inputs: u16, outputs: u16, end: Ended, last: Kept) -> Reacted
     }
 }
 
-// One instant of a block from a state, with the inputs that are heard present and absent.
+// One instant with this memory, for the phase that the going is of.
+fn react_with(
+    kinds: &[u16; 512],
+    operands: &[u16; 512],
+    sizes: &[u16; 512],
+    live: &[bool; 512],
+    memo: &mut [u64],
+    going: Going,
+    set: [u64; 2],
+    inputs: u16,
+    outputs: u16,
+    given: Heard,
+) -> Reacted
+    requires { ⌜ (inputs + outputs ≤ 64) × Placed (table-of (now kinds) (now operands) (now sizes)) 0 × Sound (table-of (now kinds) (now operands) (now sizes)) (now live) (now memo) ⌝ }
+    ensures { λ r. ⌜ ((phase : Phase) → ((A : Numbers) (t : Stmt) → step-of going A t ≡ step t (state-of phase A))
+        → Live (table-of (now (kinds .entry)) (now (operands .entry)) (now (sizes .entry))) (set-of set) (now (live .entry))
+        → (body : Stmt) → At (table-of (now (kinds .entry)) (now (operands .entry)) (now (sizes .entry))) 0 body
+        → Reacts (record { inputs = inputs; outputs = outputs; body = body }) phase (set-of set) (hearing-of given) r) ⌝ }
+{
+    let task = Task { at: 0, going };
+    let end = all_rounds(
+        kinds,
+        operands,
+        sizes,
+        live,
+        memo,
+        task,
+        inputs,
+        outputs,
+        given,
+    );
+    let e = heard_in(inputs, given, end.marks);
+    let last = next_kept(kinds, operands, sizes, live, memo, set, task, e);
+    answer_of(inputs, outputs, end, last)
+}
+
+// One instant of a block from a state, with the inputs that are heard present and absent. Memory costs time too: the fewest statements have none,
+// few have it for their locals alone.
 pub fn react(
     kinds: &[u16; 512],
     operands: &[u16; 512],
@@ -282,12 +327,48 @@ pub fn react(
         → Reacts (record { inputs = inputs; outputs = outputs; body = body }) phase (set-of set) (hearing-of given) r) ⌝ }
 {
     let live = actives(kinds, operands, sizes, set);
-    let task = Task {
-        at: 0,
-        going: going_of(phase),
-    };
-    let end = all_rounds(kinds, operands, sizes, &live, task, inputs, outputs, given);
-    let e = heard_in(inputs, given, end.marks);
-    let last = next_kept(kinds, operands, sizes, &live, set, task, e);
-    answer_of(inputs, outputs, end, last)
+    let going = going_of(phase);
+    if sizes[0] < 24 {
+        let mut none = [0u64; 1];
+        return react_with(
+            kinds,
+            operands,
+            sizes,
+            &live,
+            &mut none,
+            going,
+            set,
+            inputs,
+            outputs,
+            given,
+        );
+    }
+    if sizes[0] < 64 {
+        let mut few = [0u64; 512];
+        return react_with(
+            kinds,
+            operands,
+            sizes,
+            &live,
+            &mut few,
+            going,
+            set,
+            inputs,
+            outputs,
+            given,
+        );
+    }
+    let mut memo = [0u64; 2560];
+    react_with(
+        kinds,
+        operands,
+        sizes,
+        &live,
+        &mut memo,
+        going,
+        set,
+        inputs,
+        outputs,
+        given,
+    )
 }

@@ -10,9 +10,9 @@ use Rattle.sets.specs.Numbers.{Numbers, empty, single, union, without}
 use Rattle.sets.proofs.Members.{union-left, union-right, without-in, eqb-in}
 use Rattle.rules.specs.Events.{Status, present, absent, unknown, Event, giving}
 use Rattle.rules.specs.Instant.{Step, done, stay, say, leave, test, catch, scope, chain, beside}
-use Rattle.rules.specs.MustCan.{plus, opened, Question, must, can, Given, in-doubt, choose, caught, both, followed, onward, absence-asked, local-status, hidden, gives}
+use Rattle.rules.specs.MustCan.{Mark, plus, opened, Question, must, can, Given, in-doubt, choose, caught, both, followed, onward, absence-asked, local-status, hidden, gives}
 use Rattle.rules.specs.States.{executed-as}
-use Rattle.theorems.specs.Order.{Below, _⊑_, Inside}
+use Rattle.theorems.specs.Order.{Below, _⊑_, Agree, BelowOn, Inside}
 use Rattle.theorems.proofs.Forms.{inside-trans, inside-antisym}
 use Rattle.theorems.proofs.MustInCan.{must-in-can}
 use Rattle.theorems.proofs.Compare.{below-refl, giving-below, marked-below, must-grows, can-shrinks}
@@ -30,20 +30,13 @@ reads (scope s p) = without s (reads p)
 reads (chain p q) = union (reads p) (reads q)
 reads (beside p q) = union (reads p) (reads q)
 
--- The events agree, or compare, on these signals.
-pub record Agree (R : Numbers) (E F : Event) : Type 0 where
-  pub at : (n : ℕ) → T (R n) → E n ≡ F n
-
-pub record BelowOn (R : Numbers) (E F : Event) : Type 0 where
-  pub at : (n : ℕ) → T (R n) → Below (E n) (F n)
-
-agree-left : (R S : Numbers) {E F : Event} → Agree (union R S) E F → Agree R E F
+pub agree-left : (R S : Numbers) {E F : Event} → Agree (union R S) E F → Agree R E F
 agree-left R S h = record { at = λ n t. h .at n (union-left R S n t) }
 
-agree-right : (R S : Numbers) {E F : Event} → Agree (union R S) E F → Agree S E F
+pub agree-right : (R S : Numbers) {E F : Event} → Agree (union R S) E F → Agree S E F
 agree-right R S h = record { at = λ n t. h .at n (union-right R S n t) }
 
-agree-inside : {R : Numbers} {E F : Event} (s : ℕ) (v : Status) → Agree (without s R) E F → Agree R (giving E s v) (giving F s v)
+pub agree-inside : {R : Numbers} {E F : Event} (s : ℕ) (v : Status) → Agree (without s R) E F → Agree R (giving E s v) (giving F s v)
 agree-inside {R} {E} {F} s v h = record { at = λ n t. go n t (eqb n s) refl }
   where
     go : (n : ℕ) → T (R n) → (b : Bool) → eqb n s ≡ b → cond b v (E n) ≡ cond b v (F n)
@@ -77,14 +70,14 @@ local-to k (beside p q) h = ap₂ both (local-to k p (agree-left (reads p) (read
 abbrev pub filled : Numbers → Event → Event → Event
 filled R E F n = cond (R n) (E n) (F n)
 
-filled-below : {R : Numbers} {E F : Event} → BelowOn R E F → filled R E F ⊑ F
+pub filled-below : {R : Numbers} {E F : Event} → BelowOn R E F → filled R E F ⊑ F
 filled-below {R} {E} {F} h = record { at = λ n. go n (R n) refl }
   where
     go : (n : ℕ) (b : Bool) → R n ≡ b → Below (cond b (E n) (F n)) (F n)
     go n true e = h .at n (subst⁻¹ T e tt)
     go n false e = below-refl (F n)
 
-filled-agrees : (R : Numbers) (E F : Event) → Agree R E (filled R E F)
+pub filled-agrees : (R : Numbers) (E F : Event) → Agree R E (filled R E F)
 filled-agrees R E F = record { at = λ n t. go n (R n) t }
   where
     go : (n : ℕ) (b : Bool) → T b → E n ≡ cond b (E n) (F n)
@@ -105,6 +98,15 @@ decided p c {E} {F} h t =
       inside-antisym down (inside-trans up within) ∙ sym m,
     )
 
+-- The status that a local's body settles, by the mark it is asked under, is the same at every event above that at which it was known.
+pub status-rises : (m : Mark) (s : ℕ) (p : Step) {E F : Event} → E ⊑ F
+    → Below (local-status (can m) s (gives must p E) (gives (can m) p E)) (local-status (can m) s (gives must p F) (gives (can m) p F))
+status-rises plus s p {E} {F} h =
+    marked-below (gives must p E .signals s) (gives (can plus) p E .signals s) (gives must p F .signals s) (gives (can plus) p F .signals s)
+    (must-grows p h .of-signals .at s) (can-shrinks p plus h .of-signals .at s) (must-in-can p F .of-signals .at s)
+status-rises opened s p {E} {F} h =
+    marked-below false (gives (can opened) p E .signals s) false (gives (can opened) p F .signals s) (λ t. t) (can-shrinks p opened h .of-signals .at s) (λ t. absurd t)
+
 -- A local's status that is settled at an event stays so at every event above: as it is executed, and as can finds it under open.
 module _ (s : ℕ) (p : Step) {E F : Event} (h : BelowOn (without s (reads p)) E F) where
   abbrev M : Event
@@ -119,10 +121,7 @@ module _ (s : ℕ) (p : Step) {E F : Event} (h : BelowOn (without s (reads p)) E
   pub settled-executed : Below (executed-as s p E) (executed-as s p F)
   settled-executed =
       subst⁻¹ (λ (v : Status). Below v (executed-as s p F))
-      (ap₂ (λ (x y : Given). local-status must s x y) (same-body must) (same-body (can plus)))
-      (marked-below (gives must p (giving M s unknown) .signals s) (gives (can plus) p (giving M s unknown) .signals s) (gives must p (giving F s unknown) .signals s)
-      (gives (can plus) p (giving F s unknown) .signals s) (must-grows p rises .of-signals .at s) (can-shrinks p plus rises .of-signals .at s)
-      (must-in-can p (giving F s unknown) .of-signals .at s))
+      (ap₂ (λ (x y : Given). local-status must s x y) (same-body must) (same-body (can plus))) (status-rises plus s p rises)
 
   pub settled-opened : gives (can opened) p (giving E s unknown) .signals s ≡ false → gives (can opened) p (giving F s unknown) .signals s ≡ false
   settled-opened e = go (gives (can opened) p (giving F s unknown) .signals s) refl

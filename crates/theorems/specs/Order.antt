@@ -19,6 +19,13 @@ infix 4 _⊑_
 pub record _⊑_ (E F : Event) : Type 0 where
   pub at : (n : ℕ) → Below (E n) (F n)
 
+-- The events agree, or compare, on these signals.
+pub record Agree (R : Numbers) (E F : Event) : Type 0 where
+  pub at : (n : ℕ) → T (R n) → E n ≡ F n
+
+pub record BelowOn (R : Numbers) (E F : Event) : Type 0 where
+  pub at : (n : ℕ) → T (R n) → Below (E n) (F n)
+
 -- Every input status that is known to the first hearing is the same in the second.
 pub record HearsMore (b : Block) (h h′ : Hearing) : Type 0 where
   pub at : (n : ℕ) → T (ltb n (b .inputs)) → Below (input-status h n) (input-status h′ n)

@@ -21,7 +21,7 @@ pub enum Seen {
 }
 
 // The set of one signal.
-pub(crate) fn bit(s: u16) -> u64
+pub fn bit(s: u16) -> u64
     ensures { λ r. ⌜ (s < 64 → bits r ≡ single s) ⌝ }
 {
     if s < 64 { 1u64 << s } else { 0 }
