@@ -1,7 +1,7 @@
-pub mod LevelLaws
-pub mod FoundLaws
-pub mod MoveLaws
-pub mod ByteLaws
-pub mod StepLaws
-pub mod TokenLaws
 pub mod HeadLaws
+pub mod ReaderLaws
+pub mod ScanLaws
+pub mod EndingLaws
+pub mod OwedLaws
+pub mod ReadLaws
+pub mod TextRefusals

@@ -1,6 +1,3 @@
-pub mod Levels
-pub mod Found
-pub mod Records
-pub mod Moves
-pub mod Holding
 pub mod Heads
+pub mod Reading
+pub mod Ending
