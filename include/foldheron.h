@@ -11,18 +11,19 @@
  * nothing checks a caller in C:
  *
  *   - each pointer is to as many bytes as the length beside it says, and is not NULL, not even beside a length of 0;
- *   - the bytes that a call may write (state, log, run, output, answer) overlap neither each other nor anything else that is lent;
+ *   - the bytes that a call may write (state, log, run, output, text, answer) overlap neither each other nor anything else that is lent;
  *   - no other thread writes the block, or touches the state, the log, the run, the output or the answer, during the call.
  *
  * The library keeps nothing between calls and allocates nothing. Calls on different states and answers may run at the same time. Of the
  * C library it needs memcpy and memset, and nothing else. A call takes less stack than FOLDHERON_STACK_MOST below, foldheron_alike less than
- * FOLDHERON_ALIKE_STACK_MOST: that is measured, by examples/embed/stack.c on blocks as deep as they may be, and not proved.
+ * FOLDHERON_ALIKE_STACK_MOST and foldheron_read_text less than FOLDHERON_READ_TEXT_STACK_MOST: that is measured, by examples/embed/stack.c on
+ * blocks as deep as they may be, and not proved.
  *
  * Each call gives back the number of its refusal, 0 where it was not turned down, and writes its whole answer into lent bytes whose
  * count is fixed for the call: with any other count it gives back FOLDHERON_ANSWER and changes no byte of anything. An answer is a row of
  * numbers, 8 bytes each, little-endian; FOLDHERON_AT_ says at which byte each begins, and foldheron_number reads it, or one of the
  * foldheron_read_ functions at the end reads all of them into a struct. Every answer begins
- * with the refusal's number and its place: of 1 to 8 an offset in the block, else 0. Numbers that an answer does not name are 0.
+ * with the refusal's number and its place: of 1 to 8 an offset in the block, of 15 one in the text, else 0. Numbers that an answer does not name are 0.
  *
  * Statements and pauses are numbered each from 0, in the order in which they stand in the block.
  */
@@ -74,7 +75,7 @@ extern "C" {
 #define FOLDHERON_WIDE 24            /* more than 6 inputs */
 #define FOLDHERON_PAIRS 25           /* more than 1,024 pairs of states */
 #define FOLDHERON_FORM 26            /* not a block that has a maze */
-/* That of a text, whose calls are still to come: no call of this version gives it. */
+/* That of a text that is read. */
 #define FOLDHERON_TEXT 15            /* text outside the grammar, or a name that may not stand there */
 #define FOLDHERON_ANSWER 64          /* not as many bytes as this call's answer has */
 
@@ -88,6 +89,9 @@ extern "C" {
 
 /* foldheron_alike takes less than this: it keeps the pairs of states that it has found there. 84,728 bytes were the most that was seen. */
 #define FOLDHERON_ALIKE_STACK_MOST 98304
+
+/* foldheron_read_text takes less than this: it keeps the names that are declared and the places that are open there. 58,012 bytes were the most that was seen. */
+#define FOLDHERON_READ_TEXT_STACK_MOST 65536
 
 /* Where every answer has its number and its place. */
 #define FOLDHERON_AT_NUMBER 0
@@ -234,6 +238,23 @@ uint16_t foldheron_alike(const uint8_t *first, size_t first_size, const uint8_t 
 #define FOLDHERON_AT_WRITTEN 16
 uint16_t foldheron_double_loops(const uint8_t *block, size_t block_size, uint8_t *out, size_t out_size, uint8_t *answer, size_t answer_size);
 
+/* Writes the block as text, in the grammar of docs/FORMAT.md, to the front of the lent text; the bytes behind it stay, and refused, all of them do. A block has one text: signals are
+ * named I0, O1 or S2 by their numbers, as they are inputs, outputs or locals, and traps T0, T1 .. by how many stand around them. It ends with a newline; no byte 0 comes after it.
+ * FOLDHERON_TEXT_MOST bytes are enough for any. The answer, 24 bytes: number, place, and how many bytes were written (AT_WRITTEN), 0 where it was refused. Refusals: 1 to 8,
+ * then 12. */
+#define FOLDHERON_WRITE_TEXT_SIZE 24
+#define FOLDHERON_TEXT_MOST 137305
+uint16_t foldheron_write_text(const uint8_t *block, size_t block_size, uint8_t *text, size_t text_size, uint8_t *answer, size_t answer_size);
+
+/* Reads a text of that grammar, in any layout, with any names and of any length, and writes the block that it stands for to the front of the lent block; the bytes behind it stay, and
+ * refused, all of them do. What is written passes foldheron_check. Read so, what foldheron_write_text wrote of a block gives the same bytes back. FOLDHERON_BLOCK_MOST bytes are
+ * enough for any. The answer, 24 bytes: number, place, and how many bytes were written (AT_WRITTEN), 0 where it was refused. Refusals: 15 for a text outside the grammar, or with a name
+ * that is not declared there or declared again; its place is the first byte of the token at fault, or the text's length where it ends too early. Then, of the block that the text stands
+ * for, 4 with place 0 for over 64 signals; 1 to 8, with the offset in that block as the place; then 12. A text with over 1,024 places open at once gets 4 with place 0 there and then.
+ * The time grows with the text's length, and with the square of how many names it declares as inputs and outputs: who reads texts of others sees to their length. */
+#define FOLDHERON_READ_TEXT_SIZE 24
+uint16_t foldheron_read_text(const uint8_t *text, size_t text_size, uint8_t *block, size_t block_size, uint8_t *answer, size_t answer_size);
+
 /* The two-player maze of a block's first instant with these inputs present and the others absent, for blocks made of emit, parallel, and present with 'nothing'
  * in exactly one branch, the statement 'nothing' standing nowhere else: whose rooms win, lose and draw. Those are the inputs and outputs that are present, absent and
  * undecided in the final round. The answer, 40 bytes: number, place, and three sets, bit n for signal n, an input or an output. Refusals: 1 to 8, then 11, 26. */
@@ -359,6 +380,12 @@ struct foldheron_double_loops_answer {
     size_t place, count;
 };
 
+/* Of foldheron_write_text and foldheron_read_text. */
+struct foldheron_text_answer {
+    uint16_t number;
+    size_t place, count;
+};
+
 struct foldheron_maze_answer {
     uint16_t number;
     size_t place;
@@ -454,6 +481,15 @@ static inline struct foldheron_alike_answer foldheron_read_alike(const uint8_t *
 static inline struct foldheron_double_loops_answer foldheron_read_double_loops(const uint8_t *answer)
 {
     struct foldheron_double_loops_answer a;
+    a.number = (uint16_t)foldheron_number(answer, FOLDHERON_AT_NUMBER);
+    a.place = (size_t)foldheron_number(answer, FOLDHERON_AT_PLACE);
+    a.count = (size_t)foldheron_number(answer, FOLDHERON_AT_WRITTEN);
+    return a;
+}
+
+static inline struct foldheron_text_answer foldheron_read_text_answer(const uint8_t *answer)
+{
+    struct foldheron_text_answer a;
     a.number = (uint16_t)foldheron_number(answer, FOLDHERON_AT_NUMBER);
     a.place = (size_t)foldheron_number(answer, FOLDHERON_AT_PLACE);
     a.count = (size_t)foldheron_number(answer, FOLDHERON_AT_WRITTEN);

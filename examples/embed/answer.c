@@ -198,6 +198,15 @@ static void answer_maze(const struct call *call)
     put_numbers(given, at_maze, 5);
 }
 
+/* A call that writes so many bytes, after the name of its line. */
+static void put_written(const char *name, unsigned given, const struct call *call)
+{
+    static const size_t at_written[] = {FOLDHERON_AT_NUMBER, FOLDHERON_AT_PLACE, FOLDHERON_AT_WRITTEN};
+    printf("%s", name);
+    put_numbers(given, at_written, 3);
+    put_until(out, (size_t)call->other, LENT);
+}
+
 /* The line says whether a refusal is of the second block; the answer, which block it is of. */
 static void answer_alike(const struct call *call)
 {
@@ -210,18 +219,24 @@ static void answer_alike(const struct call *call)
 
 static void answer_copies(const struct call *call)
 {
-    static const size_t at_written[] = {FOLDHERON_AT_NUMBER, FOLDHERON_AT_PLACE, FOLDHERON_AT_WRITTEN};
-    unsigned given = foldheron_double_loops(block, call->block_size, out, (size_t)call->other, answer, FOLDHERON_DOUBLE_LOOPS_SIZE);
-    printf("copies");
-    put_numbers(given, at_written, 3);
-    put_until(out, (size_t)call->other, LENT);
+    put_written("copies", foldheron_double_loops(block, call->block_size, out, (size_t)call->other, answer, FOLDHERON_DOUBLE_LOOPS_SIZE), call);
+}
+
+static void answer_read_text(const struct call *call)
+{
+    put_written("readtext", foldheron_read_text(block, call->block_size, out, (size_t)call->other, answer, FOLDHERON_READ_TEXT_SIZE), call);
+}
+
+static void answer_write_text(const struct call *call)
+{
+    put_written("writetext", foldheron_write_text(block, call->block_size, out, (size_t)call->other, answer, FOLDHERON_WRITE_TEXT_SIZE), call);
 }
 
 int main(int argc, char **argv)
 {
-    static void (*const answers[])(const struct call *) = {answer_check, answer_fresh, answer_instant, answer_logged, answer_excerpt,
+    static void (*const answers[17])(const struct call *) = {NULL, answer_check, answer_fresh, answer_instant, answer_logged, answer_excerpt,
                                                              answer_heard, answer_heard_logged, answer_reason, answer_install, answer_fetch,
-                                                             answer_withdraw, answer_maze, answer_alike, answer_copies};
+                                                             answer_withdraw, answer_maze, answer_alike, answer_copies, answer_read_text, answer_write_text};
     struct call call;
     int more = -1;
     if (argc != 2) {
@@ -233,9 +248,9 @@ int main(int argc, char **argv)
         fprintf(stderr, "answer: %s: %s\n", argv[1], strerror(errno));
         return 1;
     }
-    while ((more = next_call(file, &call)) == 1 && call.kind >= 1 && call.kind <= 14) {
+    while ((more = next_call(file, &call)) == 1 && call.kind <= 16 && answers[call.kind] != NULL) {
         memset(answer, LENT, sizeof answer);
-        answers[call.kind - 1](&call);
+        answers[call.kind](&call);
         putchar('\n');
     }
     fclose(file);

@@ -80,7 +80,7 @@ static void try_layout(void)
     EXPECT(FOLDHERON_WITHDRAW_SIZE == 16 && FOLDHERON_REASON_SIZE == 40 && foldheron_number(bytes, FOLDHERON_AT_STATEMENT) == 4);
     EXPECT(FOLDHERON_WHY_REFUSED == 0 && FOLDHERON_WHY_PRESENT == 1 && FOLDHERON_WHY_NOT_EXECUTED == 2);
     EXPECT(FOLDHERON_ALIKE_SIZE == 32 && FOLDHERON_DOUBLE_LOOPS_SIZE == 24 && FOLDHERON_MAZE_SIZE == 40 && FOLDHERON_CORRIDOR_SIZE == 48);
-    EXPECT(FOLDHERON_RUN_MOST == 1024);
+    EXPECT(FOLDHERON_RUN_MOST == 1024 && FOLDHERON_WRITE_TEXT_SIZE == 24 && FOLDHERON_READ_TEXT_SIZE == 24 && FOLDHERON_TEXT_MOST == 137305);
 }
 
 /* The structs, against an answer whose n-th number is n. */
@@ -105,6 +105,8 @@ static void try_structs(void)
     EXPECT(a.number == 0 && a.place == 1 && a.block == 2 && a.length == 3);
     struct foldheron_double_loops_answer d = foldheron_read_double_loops(bytes);
     EXPECT(d.number == 0 && d.place == 1 && d.count == 2);
+    struct foldheron_text_answer t = foldheron_read_text_answer(bytes);
+    EXPECT(t.number == 0 && t.place == 1 && t.count == 2);
     struct foldheron_maze_answer m = foldheron_read_maze(bytes);
     EXPECT(m.number == 0 && m.place == 1 && m.winning == 2 && m.losing == 3 && m.drawn == 4);
     struct foldheron_corridor_answer w = foldheron_read_corridor(bytes);
@@ -593,6 +595,49 @@ static void try_double_loops(void)
     EXPECT(foldheron_double_loops(loop, sizeof loop, a.bytes, 42, a.bytes + 64, 23) == FOLDHERON_ANSWER && guarded(&a, 0));
 }
 
+/* The block as text: these bytes, or this refusal; no other lent byte changes. */
+static int shows(const uint8_t *bytes, size_t size, size_t room, uint16_t number, size_t place, const char *text)
+{
+    const uint64_t numbers[] = {number, place, strlen(text)};
+    struct lent a = lend(), out = lend();
+    uint16_t back = foldheron_write_text(bytes, size, out.bytes, room, a.bytes, FOLDHERON_WRITE_TEXT_SIZE);
+    return back == number && told(&a, FOLDHERON_WRITE_TEXT_SIZE, numbers) && memcmp(out.bytes, text, strlen(text)) == 0 && guarded(&out, strlen(text));
+}
+
+static void try_write_text(void)
+{
+    static const char text[] = "version 7;\ninput I0;\noutput O1;\nsuspend\n  pause;\n  emit O1\nwhen I0\n";
+    static const uint8_t looping[] = {14, 0, 1, 0, 1, 0, 7, 0, 0, 0, 0, 0, 0, 0, 4, 0, 22, 0, 4, 0, 16, 0};
+    struct lent a = lend();
+    EXPECT(shows(block, sizeof block, sizeof text - 1, 0, 0, text) && shows(block, sizeof block, 120, 0, 0, text));
+    EXPECT(shows(pauses, sizeof pauses, 120, 0, 0, "version 7;\npause;\npause\n"));
+    EXPECT(shows(block, sizeof block, sizeof text - 2, FOLDHERON_ROOM, 0, "") && shows(block, sizeof block, 0, FOLDHERON_ROOM, 0, ""));
+    EXPECT(shows(block, sizeof block - 1, 0, FOLDHERON_BROKEN, 28, "") && shows(looping, sizeof looping, 0, FOLDHERON_LOOP, 14, ""));
+    EXPECT(foldheron_write_text(block, sizeof block, a.bytes, 80, a.bytes + 80, 25) == FOLDHERON_ANSWER && guarded(&a, 0));
+}
+
+/* The block that a text stands for: these bytes, or this refusal; no other lent byte changes. */
+static int reads(const char *text, size_t room, uint16_t number, size_t place, const uint8_t *bytes, size_t count)
+{
+    const uint64_t numbers[] = {number, place, count};
+    struct lent a = lend(), out = lend();
+    uint16_t back = foldheron_read_text((const uint8_t *)text, strlen(text), out.bytes, room, a.bytes, FOLDHERON_READ_TEXT_SIZE);
+    return back == number && told(&a, FOLDHERON_READ_TEXT_SIZE, numbers) && memcmp(out.bytes, bytes, count) == 0 && guarded(&out, count);
+}
+
+static void try_read_text(void)
+{
+    static const char written[] = "version 7;\ninput I0;\noutput O1;\nsuspend\n  pause;\n  emit O1\nwhen I0\n";
+    static const char other[] = "version 7;input DEMAND;output RUN;[suspend pause;[emit RUN]when DEMAND]";
+    struct lent a = lend();
+    EXPECT(reads(written, sizeof block, 0, 0, block, sizeof block) && reads(other, 120, 0, 0, block, sizeof block));
+    EXPECT(reads(written, sizeof block - 1, FOLDHERON_ROOM, 0, block, 0) && reads("version 7;pause;pause", 120, 0, 0, pauses, sizeof pauses));
+    EXPECT(reads("", 0, FOLDHERON_TEXT, 0, block, 0) && reads("version 7;pause;", 0, FOLDHERON_TEXT, 16, block, 0));
+    EXPECT(reads("version 7;output O;emit P", 120, FOLDHERON_TEXT, 24, block, 0) && reads("version 7;pause || pause | pause", 120, FOLDHERON_TEXT, 25, block, 0));
+    EXPECT(reads("version 7;loop nothing end", 0, FOLDHERON_LOOP, 14, block, 0) && reads("version 7;input I;emit I", 0, FOLDHERON_SIGNAL, 14, block, 0));
+    EXPECT(foldheron_read_text((const uint8_t *)written, sizeof written - 1, a.bytes, 80, a.bytes + 80, 16) == FOLDHERON_ANSWER && guarded(&a, 0));
+}
+
 /* A emits itself, nobody emits B, and whether O is emitted rests on O: A wins, B loses, O draws. Unless I is there, O is emitted. */
 static void try_maze(void)
 {
@@ -666,6 +711,8 @@ int main(void)
     try_alike();
     try_pairs();
     try_double_loops();
+    try_write_text();
+    try_read_text();
     try_maze();
     try_corridor();
     printf("calls: %d wrong\n", wrong);

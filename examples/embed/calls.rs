@@ -5,6 +5,7 @@ use foldheron::{check, excerpt, fresh, instant, instant_heard, instant_heard_log
 use foldheron::{reason, Asked, Doubt, Instant, Logged, Reaction, Reason, Refusal, Summary};
 use foldheron::{alike, corridor, double_loops, maze, Corridor, Likeness, Room, Rooms, RUN_MOST};
 use foldheron::{fetch, install, withdraw, BLOCK_MOST, HELD_MOST, SHELF};
+use foldheron::{read_text, write_text, TEXT_MOST};
 use std::sync::atomic::{AtomicUsize, Ordering};
 
 static WRONG: AtomicUsize = AtomicUsize::new(0);
@@ -300,6 +301,30 @@ fn try_double_loops() {
     expect!(alike(&block, &twice, &mut run) == Likeness::Alike);
 }
 
+fn try_write_text() {
+    let text = b"version 7;\ninput I0;\noutput O1;\nsuspend\n  pause;\n  emit O1\nwhen I0\n";
+    let (mut out, size) = (vec![0xA5; TEXT_MOST], text.len());
+    expect!(write_text(&BLOCK, &mut out[..size - 1]) == Err(refused(12, 0)) && write_text(&BLOCK[..33], &mut out) == Err(refused(1, 28)));
+    expect!(out.iter().all(|&byte| byte == 0xA5));
+    expect!(write_text(&BLOCK, &mut out[..size]) == Ok(&text[..]) && write_text(&BLOCK, &mut out) == Ok(&text[..]));
+    expect!(out[size..].iter().all(|&byte| byte == 0xA5));
+}
+
+/// Texts are read in any layout and with any names.
+fn try_read_text() {
+    let text = b"version 7;input DEMAND;output RUN;[suspend pause;[emit RUN]when DEMAND]";
+    let mut out = [0xA5; BLOCK_MOST];
+    expect!(read_text(text, &mut out[..33]) == Err(refused(12, 0)) && read_text(b"version 7;loop nothing end", &mut out) == Err(refused(8, 14)));
+    expect!(read_text(b"version 7;output O;emit P", &mut out) == Err(refused(15, 24)) && read_text(b"", &mut out) == Err(refused(15, 0)));
+    expect!(out == [0xA5; BLOCK_MOST]);
+    expect!(read_text(text, &mut out) == Ok(&BLOCK) && out[34..] == [0xA5; BLOCK_MOST - 34]);
+    let (mut lent, mut again) = (vec![0; TEXT_MOST], [0; BLOCK_MOST]);
+    for block in [&BLOCK[..], &CYCLE, &PAUSES, &PLAIN, &UNLESS] {
+        let written = write_text(block, &mut lent).expect("a good block");
+        expect!(read_text(written, &mut again) == Ok(block));
+    }
+}
+
 /// In the cycle A wins, B loses and O draws; in the other block O is emitted unless I is there.
 fn try_maze() {
     expect!(maze(&CYCLE, 0) == Ok(Rooms { winning: 1, losing: 4, drawn: 2 }));
@@ -333,6 +358,7 @@ fn try_names() {
     expect!(name_of(0).is_none() && name_of(27).is_none() && name_of(64).is_none() && name_of(u16::MAX).is_none());
     expect!(refused(1, 28).to_string() == "refused with 1, BROKEN, at offset 28 of the block");
     expect!(refused(9, 0).to_string() == "refused with 9, STATE");
+    expect!(refused(15, 24).to_string() == "refused with 15, TEXT, at offset 24 of the text");
     let numbers = [answered(0, 0, 1, 0), Instant::Clash(0, 1), Instant::Refused(refused(12, 0))];
     expect!(numbers.iter().map(Instant::number).eq([0, 10, 12]));
 }
@@ -353,6 +379,8 @@ fn main() {
     try_reason();
     try_alike();
     try_double_loops();
+    try_write_text();
+    try_read_text();
     try_maze();
     try_names();
     let wrong = WRONG.load(Ordering::Relaxed);

@@ -1,7 +1,7 @@
 /* How much stack the calls take. Each is run on a stack of its own that was painted before, on blocks as deep as a block may be: 64
  * statements on a path, with up to 6 locals, 16 traps and any loops on it, from fresh and from the states that follow; the maze on such blocks of its form.
- * Prints how many calls took more than FOLDHERON_STACK_MOST, and FOLDHERON_ALIKE_STACK_MOST of two blocks compared; with a word, also the most that each call
- * took. Ends with 0 where none took more. */
+ * Prints how many calls took more than FOLDHERON_STACK_MOST, of two blocks compared FOLDHERON_ALIKE_STACK_MOST and of a text read FOLDHERON_READ_TEXT_STACK_MOST; with a
+ * word, also the most that each call took. Ends with 0 where none took more. */
 #define _XOPEN_SOURCE 600
 #include "foldheron.h"
 
@@ -12,9 +12,9 @@
 enum { DEEPEST = 64, ROOM = 1 << 17, PAINT = 0xA5, SPINES = 1500 };
 enum { PRESENT = 19, SUSPEND, SEQUENCE, LOOP, PARALLEL, TRAP, EXIT, LOCAL };
 
-enum { CHECK, FRESH, INSTANT, LOGGED, HEARD, HEARD_LOGGED, EXCERPT, REASON, INSTALL, FETCH, WITHDRAW, ALIKE, DOUBLE_LOOPS, MAZE, CORRIDOR, CALLS };
+enum { CHECK, FRESH, INSTANT, LOGGED, HEARD, HEARD_LOGGED, EXCERPT, REASON, INSTALL, FETCH, WITHDRAW, ALIKE, DOUBLE_LOOPS, WRITE_TEXT, READ_TEXT, MAZE, CORRIDOR, CALLS };
 static const char *const names[CALLS] = {"check",  "fresh",   "instant", "instant_logged", "instant_heard", "instant_heard_logged", "excerpt", "reason",
-                                         "install", "fetch", "withdraw", "alike", "double_loops", "maze", "corridor"};
+                                         "install", "fetch", "withdraw", "alike", "double_loops", "write_text", "read_text", "maze", "corridor"};
 static uint8_t block[FOLDHERON_BLOCK_MOST], state[FOLDHERON_STATE_SIZE], record[FOLDHERON_RECORD_SIZE], painted[ROOM];
 static size_t block_size, most[CALLS];
 static unsigned mazes;
@@ -27,8 +27,9 @@ static const uint8_t *top;
 static ucontext_t outside, inside;
 static uint32_t chance = 1;
 
-static uint8_t shelf[FOLDHERON_SHELF_SIZE], fetched[FOLDHERON_BLOCK_MOST], shown[FOLDHERON_RUN_MOST];
+static uint8_t shelf[FOLDHERON_SHELF_SIZE], fetched[FOLDHERON_BLOCK_MOST], shown[FOLDHERON_RUN_MOST], text[FOLDHERON_TEXT_MOST];
 static uint16_t room;
+static size_t text_size;
 
 /* A number below this one. */
 static unsigned any(unsigned below)
@@ -97,6 +98,11 @@ static void run(void)
     case WITHDRAW: number = foldheron_withdraw(shelf, sizeof shelf, 0, 0, a, FOLDHERON_WITHDRAW_SIZE); break;
     case ALIKE: number = foldheron_alike(block, block_size, block, block_size, shown, sizeof shown, a, FOLDHERON_ALIKE_SIZE); break;
     case DOUBLE_LOOPS: number = foldheron_double_loops(block, block_size, fetched, sizeof fetched, a, FOLDHERON_DOUBLE_LOOPS_SIZE); break;
+    case WRITE_TEXT:
+        number = foldheron_write_text(block, block_size, text, sizeof text, a, FOLDHERON_WRITE_TEXT_SIZE);
+        text_size = foldheron_read_text_answer(a).count;
+        break;
+    case READ_TEXT: number = foldheron_read_text(text, text_size, fetched, sizeof fetched, a, FOLDHERON_READ_TEXT_SIZE); break;
     case MAZE: number = foldheron_maze(block, block_size, inputs, a, FOLDHERON_MAZE_SIZE); break;
     default: number = foldheron_corridor(block, block_size, inputs, room, about, 2, 0, a, FOLDHERON_CORRIDOR_SIZE);
     }
@@ -105,7 +111,7 @@ static void run(void)
 /* Runs a call and counts the bytes from its caller's answer down to the lowest that is no longer painted. */
 static uint16_t measure(int which)
 {
-    size_t low = 0, limit = which == ALIKE ? FOLDHERON_ALIKE_STACK_MOST : FOLDHERON_STACK_MOST;
+    size_t low = 0, limit = which == ALIKE ? FOLDHERON_ALIKE_STACK_MOST : which == READ_TEXT ? FOLDHERON_READ_TEXT_STACK_MOST : FOLDHERON_STACK_MOST;
     call = which;
     memset(painted, PAINT, sizeof painted);
     getcontext(&inside);
@@ -141,6 +147,8 @@ static unsigned try_block(void)
         return 0;
     measure(EXCERPT);
     measure(DOUBLE_LOOPS);
+    measure(WRITE_TEXT);
+    measure(READ_TEXT);
     if (any(8) == 0)
         measure(ALIKE);
     measure(FRESH);
@@ -225,6 +233,7 @@ int main(int count, char **words)
         printf("%s: %lu bytes\n", names[n], (unsigned long)most[n]);
     if (count > 1)
         printf("%u instants answered, %u mazes\n", answered, mazes);
-    printf("stack: %d calls over %d bytes, or %d where two blocks are compared\n", over, FOLDHERON_STACK_MOST, FOLDHERON_ALIKE_STACK_MOST);
+    printf("stack: %d calls over %d bytes, or %d where two blocks are compared, or %d where a text is read\n", over, FOLDHERON_STACK_MOST,
+           FOLDHERON_ALIKE_STACK_MOST, FOLDHERON_READ_TEXT_STACK_MOST);
     return over != 0;
 }

@@ -15,7 +15,7 @@ use crate::fault::Fault;
 use crate::generate::{some_active, some_block, some_inputs, some_phase, Wish};
 use crate::heard_cases::{heard_edges, some_heard_case};
 use crate::kernel::{read_text, write_text};
-use crate::kernels::{some_text_case, text_edges};
+use crate::kernels::{some_text_case, some_written_case, text_edges, written_edges};
 use crate::maze::maze;
 use crate::mazes::{maze_edges, some_maze_case};
 use crate::mutate::some_mixed_block;
@@ -277,6 +277,7 @@ pub fn cases(family: Family, count: usize, seeds: &[u64]) -> Vec<Case> {
             Family::Maze => some_maze_case(&mut chance),
             Family::Alike => some_alike_case(&mut chance),
             Family::Copies => some_copies_case(&mut chance),
+            Family::Written => some_written_case(&mut chance),
             Family::Text => some_text_case(&mut chance),
             Family::Convert => some_convert_case(&mut chance),
         })
@@ -301,6 +302,7 @@ pub fn family_edges(family: Family) -> Vec<EdgeCall> {
         Family::Maze => maze_edges(),
         Family::Alike => alike_edges(),
         Family::Copies => copies_edges(),
+        Family::Written => written_edges(),
         Family::Text => text_edges(),
         Family::Convert => convert_edges(),
     }

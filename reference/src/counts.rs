@@ -8,6 +8,7 @@ use crate::cases::{Call, Case};
 use crate::doubles::nested_loops;
 use crate::family::{families, Family};
 use crate::fault::Fault;
+use crate::kernel::text_of;
 use crate::met::{holds, taken, Met};
 use crate::shelf::TRUE;
 use crate::shelf_model::Model;
@@ -114,6 +115,13 @@ const TEXTS: [Sort; 4] = [
     ("a text with brackets read", |seen| seen.is("readtext") && seen.number() == 0 && seen.case.block.contains(&b'[')),
     ("15 past the header", |seen| seen.number() == 15 && seen.words[1] > 30),
     ("15 at the end", |seen| seen.number() == 15 && seen.words[1] == seen.case.block.len() as u64),
+];
+
+/// The sorts of texts that are written.
+const WRITTEN: [Sort; 3] = [
+    ("a text of 1,000 bytes or more written", |seen| seen.written().len() >= 1000),
+    ("a text with brackets written", |seen| seen.written().contains('[')),
+    ("a text with an exit written", |seen| seen.written().contains("exit T")),
 ];
 
 /// The sorts of conversions: number, place, size.
@@ -227,6 +235,12 @@ impl<'a> Seen<'a> {
         }
     }
 
+    /// The text that was written for a block.
+    fn written(&self) -> String {
+        let block = self.block.as_ref().filter(|_| self.is("writetext") && self.number() == 0);
+        block.map_or(String::new(), |block| text_of(block, Fault::None))
+    }
+
     /// Whether the word at this place has an output in a maze that was given.
     fn ends(&self, at: usize) -> bool {
         let outputs = |block: &Block| signal_bits(block.header.inputs, block.header.outputs);
@@ -336,7 +350,7 @@ fn numbered(call: &str, number: usize) -> String {
 pub fn sorts(case: &Case) -> Vec<String> {
     let seen = Seen::new(case);
     let mut sorts = vec![numbered(case.name(), seen.number())];
-    let named = SORTS.iter().chain(&HEARD).chain(&WHY).chain(&SHELVES).chain(&MAZES).chain(&ALIKE).chain(&COPIES).chain(&TEXTS).chain(&CONVERTS);
+    let named = SORTS.iter().chain(&HEARD).chain(&WHY).chain(&SHELVES).chain(&MAZES).chain(&ALIKE).chain(&COPIES).chain(&WRITTEN).chain(&TEXTS).chain(&CONVERTS);
     sorts.extend(named.filter(|sort| (sort.1)(&seen)).map(|sort| sort.0.to_string()));
     sorts
 }
@@ -351,6 +365,7 @@ fn named_sorts(families: &[Family]) -> Vec<&'static str> {
         Family::Maze => &MAZES[..],
         Family::Alike => &ALIKE[..],
         Family::Copies => &COPIES[..],
+        Family::Written => &WRITTEN[..],
         Family::Text => &TEXTS[..],
         Family::Convert => &CONVERTS[..],
     };

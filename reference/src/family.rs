@@ -1,7 +1,7 @@
 //! Families of calls: those of the statement, and those that a later request added. Each has cases, sorts and faults of its own.
 
 use crate::cases::{Call, Case};
-use crate::fault::{Fault, ALIKE, CHECKS, CONVERTS, COPIES, HEARD, LENT, MAZES, RULES, SHELVES, TEXTS, WHY};
+use crate::fault::{Fault, ALIKE, CHECKS, CONVERTS, COPIES, HEARD, LENT, MAZES, RULES, SHELVES, TEXTS, WHY, WRITTEN};
 
 #[derive(Clone, Copy, PartialEq, Eq, Debug)]
 pub enum Family {
@@ -19,14 +19,17 @@ pub enum Family {
     Alike,
     /// Loop bodies doubled.
     Copies,
-    /// Blocks as text.
+    /// Blocks written as text.
+    Written,
+    /// Blocks read from text.
     Text,
     /// Edition 2 converted.
     Convert,
 }
 
-pub const FAMILIES: [Family; 9] = [
-    Family::Base, Family::Heard, Family::Why, Family::Shelf, Family::Maze, Family::Alike, Family::Copies, Family::Text, Family::Convert,
+pub const FAMILIES: [Family; 10] = [
+    Family::Base, Family::Heard, Family::Why, Family::Shelf, Family::Maze, Family::Alike, Family::Copies, Family::Written, Family::Text,
+    Family::Convert,
 ];
 
 impl Family {
@@ -44,6 +47,7 @@ impl Family {
             Family::Maze => "maze",
             Family::Alike => "alike",
             Family::Copies => "copies",
+            Family::Written => "written",
             Family::Text => "text",
             Family::Convert => "convert",
         }
@@ -58,7 +62,8 @@ impl Family {
             Family::Maze => &["maze"],
             Family::Alike => &["alike"],
             Family::Copies => &["copies"],
-            Family::Text => &["readtext", "writetext"],
+            Family::Written => &["writetext"],
+            Family::Text => &["readtext"],
             Family::Convert => &["convert"],
         }
     }
@@ -71,8 +76,8 @@ impl Family {
             Family::Why => 8000,
             Family::Shelf => 1600,
             Family::Maze => 4000,
-            Family::Alike | Family::Copies | Family::Convert => 2000,
-            Family::Text => 8000,
+            Family::Alike | Family::Copies | Family::Written | Family::Convert => 2000,
+            Family::Text => 6000,
         }
     }
 
@@ -86,6 +91,7 @@ impl Family {
             Family::Maze => MAZES.to_vec(),
             Family::Alike => ALIKE.to_vec(),
             Family::Copies => COPIES.to_vec(),
+            Family::Written => WRITTEN.to_vec(),
             Family::Text => TEXTS.to_vec(),
             Family::Convert => CONVERTS.to_vec(),
         }
@@ -100,7 +106,8 @@ impl Family {
             Call::Alike { .. } => Family::Alike,
             Call::Copies { .. } => Family::Copies,
             Call::Convert { .. } => Family::Convert,
-            Call::ReadText { .. } | Call::WriteText { .. } => Family::Text,
+            Call::WriteText { .. } => Family::Written,
+            Call::ReadText { .. } => Family::Text,
             _ => Family::Base,
         }
     }

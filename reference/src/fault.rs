@@ -303,8 +303,12 @@ faults! {
         ScopeNeverLeft: "a name holds behind its scope too",
         MarksTurned: "a parallel binds tighter than a sequence",
         JoinedToTheLeft: "sequences and parallels join to the left",
-        TextRoomLow: "one byte less is enough for what is written",
-        TextRoomHigh: "one byte more is asked for what is written",
+        TextRoomLow: "one byte less is enough for the block of a text",
+        TextRoomHigh: "one byte more is asked for the block of a text",
+    }
+    WRITTEN {
+        WrittenRoomLow: "one byte less is enough for a text",
+        WrittenRoomHigh: "one byte more is asked for a text",
         TrapOneOff: "an exit is written with the next trap's name",
         FirstWithoutBrackets: "a first part that is a sequence is written without brackets",
         NeedlessBrackets: "a second part that is a sequence is written with brackets",

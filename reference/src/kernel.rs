@@ -387,8 +387,8 @@ pub fn write_text(block: &[u8], out: &mut [u8], fault: Fault) -> (Answer, usize)
 
 fn written(bytes: &[u8], out: &mut [u8], fault: Fault) -> (Answer, usize) {
     let short = match fault {
-        Fault::TextRoomLow => out.len() + 1 < bytes.len(),
-        Fault::TextRoomHigh => out.len() < bytes.len() + 1,
+        Fault::TextRoomLow | Fault::WrittenRoomLow => out.len() + 1 < bytes.len(),
+        Fault::TextRoomHigh | Fault::WrittenRoomHigh => out.len() < bytes.len() + 1,
         _ => out.len() < bytes.len(),
     };
     if short {

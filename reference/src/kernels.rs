@@ -412,31 +412,45 @@ impl Speller {
     }
 }
 
-/// A random call: a text that is good, damaged or of random tokens; or a block to be written.
-pub fn some_text_case(chance: &mut Chance) -> Case {
-    let (mut bytes, block) = match chance.weighed(&[70, 20, 10]) {
+/// A block to be said in a text.
+fn some_said_block(chance: &mut Chance) -> (Vec<u8>, Block) {
+    let (mut bytes, block) = match chance.weighed(&[70, 17, 3, 10]) {
         0 => some_mixed_block(chance, 1, 16),
         1 => {
             let wish = Wish::some(chance, 5, 40);
             some_block(chance, wish)
         }
+        2 => {
+            let wish = Wish { inputs: chance.below(20) as u16, outputs: 20, ..Wish::some(chance, 60, 480) };
+            some_block(chance, wish)
+        }
         _ => some_edge_block(chance),
     };
     let block = with_version(&mut bytes, block, chance);
-    if chance.percent(30) {
-        let size = decode(&bytes, Fault::None).map_or(40, |block| text_of(&block, Fault::None).len());
-        if !bytes.is_empty() && chance.percent(10) {
-            spoil(&mut bytes, chance);
-        }
-        let room = chance.pick(&[size + 40, size, size, size + 1, size - 1, 0]);
-        return Case { block: bytes, call: Call::WriteText { room } };
+    (bytes, block)
+}
+
+/// A random call that writes the text of a block.
+pub fn some_written_case(chance: &mut Chance) -> Case {
+    let (mut bytes, _) = some_said_block(chance);
+    let size = decode(&bytes, Fault::None).map_or(40, |block| text_of(&block, Fault::None).len());
+    if !bytes.is_empty() && chance.percent(10) {
+        spoil(&mut bytes, chance);
     }
+    let room = chance.pick(&[size + 40, size, size, size + 1, size - 1, 0]);
+    Case { block: bytes, call: Call::WriteText { room } }
+}
+
+/// A random call that reads a text: a good one, a damaged one, or one of random tokens.
+pub fn some_text_case(chance: &mut Chance) -> Case {
+    let (bytes, block) = some_said_block(chance);
     let text = match chance.weighed(&[45, 45, 10]) {
         0 => some_text(&block, chance),
         1 => damaged(some_text(&block, chance), chance),
         _ => some_tokens(chance),
     };
-    let room = chance.pick(&[3086, 3086, 3086, bytes.len(), bytes.len() + 1, bytes.len().saturating_sub(1), 0]);
+    let size = bytes.len().min(4000);
+    let room = chance.pick(&[3086, 3086, 3086, size, size + 1, size.saturating_sub(1), 0]);
     Case { block: text.into_bytes(), call: Call::ReadText { room } }
 }
 
@@ -518,10 +532,9 @@ const WORKED: [(&str, &str); 46] = [
 00+bca"),
 ];
 
-/// The calls on texts at their boundaries.
+/// The call that reads a text at its boundaries.
 pub fn text_edges() -> Vec<EdgeCall> {
     let read = |text: &str, room: usize| Case { block: text.as_bytes().to_vec(), call: Call::ReadText { room } };
-    let write = |block: Vec<u8>, room: usize| Case { block, call: Call::WriteText { room } };
     let mut edges: Vec<EdgeCall> = WORKED.iter().map(|&(text, wanted)| (read(text, 3086), wanted)).collect();
     let small = large_texts().into_iter().filter(|(text, _)| text.len() < 12_000);
     let numbers = |(number, place): (u16, usize)| -> &'static str { Box::leak(format!("{number:x} {place:x}").into_boxed_str()) };
@@ -531,6 +544,13 @@ pub fn text_edges() -> Vec<EdgeCall> {
     }
     edges.push((read("version 1;output A;", 0), "f 13 0 -+0"));
     edges.push((read("version 1;loop nothing end", 0), "8 e 0 -+0"));
+    edges
+}
+
+/// The call that writes a text at its boundaries.
+pub fn written_edges() -> Vec<EdgeCall> {
+    let write = |block: Vec<u8>, room: usize| Case { block, call: Call::WriteText { room } };
+    let mut edges: Vec<EdgeCall> = Vec::new();
     // 76657273696f6e20313b0a6e6f7468696e670a: version 1; and nothing, a line each.
     let nothing = block_of(0, 0, "nothing");
     for (room, wanted) in [(19, "0 0 13 76657273696f6e20313b0a6e6f7468696e670a+0"), (20, "0 0 13"), (18, "c 0 0 -+12"), (0, "c 0 0 -+0")] {

@@ -105,8 +105,8 @@ const USAGE: &str = "subcommands:
   antt-bite SEED    the smallest row for each wrong rule
   selftest          all of these that can fail
 CASES are [FAMILY] N SEED.. (seeds 1 2 3 4) or a file of calls; families are base (20000 cases), heard
-and why (8000 each), shelf (1600), maze (4000), alike, copies
-and convert (2000 each) and text (8000)";
+and why (8000 each), shelf (1600), maze (4000), alike, copies,
+written and convert (2000 each) and text (6000)";
 
 fn main() {
     let words: Vec<String> = env::args().skip(1).collect();

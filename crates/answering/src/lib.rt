@@ -1,11 +1,16 @@
 // The public calls, each answered with a line on standard output: the name of the call, every number of its answer, and every byte that was lent to be
 // written, as it is after the call; of a part that comes back its bytes. reference/README.md says how the lines are written.
-mod blocks;
-mod shelves;
-
+use block_lines::blocks;
+use block_lines::shelves;
 use printing::put;
-use printing::put_bytes;
-use printing::put_numbers;
+use state_lines::check;
+use state_lines::excerpt;
+use state_lines::fresh;
+use state_lines::heard;
+use state_lines::heard_logged;
+use state_lines::instant;
+use state_lines::logged;
+use state_lines::reason;
 
 // A case: which call it is, how many bytes are lent to it, and its numbers.
 pub struct Case {
@@ -48,7 +53,7 @@ fn line(case: Case, block: &[u8], state: &mut [u8], log: &mut [u8]) {
             case.other,
         ),
         12 => blocks::maze(block, case.inputs),
-        14 => blocks::written(kind, block, b"", case.other as usize),
+        14..=16 => blocks::written(kind, block, b"", case.other as usize),
         _ => no_call(),
     }
 }
@@ -72,68 +77,4 @@ fn line_beside(case: Case, block: &[u8], beside: &mut [u8]) {
 
 fn no_call() {
     put(b"no such call");
-}
-
-fn check(block: &[u8]) {
-    let numbers = answers::check(block);
-    put(b"check");
-    put_numbers(&numbers, 8);
-}
-
-fn fresh(block: &[u8], state: &mut [u8]) {
-    let numbers = answers::fresh(block, state);
-    put(b"fresh");
-    put_numbers(&numbers, 2);
-    put_bytes(state);
-}
-
-fn instant(block: &[u8], state: &mut [u8], inputs: u64) {
-    let numbers = answers::instant(block, state, inputs);
-    put(b"instant");
-    put_numbers(&numbers, 10);
-    put_bytes(state);
-}
-
-fn logged(block: &[u8], state: &mut [u8], inputs: u64, log: &mut [u8], end: u64) {
-    let numbers = answers::logged(block, state, inputs, log, end);
-    put(b"logged");
-    put_numbers(&numbers, 11);
-    put_bytes(state);
-    put_bytes(log);
-}
-
-fn excerpt(block: &[u8], n: u64) {
-    let mut numbers = [0u64; 11];
-    let part = answers::excerpt(block, n, &mut numbers);
-    put(b"excerpt");
-    put_numbers(&numbers, 2);
-    put_bytes(part);
-}
-
-fn heard(block: &[u8], state: &mut [u8], present: u64, absent: u64) {
-    let numbers = answers::heard(block, state, present, absent);
-    put(b"heard");
-    put_numbers(&numbers, 10);
-    put_bytes(state);
-}
-
-fn heard_logged(
-    block: &[u8],
-    state: &mut [u8],
-    present: u64,
-    absent: u64,
-    log: &mut [u8],
-    end: u64,
-) {
-    let numbers = answers::heard_logged(block, state, present, absent, log, end);
-    put(b"heardlogged");
-    put_numbers(&numbers, 11);
-    put_bytes(state);
-    put_bytes(log);
-}
-
-fn reason(block: &[u8], state: &[u8], present: u64, absent: u64, question: u64, about: u64) {
-    let numbers = answers::reason(block, state, present, absent, question, about);
-    put(b"reason");
-    put_numbers(&numbers, 5);
 }

@@ -1,4 +1,4 @@
-// The answers of the calls that take blocks alone, with no state: the maze, two blocks compared, and loop bodies doubled.
+// The answers of the calls that take blocks alone, with no state: the maze, two blocks compared, loop bodies doubled, and blocks as text.
 use crate::refused;
 use foldheron::Likeness;
 use foldheron::Maze;
@@ -18,7 +18,7 @@ const SECOND: usize = 2;
 
 const LENGTH: usize = 3;
 
-// Of a block that is written.
+// Of what is written.
 const SIZE: usize = 2;
 
 // The number and place of a refusal, and WINNING to DRAWN.
@@ -52,7 +52,18 @@ pub fn alike(first: &[u8], second: &[u8], run: &mut [u8]) -> [u64; 11] {
 
 // The same, and SIZE.
 pub fn copies(block: &[u8], out: &mut [u8]) -> [u64; 11] {
-    let answer = foldheron::double_loops(block, out);
+    wrote(foldheron::double_loops(block, out))
+}
+
+pub fn read_text(text: &[u8], block: &mut [u8]) -> [u64; 11] {
+    wrote(foldheron::read_text(text, block))
+}
+
+pub fn write_text(block: &[u8], text: &mut [u8]) -> [u64; 11] {
+    wrote(foldheron::write_text(block, text))
+}
+
+fn wrote(answer: Wrote) -> [u64; 11] {
     match answer {
         Wrote::Bytes(size) => told(refused(0, 0), SIZE, size),
         Wrote::Refused(why, place) => refused(number_of(why), place),

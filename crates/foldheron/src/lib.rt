@@ -1,6 +1,6 @@
 // What users call: the check of a block, a fresh state for it, one instant, one with a log record, an excerpt of a block, the reason of an
-// instant, the calls on a shelf of blocks: install, fetch and withdraw; whether two blocks are alike, a block with its loop bodies doubled, and
-// the maze of a block with its corridors.
+// instant, the calls on a shelf of blocks: install, fetch and withdraw; whether two blocks are alike, a block with its loop bodies doubled, the maze
+// of a block with its corridors, and blocks as text.
 pub mod say_why;
 
 pub use alike::Likeness;
@@ -23,6 +23,7 @@ use reaction::Met;
 pub use reaction::Reaction;
 use reaction::comes_to;
 use reaction::tests::front;
+pub use read_text::read_text;
 pub use reasons::asked::Asked;
 use records::log::no_room;
 use records::log::write_at_end;
@@ -40,6 +41,7 @@ pub use shelf::withdraw;
 pub use tables::kinds::Code;
 use tables::kinds::wide;
 use words::events::Heard;
+pub use write_text::write_text;
 pub use writing::Wrote;
 ghost use mathlib.Core.Path.{_≡_};
 ghost use mathlib.Core.Bool.{false};

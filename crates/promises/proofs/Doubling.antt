@@ -14,7 +14,6 @@ use borrow.Author.Tests.{ltb-true, ltb-false}
 use Rattle.sets.specs.Words.{word}
 use Rattle.refusals.specs.Refusals.{number, why-of}
 use Rattle.refusals.specs.declared.Why.the-variants as Why
-use Rattle.refusals.proofs.Laws.{numbers-differ, number-above}
 use Rattle.rules.specs.Statements.{Block, Stmt}
 use Rattle.rules.specs.Events.{Status, present, absent, unknown, Hearing}
 use Rattle.rules.specs.States.{State}
@@ -62,6 +61,7 @@ use Rattle.promises.proofs.FirstRefusal.{past-block, of-the-block}
 use Rattle.promises.proofs.Demand1.{anywhere}
 use Rattle.promises.proofs.Likeness.{one-reading}
 use Rattle.promises.proofs.Calls.{good-is-read}
+use Rattle.promises.proofs.Written.{wrote-told-apart, refused-stays}
 use Rattle.promises.proofs.Beside.{few, declared, answer-from, told-from-fresh, beside}
 
 abbrev InLimits : Good → Type 0
@@ -211,13 +211,6 @@ double-loops-returns = record { nothing-asked = λ κs a. tt; returns = λ M. do
 nth : ℕ → List ℕ → ℕ
 nth n l = getD l n 0
 
-wrote-told-apart : (x y : Wrote) → wrote-values x ≡ wrote-values y → x ≡ y
-unfolding wrote-values nth
-wrote-told-apart (Wrote.Bytes n) (Wrote.Bytes k) e = ap Wrote.Bytes (ap (nth 2) e)
-wrote-told-apart (Wrote.Bytes n) (Wrote.Refused w at) e = absurd (number-above w (sym (ap (nth 0) e)))
-wrote-told-apart (Wrote.Refused v at) (Wrote.Bytes k) e = absurd (number-above v (ap (nth 0) e))
-wrote-told-apart (Wrote.Refused v at) (Wrote.Refused w place) e = λ i. Wrote.Refused (numbers-differ v w (ap (nth 0) e) i) (ap (nth 1) e i)
-
 a-doubling : (b : List ℕ) (lent : ℕ) → (r : Wrote) × (wrote-values r ≡ wrote-owed (roomed (doubling b) lent))
 unfolding wrote-values wrote-owed number
 a-doubling b lent =
@@ -272,12 +265,8 @@ module _ (b : List ℕ) where
 
   -- and a refusal leaves every lent byte.
   pub a-refused-double-loops-changes-nothing : {out out′ : List ℕ} {r : Wrote} → DoubleCalled b out r out′ → number-in (wrote-values r) ≢ 0 → out′ ≡ out
-  unfolding wrote-owed out-owed
-  a-refused-double-loops-changes-nothing {out} c h = double-says c .1 ∙ stays (roomed (doubling b) (length out)) (λ z. h (ap number-in (double-says c .0) ∙ z))
-    where
-      stays : (w : Writing) → number-in (wrote-owed w) ≢ 0 → out-owed w out ≡ out
-      stays (writes bs) k = absurd (k refl)
-      stays (refuses n at) k = refl
+  a-refused-double-loops-changes-nothing {out} c h =
+      double-says c .1 ∙ refused-stays (roomed (doubling b) (length out)) out (λ z. h (ap number-in (double-says c .0) ∙ z))
 
   -- "Prove that from fresh, any input run gives the same outputs, codes and 13 on both blocks": what was written is checked Good, with the header else kept, and is told the same
   -- by calls from fresh.

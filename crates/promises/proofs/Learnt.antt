@@ -28,6 +28,8 @@ use Rattle.alike.specs.Calls as alike
 use Rattle.writing.specs.declared.Wrote.{Wrote}
 use Rattle.writing.specs.Answers.{roomed, wrote-values, wrote-owed, out-owed}
 use Rattle.doubled.specs.Copies.{doubling}
+use Rattle.text.specs.Reader.{text-read}
+use Rattle.write_text.specs.WriteText.{text-writing}
 use Rattle.maze.specs.declared.Maze.{Maze}
 use Rattle.maze.specs.declared.Room.{Room}
 use Rattle.maze.specs.declared.Corridor.{Corridor}
@@ -37,7 +39,7 @@ use Rattle.reaction.specs.Answers.{instant-told}
 use Rattle.refusals.specs.Refusals.{number}
 use Rattle.foldheron.specs.Answers.{check-values, check-owed, begun-values, begun-owed, state-owed, part-owed, part-lies}
 use Rattle.promises.specs.Calls.{_holds_, CheckCalled, FreshCalled, CalledFor, LoggedFor, with-set, with-two, PartCalled, ExcerptCalled, ReasonCalled}
-use Rattle.promises.specs.Calls.{InstallCalled, FetchCalled, WithdrawCalled, NumberCalled, AlikeCalled, DoubleCalled, MazeCalled, CorridorCalled}
+use Rattle.promises.specs.Calls.{InstallCalled, FetchCalled, WithdrawCalled, NumberCalled, AlikeCalled, DoubleCalled, WriteTextCalled, ReadTextCalled, MazeCalled, CorridorCalled}
 
 module _ (b : List ℕ) where
   pub check-says : {r : Checked} → CheckCalled b r → check-values r ≡ check-owed (reading b)
@@ -118,6 +120,14 @@ alike-says c = c .call .learnt
 pub double-says : {b out out′ : List ℕ} {r : Wrote} → DoubleCalled b out r out′
     → (wrote-values r ≡ wrote-owed (roomed (doubling b) (length out))) × (out′ ≡ out-owed (roomed (doubling b) (length out)) out)
 double-says c = c .call .learnt
+
+pub write-text-says : {b out out′ : List ℕ} {r : Wrote} → WriteTextCalled b out r out′
+    → (wrote-values r ≡ wrote-owed (roomed (text-writing b) (length out))) × (out′ ≡ out-owed (roomed (text-writing b) (length out)) out)
+write-text-says c = c .call .learnt
+
+pub read-text-says : {text out out′ : List ℕ} {r : Wrote} → ReadTextCalled text out r out′
+    → (wrote-values r ≡ wrote-owed (roomed (text-read text) (length out))) × (out′ ≡ out-owed (roomed (text-read text) (length out)) out)
+read-text-says c = c .call .learnt
 
 pub maze-says : {b : List ℕ} {set : ℕ} {r : Maze} → MazeCalled b set r → Views (view b set) r
 maze-says c = c .call .learnt

@@ -20,7 +20,10 @@ pub mod Shelves
 pub mod Beside
 pub mod LikeRuns
 pub mod Likeness
+pub mod Written
 pub mod Doubling
+pub mod Texts
+pub mod ReadTexts
 pub mod MazeInstants
 pub mod Mazes
 pub mod Promises

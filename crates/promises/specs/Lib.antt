@@ -9,4 +9,5 @@ pub mod Shelves
 pub mod Beside
 pub mod Likeness
 pub mod Doubling
+pub mod Texts
 pub mod Mazes

@@ -40,9 +40,13 @@ unfolding wrote-owed
 wrote-counted true bs n at l = record { counted = refl; small = l }
 wrote-counted false bs n at l = record { counted = refl; small = lit≤ tt }
 
+pub fit-counted : (lent : ℕ) (bs : List ℕ) → Counted 3 (wrote-owed (roomed (writes bs) lent))
+unfolding roomed wrote-owed
+fit-counted lent bs = wrote-counted (ltb lent (length bs)) bs 12 0 (lit≤ tt)
+
 roomed-counted : (lent : ℕ) (t : Bool) (bs : List ℕ) → Counted 3 (wrote-owed (roomed (cond t (writes bs) (refuses LIMIT 0)) lent))
 unfolding roomed wrote-owed
-roomed-counted lent true bs = wrote-counted (ltb lent (length bs)) bs 12 0 (lit≤ tt)
+roomed-counted lent true bs = fit-counted lent bs
 roomed-counted lent false bs = record { counted = refl; small = lit≤ tt }
 
 pub doubling-counted : (b out : List ℕ) → Counted 3 (doubling-owed b out)

@@ -1,4 +1,4 @@
--- The values of the calls on whole blocks, in their order: two blocks compared, loops doubled, the maze and its corridors. Assumes nothing.
+-- The values of the calls on whole blocks, in their order: two blocks compared, loops doubled, blocks as text, the maze and its corridors. Assumes nothing.
 use mathlib.Core.Path.{_≡_}
 use mathlib.Core.Bool.{cond}
 use mathlib.Core.List.{List, [], _∷_}
@@ -10,6 +10,8 @@ use Rattle.refusals.specs.Refusals.{number}
 use Rattle.mazes.specs.Mazes.{Room, signal, part, gate, dungeon, visible, secret}
 use Rattle.writing.specs.Answers.{roomed, wrote-owed, out-owed}
 use Rattle.doubled.specs.Copies.{doubling}
+use Rattle.text.specs.Reader.{text-read}
+use Rattle.write_text.specs.WriteText.{text-writing}
 use Rattle.alike.specs.Calls.{front, Owed}
 use Rattle.alike.specs.declared.Likeness.{Likeness}
 use Rattle.alike.specs.declared.Likeness.the-variants as told
@@ -38,6 +40,20 @@ doubling-owed b out = wrote-owed (roomed (doubling b) (length out))
 
 abbrev pub doubling-leaves : List ℕ → List ℕ → List ℕ
 doubling-leaves b out = out-owed (roomed (doubling b) (length out)) out
+
+-- The same of the text that is written for a block.
+abbrev pub text-owed : List ℕ → List ℕ → List ℕ
+text-owed b out = wrote-owed (roomed (text-writing b) (length out))
+
+abbrev pub text-leaves : List ℕ → List ℕ → List ℕ
+text-leaves b out = out-owed (roomed (text-writing b) (length out)) out
+
+-- And of the block that a text stands for.
+abbrev pub block-owed : List ℕ → List ℕ → List ℕ
+block-owed text out = wrote-owed (roomed (text-read text) (length out))
+
+abbrev pub block-leaves : List ℕ → List ℕ → List ℕ
+block-leaves text out = out-owed (roomed (text-read text) (length out)) out
 
 -- A maze's: number, place, and the signals whose rooms win, lose and draw.
 unfoldable pub maze-values : Maze → List ℕ

@@ -21,14 +21,14 @@ pub struct Summary {
     pub pauses: u16,
 }
 
-/// A call that was turned down: the number and the place, an offset in the block. The place of a number above 8 is 0.
+/// A call that was turned down: the number and the place, of 1 to 8 an offset in the block, of 15 one in the text, else 0.
 #[derive(Clone, Copy, PartialEq, Eq, Debug)]
 pub struct Refusal {
     pub number: u16,
     pub place: usize,
 }
 
-/// The name of a refusal's number; none of a number that has none. 15 is of calls that are still to come.
+/// The name of a refusal's number; none of a number that has none.
 pub fn name_of(number: u16) -> Option<&'static str> {
     Some(match number {
         1 => "BROKEN",
@@ -66,6 +66,7 @@ impl fmt::Display for Refusal {
         write!(f, "refused with {}, {}", self.number, name_of(self.number).unwrap_or("which has no name"))?;
         match self.number {
             1..=8 => write!(f, ", at offset {} of the block", self.place),
+            15 => write!(f, ", at offset {} of the text", self.place),
             _ => Ok(()),
         }
     }
@@ -222,6 +223,8 @@ pub const RECORD: usize = 32;
 pub const SHELF: usize = 65_536;
 /// How many bytes of entries each of its two parties may hold: of each entry 8 and its block's.
 pub const HELD_MOST: usize = 32_768;
+/// How many bytes the text of a block has at most.
+pub const TEXT_MOST: usize = 137_305;
 /// How many bytes a run has to be lent at least: as many as one that is written may have.
 pub const RUN_MOST: usize = 1024;
 
@@ -335,6 +338,23 @@ pub fn double_loops<'a>(block: &[u8], out: &'a mut [u8]) -> Result<&'a [u8], Ref
     let a = raw::double_loops(block, out);
     refusal(&a)?;
     Ok(&out[..number(&a, 2) as usize])
+}
+
+/// The block as text, in the grammar of `docs/FORMAT.md`, written to the front of the lent bytes: the part that it fills is handed back, and no other byte of
+/// them changes. `TEXT_MOST` bytes are enough for any. A block has one text, which is ASCII: signals are named `I0`, `O1` or `S2` by their numbers, traps `T0`, `T1` ..
+pub fn write_text<'a>(block: &[u8], text: &'a mut [u8]) -> Result<&'a [u8], Refusal> {
+    let a = raw::write_text(block, text);
+    refusal(&a)?;
+    Ok(&text[..number(&a, 2) as usize])
+}
+
+/// The block that a text stands for, written to the front of the lent bytes: the part that it fills is handed back, and no other byte of them changes. `BLOCK_MOST` bytes are
+/// enough for any. Names are not kept. A text outside the grammar, or with a name at fault, is refused with 15 at the first byte of the token at fault, or at its end; then the block
+/// with 1 to 8, the place being an offset in that block.
+pub fn read_text<'a>(text: &[u8], block: &'a mut [u8]) -> Result<&'a [u8], Refusal> {
+    let a = raw::read_text(text, block);
+    refusal(&a)?;
+    Ok(&block[..number(&a, 2) as usize])
 }
 
 /// Whose rooms win, lose and draw in the maze of the block's first instant with these inputs present and the others absent: the signals that are present, absent

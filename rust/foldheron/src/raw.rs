@@ -42,6 +42,12 @@ extern "C" {
     fn foldheron_double_loops(
         block: *const u8, block_len: usize, out: *mut u8, out_len: usize, answer: *mut u8, answer_len: usize,
     ) -> u16;
+    fn foldheron_write_text(
+        block: *const u8, block_len: usize, text: *mut u8, text_len: usize, answer: *mut u8, answer_len: usize,
+    ) -> u16;
+    fn foldheron_read_text(
+        text: *const u8, text_len: usize, block: *mut u8, block_len: usize, answer: *mut u8, answer_len: usize,
+    ) -> u16;
     fn foldheron_maze(block: *const u8, block_len: usize, inputs: u64, answer: *mut u8, answer_len: usize) -> u16;
     fn foldheron_corridor(
         block: *const u8, block_len: usize, inputs: u64, room: u16, first: usize, second: usize, n: usize, answer: *mut u8,
@@ -152,6 +158,20 @@ pub fn double_loops(block: &[u8], out: &mut [u8]) -> [u8; 24] {
     let mut answer = [0; 24];
     let (lent, size) = (out.as_mut_ptr(), out.len());
     let number = unsafe { foldheron_double_loops(block.as_ptr(), block.len(), lent, size, answer.as_mut_ptr(), answer.len()) };
+    told(number, answer)
+}
+
+pub fn write_text(block: &[u8], text: &mut [u8]) -> [u8; 24] {
+    let mut answer = [0; 24];
+    let (lent, size) = (text.as_mut_ptr(), text.len());
+    let number = unsafe { foldheron_write_text(block.as_ptr(), block.len(), lent, size, answer.as_mut_ptr(), answer.len()) };
+    told(number, answer)
+}
+
+pub fn read_text(text: &[u8], block: &mut [u8]) -> [u8; 24] {
+    let mut answer = [0; 24];
+    let (lent, size) = (block.as_mut_ptr(), block.len());
+    let number = unsafe { foldheron_read_text(text.as_ptr(), text.len(), lent, size, answer.as_mut_ptr(), answer.len()) };
     told(number, answer)
 }
 

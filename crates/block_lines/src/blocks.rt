@@ -6,14 +6,14 @@ use printing::put_until;
 // What is lent for an output holds this byte, with which none ends.
 const LENT: u8 = 165;
 
-pub(crate) fn maze(block: &[u8], inputs: u64) {
+pub fn maze(block: &[u8], inputs: u64) {
     let numbers = answers::blocks::maze(block, inputs);
     put(b"maze");
     put_numbers(&numbers, 5);
 }
 
 // A call that writes an output, into so many bytes; the line of one that lends more than there is stays empty.
-pub(crate) fn written(kind: u64, block: &[u8], beside: &[u8], size: usize) {
+pub fn written(kind: u64, block: &[u8], beside: &[u8], size: usize) {
     let mut out = [LENT; 65536];
     written_front(kind, block, beside, &mut out, size);
 }
@@ -27,7 +27,9 @@ fn written_front(kind: u64, block: &[u8], beside: &[u8], out: &mut [u8], size: u
 fn written_into(kind: u64, block: &[u8], beside: &[u8], out: &mut [u8]) {
     match kind {
         13 => alike(block, beside, out),
-        _ => copies(block, out),
+        14 => copies(block, out),
+        15 => read_text(block, out),
+        _ => write_text(block, out),
     }
 }
 
@@ -43,4 +45,18 @@ fn copies(block: &[u8], out: &mut [u8]) {
     put(b"copies");
     put_numbers(&numbers, 3);
     put_until(out, LENT);
+}
+
+fn read_text(text: &[u8], block: &mut [u8]) {
+    let numbers = answers::blocks::read_text(text, block);
+    put(b"readtext");
+    put_numbers(&numbers, 3);
+    put_until(block, LENT);
+}
+
+fn write_text(block: &[u8], text: &mut [u8]) {
+    let numbers = answers::blocks::write_text(block, text);
+    put(b"writetext");
+    put_numbers(&numbers, 3);
+    put_until(text, LENT);
 }

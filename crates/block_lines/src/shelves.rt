@@ -6,14 +6,14 @@ use printing::put_bytes;
 use printing::put_numbers;
 use printing::put_until;
 
-pub(crate) fn install(shelf: &mut [u8], party: u64, name: u64, block: &[u8]) {
+pub fn install(shelf: &mut [u8], party: u64, name: u64, block: &[u8]) {
     let answer = foldheron::install(shelf, two_bytes(party), two_bytes(name), block);
     put(b"install");
     put_answer(answer);
     put_until(shelf, 0);
 }
 
-pub(crate) fn withdraw(shelf: &mut [u8], party: u64, name: u64) {
+pub fn withdraw(shelf: &mut [u8], party: u64, name: u64) {
     let answer = foldheron::withdraw(shelf, two_bytes(party), two_bytes(name));
     put(b"withdraw");
     put_answer(answer);
@@ -21,7 +21,7 @@ pub(crate) fn withdraw(shelf: &mut [u8], party: u64, name: u64) {
 }
 
 // What the call writes number and place into holds something else before.
-pub(crate) fn fetch(shelf: &[u8], party: u64, name: u64) {
+pub fn fetch(shelf: &[u8], party: u64, name: u64) {
     let mut number = u16::MAX;
     let mut place = usize::MAX;
     let part = foldheron::fetch(

@@ -1,9 +1,9 @@
--- `answering::blocks::written_front` is safe: the part is as long as it is asked to be. Assumes nothing.
+-- `block_lines::blocks::written_front` is safe: the part is as long as it is asked to be. Assumes nothing.
 use native.Mathlib.Omega.{arith}
 use lib.ListN.{length-take}
 use borrow.Author.Needs.{needs}
-use Rattle.answering.proofs.blocks.written_front.Statement.{statement}
-use Rattle.answering.proofs.blocks.written_front.Tie as tie
+use Rattle.block_lines.proofs.blocks.written_front.Statement.{statement}
+use Rattle.block_lines.proofs.blocks.written_front.Tie as tie
 
 slice-relend-prefix-written-into : tie.Need-slice-relend-prefix-written-into
 slice-relend-prefix-written-into c = search needs
