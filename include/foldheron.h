@@ -250,8 +250,7 @@ uint16_t foldheron_write_text(const uint8_t *block, size_t block_size, uint8_t *
  * refused, all of them do. What is written passes foldheron_check. Read so, what foldheron_write_text wrote of a block gives the same bytes back. FOLDHERON_BLOCK_MOST bytes are
  * enough for any. The answer, 24 bytes: number, place, and how many bytes were written (AT_WRITTEN), 0 where it was refused. Refusals: 15 for a text outside the grammar, or with a name
  * that is not declared there or declared again; its place is the first byte of the token at fault, or the text's length where it ends too early. Then, of the block that the text stands
- * for, 4 with place 0 for over 64 signals; 1 to 8, with the offset in that block as the place; then 12. A text with over 1,024 places open at once gets 4 with place 0 there and then.
- * The time grows with the text's length, and with the square of how many names it declares as inputs and outputs: who reads texts of others sees to their length. */
+ * for, 4 with place 0 for over 64 signals; 1 to 8, with the offset in that block as the place; then 12. A text with over 1,024 places open at once gets 4 with place 0 there and then. */
 #define FOLDHERON_READ_TEXT_SIZE 24
 uint16_t foldheron_read_text(const uint8_t *text, size_t text_size, uint8_t *block, size_t block_size, uint8_t *answer, size_t answer_size);
 

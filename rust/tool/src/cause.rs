@@ -70,7 +70,7 @@ fn text(block: &[u8], _: &Refusal) -> Option<Cause> {
     }
     let esterel = ["present ", "emit ", "pause", "loop", "await "].iter().filter(|word| words.contains(**word)).count() >= 2;
     if esterel {
-        return cause("this may be a block's text, and a block is bytes", "ask the maker for the file of bytes, or write it as docs/FORMAT.md shows");
+        return cause("this may be a block's text, and a block is bytes", "foldheron build makes the block from it, or says where it is at fault");
     }
     cause("this is text, and a block is bytes", "look what it says: a page or a message may have been saved in the file's place")
 }

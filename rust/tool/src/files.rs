@@ -1,6 +1,7 @@
 //! Reading files: a block, a state or a names file never further than it may be long, so that no size is too large.
 
 use crate::layout::{BLOCK_MOST, STATE};
+use crate::status::Status;
 use crate::trouble::{Outcome, Trouble};
 use std::ffi::OsStr;
 use std::fs::File;
@@ -9,6 +10,10 @@ use std::path::{Path, PathBuf};
 
 /// The block's file in a folder.
 const BLOCK: &str = "block.bin";
+/// The text's file in a folder.
+const TEXT: &str = "block.strl";
+/// A text is read up to here: the longest that the library writes has a hundredth of it.
+const TEXT_MOST: usize = 1 << 24;
 /// The word for standard input.
 pub const STDIN: &str = "-";
 
@@ -47,6 +52,25 @@ pub fn block_path(word: &OsStr) -> PathBuf {
     } else {
         path
     }
+}
+
+/// The text's file that a word names: itself, or where it is a folder the text in it.
+pub fn text_path(word: &OsStr) -> PathBuf {
+    let path = PathBuf::from(word);
+    if path.is_dir() {
+        path.join(TEXT)
+    } else {
+        path
+    }
+}
+
+/// The bytes of a text.
+pub fn text(path: &Path) -> Outcome<Vec<u8>> {
+    let bytes = first(path, TEXT_MOST + 1).map_err(|why| unread(path, &why))?;
+    if bytes.len() > TEXT_MOST {
+        return Err(Trouble::new(Status::File, format!("{} has over 16 megabytes: it is no block's text", shown(path))));
+    }
+    Ok(bytes)
 }
 
 /// The bytes of a block: one more than it may have is enough to refuse it for its size.

@@ -28,12 +28,35 @@ pub struct Labels {
     outputs: usize,
     locals: usize,
     names: Vec<Option<String>>,
+    /// The lines of the text on which the statements stand, by their numbers, as far as they are known.
+    lines: Vec<Option<usize>>,
 }
 
 impl Labels {
     pub fn numbered(summary: &Summary) -> Labels {
         let (inputs, outputs, locals) = (summary.inputs.into(), summary.outputs.into(), summary.locals.into());
-        Labels { inputs, outputs, locals, names: vec![None; inputs + outputs + locals] }
+        Labels { inputs, outputs, locals, names: vec![None; inputs + outputs + locals], lines: vec![None; summary.statements.into()] }
+    }
+
+    /// Puts a statement on a line of the text; answers why it cannot be there.
+    pub fn put_on_line(&mut self, statement: usize, line: usize) -> Result<(), String> {
+        match self.lines.get_mut(statement) {
+            None => Err(format!("there is no statement {}: the block has {}", statement, self.lines.len())),
+            Some(Some(_)) => Err(format!("statement {} has a line already", statement)),
+            Some(place) => {
+                *place = Some(line);
+                Ok(())
+            }
+        }
+    }
+
+    /// The line of a statement, where it is known.
+    pub fn line(&self, statement: usize) -> Option<usize> {
+        self.lines.get(statement).copied().flatten()
+    }
+
+    pub fn has_lines(&self) -> bool {
+        self.lines.iter().any(Option::is_some)
     }
 
     pub fn signals(&self) -> usize {

@@ -1,4 +1,4 @@
-//! `foldheron`: checks, shows and runs blocks in words. Each subcommand is a module under `commands`; what they share stands beside this file.
+//! `foldheron`: builds, checks, shows and runs blocks in words. Each subcommand is a module under `commands`; what they share stands beside this file.
 
 mod args;
 mod block;
@@ -23,6 +23,7 @@ mod shelf;
 mod status;
 mod system;
 mod table;
+mod text;
 mod tree;
 mod trouble;
 mod walk;

@@ -14,7 +14,9 @@ use std::path::{Path, PathBuf};
 
 /// The first line, with the edition of the file's form.
 pub const FIRST: &str = "foldheron names 1";
-/// A names file is read up to here; 64 names take less.
+/// What begins the line on a statement's place in the text.
+const LINE: &str = "line";
+/// A names file is read up to here; 64 names and the lines of 512 statements take less.
 pub const MOST: usize = 1 << 14;
 
 /// The names file of a block: of `pump.bin` it is `pump.names`.
@@ -38,6 +40,9 @@ pub fn written(block: &[u8], summary: &Summary, labels: &Labels) -> String {
             text.push_str(&format!("{} {} {}\n", sort.word(), signal, name));
         }
     }
+    for (statement, line) in (0..summary.statements.into()).filter_map(|n| labels.line(n).map(|line| (n, line))) {
+        text.push_str(&format!("{} {} {}\n", LINE, statement, line));
+    }
     text
 }
 
@@ -55,6 +60,7 @@ pub fn read(text: &str, block: &[u8], summary: &Summary) -> Result<Labels, Strin
     for (n, line) in lines {
         let words: Vec<&str> = line.split_whitespace().collect();
         match words.as_slice() {
+            [LINE, statement, line] => line_of(&mut labels, statement, line).map_err(|why| format!("line {}: {}", n, why))?,
             [key, value] => settle(&mut wanted, key, value).map_err(|why| format!("line {}: {}", n, why))?,
             [sort, number, name] => name_signal(&mut labels, sort, number, name).map_err(|why| format!("line {}: {}", n, why))?,
             _ => return Err(format!("line {} has not two or three words", n)),
@@ -77,6 +83,13 @@ fn settle(wanted: &mut Vec<(&'static str, String)>, key: &str, value: &str) -> R
         "statements" => format!("it is for another block: it has {} statements, and this block has {}", value, ours),
         _ => format!("it is for another block: its {} is {}, and this block's is {}", key, value, ours),
     })
+}
+
+fn line_of(labels: &mut Labels, statement: &str, line: &str) -> Result<(), String> {
+    match (statement.parse(), line.parse()) {
+        (Ok(statement), Ok(line)) => labels.put_on_line(statement, line),
+        _ => Err(format!("'{}' and '{}' are no statement and its line", statement, line)),
+    }
 }
 
 fn name_signal(labels: &mut Labels, sort: &str, number: &str, name: &str) -> Result<(), String> {
@@ -153,6 +166,9 @@ mod tests {
         let labels = read(&text(&sha256(b"x"), "input 0 I\noutput 1 O\n"), b"x", &SUMMARY).unwrap();
         assert_eq!((labels.name(0), labels.name(1)), (Some("I"), Some("O")));
         assert_eq!(read(&written(b"x", &SUMMARY, &labels), b"x", &SUMMARY), Ok(labels));
+        let labels = read(&text(&sha256(b"x"), "line 0 3\nline 3 4\ninput 0 line\n"), b"x", &SUMMARY).unwrap();
+        assert_eq!([0, 1, 3].map(|n| labels.line(n)), [Some(3), None, Some(4)]);
+        assert_eq!(read(&written(b"x", &SUMMARY, &labels), b"x", &SUMMARY), Ok(labels));
     }
 
     #[test]
@@ -160,7 +176,7 @@ mod tests {
         let why = |hash: &str, rest: &str| read(&text(hash, rest), b"x", &SUMMARY).unwrap_err();
         assert!(why(&sha256(b"y"), "").contains("another block: its sha256"));
         let good = sha256(b"x");
-        for rest in ["input 1 I", "output 1 O O", "local 2 S", "input 0 I\ninput 0 J", "input 0 A\noutput 1 A", "version 7", "input x I"] {
+        for rest in ["input 1 I", "output 1 O O", "local 2 S", "input 0 I\ninput 0 J", "input 0 A\noutput 1 A", "version 7", "input x I", "line 4 1", "line 0 1\nline 0 1", "line 0 x"] {
             assert!(why(&good, rest).starts_with("line "), "{}", rest);
         }
         assert!(read("foldheron names 2\n", b"x", &SUMMARY).is_err());

@@ -1,11 +1,13 @@
-//! A block as an indented tree, a line a statement: its number, its offset, and the statement with its signal, its pause or its trap.
+//! A block as an indented tree, a line a statement: its number, its offset, its line in the text, and the statement with its signal, its pause or its trap.
 
 use crate::labels::Labels;
 use crate::layout::Operand;
 use crate::walk::Statement;
 
-/// The line above the tree.
-pub const HEAD: &str = " no.  offset  statement";
+/// The line above the tree; with the lines of the text where these are known.
+pub fn head(labels: &Labels) -> String {
+    format!(" no.  offset  {}statement", if labels.has_lines() { "line  " } else { "" })
+}
 
 /// The lines of the statements from one on, down to where the part that it begins ends. `mark` is put behind a statement.
 pub fn rows(statements: &[Statement], labels: &Labels, mark: impl Fn(&Statement) -> Option<String>) -> Vec<String> {
@@ -13,7 +15,11 @@ pub fn rows(statements: &[Statement], labels: &Labels, mark: impl Fn(&Statement)
     let row = |(at, s): (usize, &Statement)| {
         let indent = "  ".repeat(s.level.saturating_sub(base));
         let behind = mark(s).map_or(String::new(), |mark| format!("  {}", mark));
-        format!("{:4}  {:6}  {}{}{}", s.number, s.offset, indent, in_words(statements, at, labels), behind)
+        let line = match labels.line(s.number) {
+            Some(line) => format!("{:4}  ", line),
+            None => " ".repeat(if labels.has_lines() { 6 } else { 0 }),
+        };
+        format!("{:4}  {:6}  {}{}{}{}", s.number, s.offset, line, indent, in_words(statements, at, labels), behind)
     };
     statements.iter().enumerate().map(row).collect()
 }

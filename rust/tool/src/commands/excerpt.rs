@@ -48,7 +48,7 @@ fn in_words(block: &Block, n: usize, part: std::ops::Range<usize>, out: &mut Out
     let below: Vec<_> = all.into_iter().filter(|s| part.contains(&s.offset)).collect();
     let statements = counted(below.len() as u64, "statement");
     out.line(&format!("statement {} and all below it: {}, {} from offset {}", n, statements, counted(part.len() as u64, "byte"), part.start))?;
-    out.line(tree::HEAD)?;
+    out.line(&tree::head(&block.labels))?;
     for row in tree::rows(&below, &block.labels, |_| None) {
         out.line(&row)?;
     }

@@ -51,7 +51,7 @@ pub fn library() -> String {
 }
 
 pub fn all(out: &mut Out) -> Outcome<Status> {
-    out.text("foldheron: checks, shows and runs logic blocks written in kernel Esterel\n\n")?;
+    out.text("foldheron: builds, checks, shows and runs logic blocks written in kernel Esterel\n\n")?;
     for command in COMMANDS {
         out.line(&format!("  foldheron {:8} {}", command.name, command.does))?;
     }

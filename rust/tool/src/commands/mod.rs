@@ -5,9 +5,11 @@ use crate::output::Out;
 use crate::status::Status;
 use crate::trouble::{Outcome, Trouble};
 
+pub mod build;
 pub mod check;
 pub mod copies;
 pub mod excerpt;
+pub mod fmt;
 pub mod help;
 pub mod log;
 pub mod maze;
@@ -30,8 +32,10 @@ pub struct Command {
     pub run: fn(&Words, &mut Out) -> Outcome<Status>,
 }
 
-pub static COMMANDS: [&Command; 14] = [
+pub static COMMANDS: [&Command; 16] = [
     &check::COMMAND,
+    &build::COMMAND,
+    &fmt::COMMAND,
     &show::COMMAND,
     &crate::run::COMMAND,
     &crate::why::COMMAND,

@@ -53,7 +53,7 @@ fn with_block(bytes: &[u8], state: &State, block: &Block, out: &mut Out) -> Outc
     if active.is_empty() {
         return Ok(Status::Good);
     }
-    out.line(tree::HEAD)?;
+    out.line(&tree::head(&block.labels))?;
     let statements = walk(&block.bytes, block.bytes.len()).statements;
     let mark = |s: &crate::walk::Statement| s.pause.filter(|n| active.contains(n)).map(|_| "<- waits here".to_string());
     for row in tree::rows(&statements, &block.labels, mark) {

@@ -27,8 +27,9 @@ pub fn told(question: &Question, n: usize, reach: &Reach, waiting: Option<&Waiti
     if let Some(line) = refused_before(question) {
         out.line(&line)?;
     }
-    out.line(&format!("statement {} is {}", n, named))?;
-    out.line(tree::HEAD)?;
+    let line = question.labels().line(n).map_or(String::new(), |line| format!(", on line {} of the text,", line));
+    out.line(&format!("statement {}{} is {}", n, line, named))?;
+    out.line(&tree::head(question.labels()))?;
     let spoken_of = waiting.map_or(Vec::new(), spoken_of);
     for row in shown(question, n, &spoken_of, reach) {
         out.line(&row)?;

@@ -14,6 +14,7 @@ use crate::output::Out;
 use crate::run::keep;
 use crate::saved::in_words;
 use crate::status::Status;
+use crate::text::{self, written::with_labels};
 use crate::tree;
 use crate::trouble::{Outcome, Trouble};
 use crate::walk::{walk, Statement};
@@ -23,18 +24,19 @@ use std::path::Path;
 
 pub static COMMAND: Command = Command {
     name: "show",
-    does: "prints a block as an indented tree",
-    call: "[--from STATE] [--svg | --dot] [--names FILE | --no-names] FILE",
+    does: "prints a block as an indented tree, or as text",
+    call: "[--from STATE] [--text | --svg | --dot] [--names FILE | --no-names] FILE",
     options: &[
         with("--from", "STATE", "mark the pauses that are active in STATE"),
+        flag("--text", "the block's text: the library's, with the signals' names where these may stand in a text"),
         flag("--svg", "a chart as a picture: a sequence one below the other, a parallel side by side, the others round what they hold"),
         flag("--dot", "the tree as a graph for the program dot"),
         names::OPTION,
         names::NO_OPTION,
     ],
-    more: "A line a statement: its number, its offset in the file, and the statement with its signal; of a pause its number, of\n\
-           an exit its depth and the number of the trap that it ends. Of a refused block it prints what was read before the\n\
-           place of the refusal.\n",
+    more: "A line a statement: its number, its offset in the file, its line in the text where the block was built from one, and the\n\
+           statement with its signal; of a pause its number, of an exit its depth and the number of the trap that it ends. Of a\n\
+           refused block it prints what was read before the place of the refusal.\n",
     run,
 };
 
@@ -70,11 +72,12 @@ impl<'a> Shown<'a> {
 
 fn run(words: &Words, out: &mut Out) -> Outcome<Status> {
     let [word] = words.exactly(["a block's file"])?;
-    let form = words.at_most_one(&["--svg", "--dot"])?;
+    let form = words.at_most_one(&["--text", "--svg", "--dot"])?;
     let from = words.value("--from").map(Path::new);
     if word == files::STDIN && from == Some(Path::new(files::STDIN)) {
         return Err(Trouble::call("only one file can be - , standard input"));
     }
+    words.at_most_one(&["--text", "--from"])?;
     let path = files::block_path(word);
     let bytes = files::block(&path)?;
     if let (None, Err(why)) = (form, check(&bytes)) {
@@ -89,10 +92,17 @@ fn run(words: &Words, out: &mut Out) -> Outcome<Status> {
     let shown = Shown::of(&block, state);
     match form {
         Some("--svg") => out.text(&picture::file(&shown)),
+        Some("--text") => out.text(&in_text(&block)),
         Some(_) => dot::told(&shown, out),
         None => told(&shown, out),
     }?;
     Ok(Status::Good)
+}
+
+/// The text of a good block, with its signals' names.
+fn in_text(block: &Block) -> String {
+    let text = text::write(&block.bytes).expect("a good block has a text");
+    String::from_utf8_lossy(&with_labels(&text, &block.bytes, &block.labels)).into_owned()
 }
 
 /// The tree in lines.
@@ -101,7 +111,7 @@ pub fn told(shown: &Shown, out: &mut Out) -> Outcome<()> {
     if let Some(state) = shown.state {
         out.line(&format!("{:8} {}", "state", in_words(&state)))?;
     }
-    out.line(tree::HEAD)?;
+    out.line(&tree::head(&shown.block.labels))?;
     let mark = |s: &Statement| Some("<- active".to_string()).filter(|_| shown.is_active(s.number));
     for row in tree::rows(&shown.statements, &shown.block.labels, mark) {
         out.line(&row)?;
@@ -124,8 +134,9 @@ fn part_read(bytes: &[u8], why: &Refusal, out: &mut Out) -> Outcome<()> {
         statements: 0,
         pauses: 0,
     };
-    out.line(&format!("{}   (a refused block, up to offset {})", tree::HEAD, why.place))?;
-    for row in tree::rows(&walk.statements, &Labels::numbered(&summary), |_| None) {
+    let labels = Labels::numbered(&summary);
+    out.line(&format!("{}   (a refused block, up to offset {})", tree::head(&labels), why.place))?;
+    for row in tree::rows(&walk.statements, &labels, |_| None) {
         out.line(&row)?;
     }
     Ok(())
