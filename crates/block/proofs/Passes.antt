@@ -9,10 +9,10 @@ use lib.Dec.{T, eqb, ltb, leb}
 use lib.ListN.{length}
 use borrow.Author.Tests.{ltb-true, ltb-false, leb-true, leb-false, eqb-true, eqb-false, not-false, eq-eqb, ne-eqb, lt-ltb, le-leb, lt-leb, le-ltb}
 use Rattle.sets.proofs.Members.{of-true, is-true}
-use Rattle.block.specs.Format.{Header, Around, Sofar, length-at, kind-at, operand-at, is-broken, declared-here, over-limit, wrong-signal, wrong-exit, statement-fault}
+use Rattle.block.specs.Format.{Header, Around, Sofar, length-at, kind-at, operand-at, is-broken, declared-here, over-limit, wrong-signal, wrong-exit, fault-as, statement-fault}
 use Rattle.tables.specs.Kinds.{length-of}
 use Rattle.block.proofs.Views.{Kind, kind?, known-length}
-use Rattle.block.proofs.Tests.{fault-last}
+use Rattle.block.proofs.Tests.{fault-due, as-last}
 
 -- A record of kind k with operand x that passes.
 pub record Passes (room end : ℕ) (h : Header) (a : Around) (r : Sofar) (k x : ℕ) : Type 0 where
@@ -58,25 +58,29 @@ either-true true t e = refl
 either-true false t (inl e) = let z : _≡_ {A = ℕ} 0 1 = cc in absurd (omega arith)
 either-true false t (inr e) = e
 
--- The six tests of a statement's record.
-record Tests (room : ℕ) (b : List ℕ) (h : Header) (a : Around) (r : Sofar) : Type 0 where
-  due : leb (length b) (r .place) ≡ false
+-- The five tests of a record as one of kind k.
+record Tests (room : ℕ) (b : List ℕ) (h : Header) (a : Around) (r : Sofar) (k : ℕ) : Type 0 where
   whole : is-broken b (r .place) ≡ false
-  right : not (eqb (length-of (kind-at b (r .place))) (length-at b (r .place))) ≡ false
-  within : over-limit room a r (kind-at b (r .place)) ≡ false
-  signal : wrong-signal h a r (kind-at b (r .place)) (operand-at b (r .place)) ≡ false
-  exits : wrong-exit a (kind-at b (r .place)) (operand-at b (r .place)) ≡ false
+  right : not (eqb (length-of k) (length-at b (r .place))) ≡ false
+  within : over-limit room a r k ≡ false
+  signal : wrong-signal h a r k (operand-at b (r .place)) ≡ false
+  exits : wrong-exit a k (operand-at b (r .place)) ≡ false
 
-tests : (room : ℕ) (b : List ℕ) (h : Header) (a : Around) (r : Sofar) → statement-fault room b h a r ≡ 0 → Tests room b h a r
-unfolding statement-fault
-tests room b h a r e =
-    let e₁ = none-of _ 6 _ e in
-    let e₂ = none-of _ 0 _ (e₁ .1) in
+tests : (room : ℕ) (b : List ℕ) (h : Header) (a : Around) (r : Sofar) (k : ℕ) → fault-as room b h a r k ≡ 0 → Tests room b h a r k
+unfolding fault-as
+tests room b h a r k e =
+    let e₂ = none-of _ 0 _ e in
     let e₃ = none-of _ 1 _ (e₂ .1) in
     let e₄ = none-of _ 3 _ (e₃ .1) in
     let e₅ = none-of _ 4 _ (e₄ .1) in
     let e₆ = none-of _ 5 _ (e₅ .1) in
-    record { due = e₁ .0; whole = e₂ .0; right = e₃ .0; within = e₄ .0; signal = e₅ .0; exits = e₆ .0 }
+    record { whole = e₂ .0; right = e₃ .0; within = e₄ .0; signal = e₅ .0; exits = e₆ .0 }
+
+-- A statement's record that passes is due, and passes as one of its kind.
+due-good : (room : ℕ) (b : List ℕ) (h : Header) (a : Around) (r : Sofar) → statement-fault room b h a r ≡ 0
+    → (r .place < length b) × (fault-as room b h a r (kind-at b (r .place)) ≡ 0)
+unfolding statement-fault
+due-good room b h a r e = let e₁ = none-of _ 6 _ e in (leb-false (length b) (r .place) (e₁ .0), e₁ .1)
 
 pub broken-none : (b : List ℕ) (at : ℕ) → is-broken b at ≡ false → (4 ≤ length b - at) × (4 ≤ length-at b at) × (length-at b at ≤ length b - at)
 unfolding is-broken
@@ -144,11 +148,10 @@ exit-below : (a : Around) (k x : ℕ) → wrong-exit a k x ≡ false → k ≡ 2
 unfolding wrong-exit
 exit-below a k x e i = leb-false (a .traps) x (and-then-not (eqb k 25) (leb (a .traps) x) e (eq-eqb k 25 i))
 
-pub passes : (room : ℕ) (b : List ℕ) (h : Header) (a : Around) (r : Sofar) → statement-fault room b h a r ≡ 0
-    → Passes room (length b) h a r (kind-at b (r .place)) (operand-at b (r .place))
-passes room b h a r e =
-    let t = tests room b h a r e in
-    let k = kind-at b (r .place) in
+pub passes-as : (room : ℕ) (b : List ℕ) (h : Header) (a : Around) (r : Sofar) (k : ℕ) → r .place < length b → fault-as room b h a r k ≡ 0
+    → Passes room (length b) h a r k (operand-at b (r .place))
+passes-as room b h a r k due e =
+    let t = tests room b h a r k e in
     let x = operand-at b (r .place) in
     let w = broken-none b (r .place) (t .whole) in
     let l : length-of k ≡ length-at b (r .place) = eqb-true _ _ (not-false _ (t .right)) in
@@ -156,7 +159,7 @@ passes room b h a r e =
     let s = signals h a r k x (t .signal) in
     record {
       its-kind = kind? k (λ z. absurd (omega (arith, w .1, l, z)));
-      ends = omega (arith, w .0, w .2, l, leb-false (length b) (r .place) (t .due));
+      ends = omega (arith, w .0, w .2, l, due);
       roomy = m .roomy;
       counted = m .counted;
       pausing = m .pausing;
@@ -168,10 +171,14 @@ passes room b h a r e =
       exiting = exit-below a k x (t .exits);
     }
 
+pub passes : (room : ℕ) (b : List ℕ) (h : Header) (a : Around) (r : Sofar) → statement-fault room b h a r ≡ 0
+    → Passes room (length b) h a r (kind-at b (r .place)) (operand-at b (r .place))
+passes room b h a r e = let d = due-good room b h a r e in passes-as room b h a r (kind-at b (r .place)) (d .0) (d .1)
+
 -- A record that passes has its kind's length.
 pub right-length : (room : ℕ) (b : List ℕ) (h : Header) (a : Around) (r : Sofar) → statement-fault room b h a r ≡ 0
     → length-of (kind-at b (r .place)) ≡ length-at b (r .place)
-right-length room b h a r e = eqb-true _ _ (not-false _ (tests room b h a r e .right))
+right-length room b h a r e = eqb-true _ _ (not-false _ (tests room b h a r (kind-at b (r .place)) (due-good room b h a r e .1) .right))
 
 -- The other way: a record of which all this is known passes.
 both-false : (s t : Bool) → s ≡ false → t ≡ false → (s || t) ≡ false
@@ -223,4 +230,5 @@ no-fault room b h a r e p =
     let l = known-length (p .its-kind) in
     let ends = p .ends in
     let long : 4 ≤ length-at b (r .place) = omega (arith, e) in
-    fault-last room b h a r (omega arith) (is-whole b (r .place) (omega arith) long (omega (arith, e))) _ _ refl refl e (within-limits p) _ refl (right-signal p) false (sym (right-exit p))
+    fault-due room b h a r (omega arith) _ refl
+    ∙ as-last room b h a r _ (is-whole b (r .place) (omega arith) long (omega (arith, e))) _ refl e (within-limits p) _ refl (right-signal p) false (sym (right-exit p))

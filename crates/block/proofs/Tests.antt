@@ -1,5 +1,5 @@
 -- The tests for a record at fault, from the facts that the code's tests leave.
-use mathlib.Core.Path.{_≡_, refl}
+use mathlib.Core.Path.{_≡_, refl, sym, ap, _∙_}
 use mathlib.Core.Bool.{Bool, true, false, not, cond, _&&_, _||_}
 use mathlib.Core.List.{List}
 use Prim.Native.Nat.{ℕ, _+_, _-_, _≤_, _<_}
@@ -8,9 +8,9 @@ use lib.Dec.{ltb, leb, eqb}
 use lib.ListN.{length}
 use mathlib.Core.Logic.{_⊎_, inl, inr}
 use borrow.Author.Tests.{lt-ltb, le-ltb, le-leb, lt-leb, eq-eqb, ne-eqb}
-use Rattle.block.specs.Format.{Header, Around, Sofar, two-bytes, is-broken, declared-here, over-limit, wrong-signal, wrong-exit, kind-at, length-at, operand-at, statement-fault}
+use Rattle.block.specs.Format.{Header, Around, Sofar, two-bytes, is-broken, declared-here, over-limit, wrong-signal, wrong-exit, kind-at, length-at, operand-at, fault-as, statement-fault}
 use Rattle.tables.specs.Kinds.{length-of}
-use Rattle.block.specs.Format.{header, header-fault}
+use Rattle.block.specs.Format.{header, header-fault-in}
 
 pub few-left : (b : List ℕ) (at : ℕ) → length b < at + 4 → is-broken b at ≡ true
 unfolding is-broken
@@ -82,64 +82,68 @@ pub exit-none : (a : Around) (k d : ℕ) → (k ≡ 25 → ⊥) → wrong-exit a
 unfolding wrong-exit
 exit-none a k d n = simp (ne-eqb k 25 n)
 
--- A statement's number, by the first test that fails. The record's kind, length and operand are k, l and x.
-module _ (room : ℕ) (b : List ℕ) (h : Header) (a : Around) (r : Sofar) where
+-- A record's number as one of kind k, by the first test that fails. Its length and operand are l and x.
+module _ (room : ℕ) (b : List ℕ) (h : Header) (a : Around) (r : Sofar) (k : ℕ) where
   abbrev fault : ℕ
-  fault = statement-fault room b h a r
+  fault = fault-as room b h a r k
 
-  pub fault-shape : length b ≤ r .place → fault ≡ 7
-  unfolding statement-fault
-  fault-shape g = simp (le-leb (length b) (r .place) g)
+  pub as-broken : is-broken b (r .place) ≡ true → fault ≡ 1
+  unfolding fault-as
+  as-broken e = simp e
 
-  module _ (due : r .place < length b) where
-    pub fault-broken : is-broken b (r .place) ≡ true → fault ≡ 1
-    unfolding statement-fault
-    fault-broken e = simp (lt-leb (length b) (r .place) due, e)
+  module _ (whole : is-broken b (r .place) ≡ false) (l : ℕ) (el : l ≡ length-at b (r .place)) where
+    pub as-kind : (length-of k ≡ l → ⊥) → fault ≡ 2
+    unfolding fault-as
+    as-kind n = simp (whole, ← el, ne-eqb (length-of k) l n)
 
-    module _ (whole : is-broken b (r .place) ≡ false) (k l : ℕ) (ek : k ≡ kind-at b (r .place)) (el : l ≡ length-at b (r .place)) where
-      pub fault-kind : (length-of k ≡ l → ⊥) → fault ≡ 2
-      unfolding statement-fault
-      fault-kind n = simp (lt-leb (length b) (r .place) due, whole, ← ek, ← el, ne-eqb (length-of k) l n)
+    module _ (right : length-of k ≡ l) where
+      pub as-limit : over-limit room a r k ≡ true → fault ≡ 4
+      unfolding fault-as
+      as-limit e = simp (whole, ← el, eq-eqb (length-of k) l right, e)
 
-      module _ (right : length-of k ≡ l) where
-        pub fault-limit : over-limit room a r k ≡ true → fault ≡ 4
-        unfolding statement-fault
-        fault-limit e = simp (lt-leb (length b) (r .place) due, whole, ← ek, ← el, eq-eqb (length-of k) l right, e)
+      module _ (within : over-limit room a r k ≡ false) (x : ℕ) (ex : x ≡ operand-at b (r .place)) where
+        pub as-signal : wrong-signal h a r k x ≡ true → fault ≡ 5
+        unfolding fault-as
+        as-signal e = simp (whole, ← el, ← ex, eq-eqb (length-of k) l right, within, e)
 
-        module _ (within : over-limit room a r k ≡ false) (x : ℕ) (ex : x ≡ operand-at b (r .place)) where
-          pub fault-signal : wrong-signal h a r k x ≡ true → fault ≡ 5
-          unfolding statement-fault
-          fault-signal e =
-              simp (lt-leb (length b) (r .place) due, whole, ← ek, ← el, ← ex, eq-eqb (length-of k) l right, within, e)
+        pub as-last : wrong-signal h a r k x ≡ false → (z : Bool) → z ≡ wrong-exit a k x → fault ≡ cond z 6 0
+        unfolding fault-as
+        as-last n z e = simp (whole, ← el, ← ex, eq-eqb (length-of k) l right, within, n, ← e)
 
-          pub fault-last : wrong-signal h a r k x ≡ false → (z : Bool) → z ≡ wrong-exit a k x → fault ≡ cond z 6 0
-          unfolding statement-fault
-          fault-last n z e =
-              simp (lt-leb (length b) (r .place) due, whole, ← ek, ← el, ← ex, eq-eqb (length-of k) l right, within, n, ← e)
+-- A statement's record: none left, or as one of its own kind.
+pub fault-shape : (room : ℕ) (b : List ℕ) (h : Header) (a : Around) (r : Sofar) → length b ≤ r .place → statement-fault room b h a r ≡ 7
+unfolding statement-fault
+fault-shape room b h a r g = simp (le-leb (length b) (r .place) g)
 
--- The header's number, by the first test that fails.
-module _ (b : List ℕ) where
-  pub header-broken : is-broken b 0 ≡ true → header-fault b ≡ 1
-  unfolding header-fault
+pub fault-due : (room : ℕ) (b : List ℕ) (h : Header) (a : Around) (r : Sofar) → r .place < length b → (k : ℕ) → k ≡ kind-at b (r .place)
+    → statement-fault room b h a r ≡ fault-as room b h a r k
+unfolding statement-fault
+fault-due room b h a r due k e =
+    ap (λ (z : Bool). cond z 7 (fault-as room b h a r (kind-at b (r .place)))) (lt-leb (length b) (r .place) due) ∙ ap (fault-as room b h a r) (sym e)
+
+-- The header's number where edition v is due, by the first test that fails.
+module _ (v : ℕ) (b : List ℕ) where
+  pub header-broken : is-broken b 0 ≡ true → header-fault-in v b ≡ 1
+  unfolding header-fault-in
   header-broken e = simp e
 
   module _ (whole : is-broken b 0 ≡ false) where
-    pub header-kind : (kind-at b 0 ≡ 1 → ⊥) → header-fault b ≡ 2
-    unfolding header-fault
+    pub header-kind : (kind-at b 0 ≡ 1 → ⊥) → header-fault-in v b ≡ 2
+    unfolding header-fault-in
     header-kind n = simp (whole, ne-eqb (kind-at b 0) 1 n)
 
     module _ (kind : kind-at b 0 ≡ 1) where
-      pub header-length : (length-at b 0 ≡ 14 → ⊥) → header-fault b ≡ 2
-      unfolding header-fault
+      pub header-length : (length-at b 0 ≡ 14 → ⊥) → header-fault-in v b ≡ 2
+      unfolding header-fault-in
       header-length n = simp (whole, eq-eqb (kind-at b 0) 1 kind, ne-eqb (length-at b 0) 14 n)
 
       module _ (long : length-at b 0 ≡ 14) where
-        pub header-edition : (two-bytes b 4 ≡ 1 → ⊥) → header-fault b ≡ 3
-        unfolding header-fault
-        header-edition n = simp (whole, eq-eqb (kind-at b 0) 1 kind, eq-eqb (length-at b 0) 14 long, ne-eqb (two-bytes b 4) 1 n)
+        pub header-edition : (two-bytes b 4 ≡ v → ⊥) → header-fault-in v b ≡ 3
+        unfolding header-fault-in
+        header-edition n = simp (whole, eq-eqb (kind-at b 0) 1 kind, eq-eqb (length-at b 0) 14 long, ne-eqb (two-bytes b 4) v n)
 
-        module _ (edition : two-bytes b 4 ≡ 1) where
-          pub header-signals : (t : Bool) → t ≡ ltb 64 (two-bytes b 8 + two-bytes b 10 + two-bytes b 12) → header-fault b ≡ cond t 4 0
-          unfolding header-fault header
+        module _ (edition : two-bytes b 4 ≡ v) where
+          pub header-signals : (t : Bool) → t ≡ ltb 64 (two-bytes b 8 + two-bytes b 10 + two-bytes b 12) → header-fault-in v b ≡ cond t 4 0
+          unfolding header-fault-in header
           header-signals t e =
-              simp (whole, eq-eqb (kind-at b 0) 1 kind, eq-eqb (length-at b 0) 14 long, eq-eqb (two-bytes b 4) 1 edition, ← e)
+              simp (whole, eq-eqb (kind-at b 0) 1 kind, eq-eqb (length-at b 0) 14 long, eq-eqb (two-bytes b 4) v edition, ← e)

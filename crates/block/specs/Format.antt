@@ -67,15 +67,19 @@ pub record Header : Type 0 where
 unfoldable pub header : List ℕ → Header
 header b = record { version = two-bytes b 6; inputs = two-bytes b 8; outputs = two-bytes b 10; locals = two-bytes b 12 }
 
--- The number that the header gets, the lowest where several apply; 0 where it is good. At most 64 signals.
-unfoldable pub header-fault : List ℕ → ℕ
-header-fault b =
+-- The number that the header gets where the edition is to be e, the lowest where several apply; 0 where it is good. At most 64 signals.
+unfoldable pub header-fault-in : ℕ → List ℕ → ℕ
+header-fault-in e b =
     let h = header b in
     cond (is-broken b 0) BROKEN
     (cond (not (eqb (kind-at b 0) 1 && eqb (length-at b 0) 14)) KIND
-    (cond (not (eqb (two-bytes b 4) 1)) EDITION
+    (cond (not (eqb (two-bytes b 4) e)) EDITION
     (cond (ltb 64 (h .inputs + h .outputs + h .locals)) LIMIT
     0)))
+
+unfoldable pub header-fault : List ℕ → ℕ
+unfolding header-fault-in
+header-fault b = header-fault-in 1 b
 
 -- What has been read: the first byte not read yet, and how many statements, pauses and locals there were.
 pub record Sofar : Type 0 where
@@ -114,18 +118,21 @@ wrong-signal h a r k s =
 unfoldable pub wrong-exit : Around → ℕ → ℕ → Bool
 wrong-exit a k d = eqb k 25 && leb (a .traps) d
 
--- The number that a due statement's record gets, the lowest where several apply; 0 where it is good.
-unfoldable pub statement-fault : ℕ → List ℕ → Header → Around → Sofar → ℕ
-statement-fault room b h a r =
+-- The number that a record gets as one of kind k, the lowest where several apply; 0 where it is good.
+unfoldable pub fault-as : ℕ → List ℕ → Header → Around → Sofar → ℕ → ℕ
+fault-as room b h a r k =
     let at = r .place in
-    let k = kind-at b at in
-    cond (leb (length b) at) SHAPE
-    (cond (is-broken b at) BROKEN
+    cond (is-broken b at) BROKEN
     (cond (not (eqb (length-of k) (length-at b at))) KIND
     (cond (over-limit room a r k) LIMIT
     (cond (wrong-signal h a r k (operand-at b at)) SIGNAL
     (cond (wrong-exit a k (operand-at b at)) EXIT
-    0)))))
+    0))))
+
+-- A due statement's record, by its own kind.
+unfoldable pub statement-fault : ℕ → List ℕ → Header → Around → Sofar → ℕ
+unfolding fault-as
+statement-fault room b h a r = cond (leb (length b) (r .place)) SHAPE (fault-as room b h a r (kind-at b (r .place)))
 
 -- What has been read after a good record of kind k.
 unfoldable pub past : ℕ → Sofar → Sofar

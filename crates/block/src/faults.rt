@@ -12,7 +12,7 @@ ghost use Prim.Native.Nat.{_+_, _≤_, _<_};
 ghost use lib.Dec.{ltb, leb, eqb};
 ghost use lib.ListN.{length};
 ghost use Rattle.sets.specs.Words.{bits};
-ghost use Rattle.block.specs.Format.{declared-here, over-limit, wrong-signal, wrong-exit, statement-fault, header-fault, header};
+ghost use Rattle.block.specs.Format.{declared-here, over-limit, wrong-signal, wrong-exit, fault-as, statement-fault, header-fault-in, header};
 ghost use Rattle.block.specs.Told.{header-of, sofar-of, around-of};
 
 // A local is in scope: its bit is set.
@@ -94,20 +94,17 @@ fn exit_wrong(c: Context, kind: u16, d: Depth) -> bool
     }
 }
 
-// The number that a due statement's record gets; 0 where it is good.
-pub(crate) fn statement_fault(b: &[u8], d: Declared, c: Context, r: Cursor) -> u16
+// The number that a record gets as one of that kind; 0 where it is good.
+pub fn fault_as(b: &[u8], d: Declared, c: Context, r: Cursor, kind: u16) -> u16
     requires { ⌜ length (now b) ≤ 3086 ⌝ }
+    requires { ⌜ r .at < length (now b) ⌝ }
     requires { ⌜ d .inputs + d .outputs + d .locals ≤ 64 ⌝ }
-    ensures { λ n. ⌜ n ≡ statement-fault (c .room) (now (b .entry)) (header-of d) (around-of c) (sofar-of r) ⌝ }
+    ensures { λ n. ⌜ n ≡ fault-as (c .room) (now (b .entry)) (header-of d) (around-of c) (sofar-of r) kind ⌝ }
 {
     let at = r.at;
-    if b.len() <= at {
-        return 7;
-    }
     if broken(b, at) {
         return 1;
     }
-    let kind = two_bytes(b, at + 2);
     if record_length(kind) != two_bytes(b, at) {
         return 2;
     }
@@ -124,6 +121,20 @@ pub(crate) fn statement_fault(b: &[u8], d: Declared, c: Context, r: Cursor) -> u
     0
 }
 
+// The number that a due statement's record gets; 0 where it is good.
+pub(crate) fn statement_fault(b: &[u8], d: Declared, c: Context, r: Cursor) -> u16
+    requires { ⌜ length (now b) ≤ 3086 ⌝ }
+    requires { ⌜ d .inputs + d .outputs + d .locals ≤ 64 ⌝ }
+    ensures { λ n. ⌜ n ≡ statement-fault (c .room) (now (b .entry)) (header-of d) (around-of c) (sofar-of r) ⌝ }
+{
+    let at = r.at;
+    if b.len() <= at {
+        return 7;
+    }
+    let kind = two_bytes(b, at + 2);
+    fault_as(b, d, c, r, kind)
+}
+
 // More than 64 signals are declared.
 fn signals_passed(inputs: u16, outputs: u16, locals: u16) -> bool
     ensures { λ w. ⌜ w ≡ ltb 64 (inputs + outputs + locals) ⌝ }
@@ -131,9 +142,9 @@ fn signals_passed(inputs: u16, outputs: u16, locals: u16) -> bool
     64 < inputs as u32 + outputs as u32 + locals as u32
 }
 
-// The number that the header gets; 0 where it is good.
-pub(crate) fn header_fault(b: &[u8]) -> u16
-    ensures { λ n. ⌜ n ≡ header-fault (now (b .entry)) ⌝ }
+// The number that the header gets where that edition is due; 0 where it is good.
+pub fn header_fault(b: &[u8], edition: u16) -> u16
+    ensures { λ n. ⌜ n ≡ header-fault-in edition (now (b .entry)) ⌝ }
 {
     if broken(b, 0) {
         return 1;
@@ -144,7 +155,7 @@ pub(crate) fn header_fault(b: &[u8]) -> u16
     if two_bytes(b, 0) != 14 {
         return 2;
     }
-    if two_bytes(b, 4) != 1 {
+    if two_bytes(b, 4) != edition {
         return 3;
     }
     if signals_passed(two_bytes(b, 8), two_bytes(b, 10), two_bytes(b, 12)) {

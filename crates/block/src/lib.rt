@@ -1,8 +1,8 @@
 // The reading of a block: its records, which fill its table, and the whole of it with the check of its loops.
-mod faults;
+pub mod faults;
 pub mod reader;
-mod records;
-mod steps;
+pub mod records;
+pub mod steps;
 pub mod whole;
 
 // What the header declares.

@@ -13,7 +13,7 @@ pub(crate) fn byte_at(b: &[u8], at: usize) -> u16
 }
 
 // Two bytes, little-endian.
-pub(crate) fn two_bytes(b: &[u8], at: usize) -> u16
+pub fn two_bytes(b: &[u8], at: usize) -> u16
     requires { ⌜ at < 65536 ⌝ }
     ensures { λ r. ⌜ r ≡ two-bytes (now (b .entry)) at ⌝ }
 {

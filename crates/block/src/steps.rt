@@ -15,7 +15,7 @@ ghost use Rattle.block.specs.Told.{header-of, sofar-of, around-of};
 ghost use Rattle.tables.specs.Table.{kept-operand};
 
 // What the header declares.
-pub(crate) fn declared(b: &[u8]) -> Declared
+pub fn declared(b: &[u8]) -> Declared
     ensures { λ r. ⌜ header-of r ≡ header (now (b .entry)) ⌝ }
 {
     Declared {
@@ -33,7 +33,7 @@ fn one_if(kind: u16, wanted: u16) -> u16
 }
 
 // What has been read after a good record.
-pub(crate) fn passed(r: Cursor, kind: u16, length: u16) -> Cursor
+pub fn passed(r: Cursor, kind: u16, length: u16) -> Cursor
     requires { ⌜ (length ≡ length-of kind) × (r .at < 65536) × (r .statements < 65536) × (r .pauses < 1024) × (r .locals < 1024) ⌝ }
     ensures { λ q. ⌜ sofar-of q ≡ past kind (sofar-of r) ⌝ }
 {
@@ -57,7 +57,7 @@ fn with_local(scope: u64, kind: u16, s: u16) -> u64
 }
 
 // What stands around the children of a statement.
-pub(crate) fn inner(c: Context, kind: u16, s: u16) -> Context
+pub fn inner(c: Context, kind: u16, s: u16) -> Context
     requires { ⌜ (0 < c .room) × (c .traps < 1024) × (c .nested < 1024) × (kind ≡ 26 → s < 64) ⌝ }
     ensures { λ q. ⌜ (around-of q ≡ inside kind s (around-of c)) × (q .room + 1 ≡ c .room) ⌝ }
 {

@@ -98,7 +98,7 @@ pub fn read_block(
     if 3086 < b.len() {
         return Checked::Refused(Why::Limit, 0);
     }
-    let fault = header_fault(b);
+    let fault = header_fault(b, 1);
     if fault != 0 {
         return Checked::Refused(refusal(fault), 0);
     }

@@ -1,2 +1,12 @@
 pub mod FormLaws
 pub mod ExitLaws
+pub mod HeadLaws
+pub mod MarkLaws
+pub mod PutLaws
+pub mod WalkLaws
+pub mod ReadLaws
+pub mod ScanTests
+pub mod ScanMeasures
+pub mod ScanWays
+pub mod ScanEnds
+pub mod ConvertLaws

@@ -1,1 +1,3 @@
 pub mod Marks
+pub mod Walk
+pub mod Scans

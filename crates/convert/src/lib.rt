@@ -1,14 +1,26 @@
-// The forms of halt, sustain, await and abort, written record by record.
+// A block of edition 2 written in edition 1: the forms of halt, sustain, await and abort, record by record, and the call.
 pub mod exits;
+pub mod scan;
+mod walk;
 
+use crate::scan::Scanned;
+use crate::scan::scan;
+use crate::walk::Marks;
+use crate::walk::Spot;
+use crate::walk::write_at;
+use writing::Wrote;
+use writing::in_room;
+use writing::put_header;
 use writing::put_record;
 ghost use mathlib.Core.Path.{_≡_};
 ghost use Prim.Native.Nat.{_+_, _≤_};
 ghost use lib.ListN.{length};
 ghost use lib.Seq.{sets};
+ghost use Rattle.writing.specs.Answers.{roomed, wrote-values, wrote-owed, out-owed};
 ghost use Rattle.everyday.specs.Statements.{halt, sustain, await, abort-when};
 ghost use Rattle.everyday.specs.Conversion.{as-it-is};
 ghost use Rattle.converting.specs.Records.{watch-bytes, alone-bytes, bytes-before, bytes-behind};
+ghost use Rattle.converting.specs.Conversions.{converting};
 
 // loop (pause; present s then exit 0 else nothing).
 pub fn put_watch(out: &mut [u8], at: usize, s: u16) -> usize
@@ -76,4 +88,31 @@ pub fn put_abort_end(out: &mut [u8], at: usize, s: u16) -> usize
 {
     let a = put_record(out, at, 25, 0);
     put_watch(out, a, s)
+}
+
+// Writes a block of edition 2 in edition 1, the header else kept. A refusal comes before the first byte: 1 to 8 of the block, 4 with place 0 where the result passes a
+// limit, 12 where fewer bytes are lent than the result has.
+pub fn convert(block: &[u8], out: &mut [u8]) -> Wrote
+    ensures { λ r. ⌜ wrote-values r ≡ wrote-owed (roomed (converting (now (block .entry))) (length (now (out .entry)))) ⌝ }
+    ensures { λ _. ⌜ now (out .exit) ≡ out-owed (roomed (converting (now (block .entry))) (length (now (out .entry)))) (now (out .entry)) ⌝ }
+{
+    let scanned = scan(block);
+    match scanned {
+        Scanned::Refused(why, place) => Wrote::Refused(why, place),
+        Scanned::Good(d, size) => {
+            let lent = out.len();
+            let answer = in_room(size, lent);
+            if lent < size {
+                return answer;
+            }
+            put_header(out, d);
+            write_at(
+                block,
+                Spot { at: 14, to: 14 },
+                Marks { word: 0, count: 0 },
+                out,
+            );
+            answer
+        }
+    }
 }

@@ -1,7 +1,9 @@
 pub mod Made
+pub mod Readings
 pub mod Sound
 pub mod OnBytes
 pub mod Examples
 pub mod Sizes
 pub mod Records
 pub mod KindsKept
+pub mod Sorts

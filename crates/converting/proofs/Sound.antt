@@ -1,38 +1,39 @@
--- What a good reading of edition 2 gives: the tree's exits find their traps, its signals are in scope, its locals are numbered and its loops pass. One induction
--- on the reading; the statements differ only in what their own record was tested for. Assumes nothing.
-use mathlib.Core.Path.{_≡_, refl, sym, _∙_, ap, subst, subst⁻¹, subst₂}
+-- What a good reading of edition 2 gives: the tree's exits find their traps, its signals are in scope, its locals are numbered and its loops pass, and all bytes were
+-- read. By the records; the statements differ only in what their own was tested for. Assumes nothing.
+use mathlib.Core.Path.{_≡_, refl, sym, _∙_, ap, subst, subst⁻¹}
 use mathlib.Core.Bool.{Bool, true, false, not, cond, _&&_}
 use mathlib.Core.List.{List, _∷_}
 use mathlib.Core.Option.{Option, none, some}
-use Prim.Native.Nat.{ℕ, zero, suc, _+_, _≤_}
+use Prim.Native.Nat.{ℕ, suc, _+_, _≤_}
 use native.Mathlib.Nat.{add-zero}
 use native.Mathlib.Omega.{arith}
 use lib.Dec.{T, eqb, ltb, leb, leb→le, eqb→eq}
 use lib.ListN.{length, length-append}
 use borrow.Author.Tests.{leb-false, ltb-false, eqb-true}
 use Rattle.sets.specs.Numbers.{empty}
-use Rattle.sets.proofs.Members.{of-true, and-in, and-right}
+use Rattle.sets.proofs.Members.{of-true, and-in, and-left, and-right}
 use Rattle.rules.specs.Statements.{depth, from}
-use Rattle.block.specs.Format.{LIMIT, two-bytes, kind-at, operand-at, length-at, is-broken, Header, header, Sofar, Around as Surroundings, declared-here, outermost, begun}
+use Rattle.block.specs.Format.{two-bytes, kind-at, operand-at, length-at, is-broken, Header, header, Sofar, Around as Surroundings, declared-here, outermost, begun}
 use Rattle.block.proofs.Nesting.{both-in-row}
 use Rattle.block.proofs.Passes.{none-of}
 use Rattle.everyday.specs.Statements.{Alone, nothing, pause, halt, emit, sustain, await, exit, Around, suspend-on, loop, trap, local, abort-when}
 use Rattle.everyday.specs.Statements.{Between, present-then-else, in-sequence, in-parallel, Everyday, alone, around, between}
 use Rattle.everyday.specs.Check.{codes₂, may-stand, loops-pass₂, Trapped₂}
 use Rattle.converting.specs.Format.{Sort, of-none, of-one, of-two, sort-of, record-length, over-limit₂, wrong-signal₂, wrong-exit₂, Due, at-fault, stands, sorted, due, past₂, inside₂}
-use Rattle.converting.specs.Format.{Got₂, got₂, refused₂, and-then₂, with-children₂, read₂, bytes₂, or-else, lowest-endless₂, Reading₂, good₂, turned-down₂}
+use Rattle.converting.specs.Format.{Got₂, got₂, refused₂, read₂, bytes₂, or-else, lowest-endless₂, Reading₂, good₂, turned-down₂}
 use Rattle.converting.specs.Format.{loops-checked₂, ended₂, header-fault₂, reading₂}
 use Rattle.converting.specs.Legal.{ScopedBetween, Scoped₂, locals₂, Next₂}
+use Rattle.converting.proofs.Readings.{read-by}
 
 -- A record that stands passed the tests of signals and exits.
 pub record Passed (h : Header) (a : Surroundings) (r : Sofar) (s : Sort) : Type 0 where
   pub signal : wrong-signal₂ h a r s ≡ false
   pub exits : wrong-exit₂ a s ≡ false
 
-not-a-fault : {P : Type 0} {n : ℕ} {s : Sort} → at-fault n ≡ stands s → P
+pub not-a-fault : {P : Type 0} {n : ℕ} {s : Sort} → at-fault n ≡ stands s → P
 not-a-fault e = let z : _≡_ {A = ℕ} 0 1 = cc in absurd (omega arith)
 
-next-test : (t : Bool) (n : ℕ) (d : Due) {s : Sort} → cond t (at-fault n) d ≡ stands s → (t ≡ false) × (d ≡ stands s)
+pub next-test : (t : Bool) (n : ℕ) (d : Due) {s : Sort} → cond t (at-fault n) d ≡ stands s → (t ≡ false) × (d ≡ stands s)
 next-test true n d e = not-a-fault e
 next-test false n d e = (refl, e)
 
@@ -133,43 +134,11 @@ module _ (h : Header) where
       own in-sequence g = tt
       own in-parallel g = tt
 
-  -- One statement and those below it.
-  not-got : {P : Type 0} {n at : ℕ} {p : Everyday} {r : Sofar} → refused₂ n at ≡ got₂ p r → P
-  not-got e = let z : _≡_ {A = ℕ} 0 1 = cc in absurd (omega arith)
-
-  children-tree : (child : Surroundings → Sofar → Got₂) (a : Surroundings) (r : Sofar) (d : Due) (p : Everyday) (r₁ : Sofar)
-      → ((a : Surroundings) (r : Sofar) (p : Everyday) (r₁ : Sofar) → child a r ≡ got₂ p r₁ → Tree₂ h a r p r₁) → ((s : Sort) → d ≡ stands s → Passed h a r s)
-      → with-children₂ child a r d ≡ got₂ p r₁ → Tree₂ h a r p r₁
-  children-tree child a r (at-fault n) p r₁ f g e = not-got e
-  children-tree child a r (stands (of-none l)) p r₁ f g e =
-      let x : alone l ≡ p = cc in
-      let y : past₂ (of-none l) r ≡ r₁ = cc in
-      subst₂ (Tree₂ h a r) x y (alone-tree a r l (g (of-none l) refl))
-  children-tree child a r (stands (of-one k)) p r₁ f g e = go (child (inside₂ k a) (past₂ (of-one k) r)) refl e
-    where
-      go : (x : Got₂) → child (inside₂ k a) (past₂ (of-one k) r) ≡ x → and-then₂ x (λ q r₂. got₂ (around k q) r₂) ≡ got₂ p r₁ → Tree₂ h a r p r₁
-      go (refused₂ n at) c e = not-got e
-      go (got₂ q r₂) c e =
-          let x : around k q ≡ p = cc in
-          let y : r₂ ≡ r₁ = cc in
-          subst₂ (Tree₂ h a r) x y (around-tree a r r₂ k q (g (of-one k) refl) (f (inside₂ k a) (past₂ (of-one k) r) q r₂ c))
-  children-tree child a r (stands (of-two o)) p r₁ f g e = go (child a (past₂ (of-two o) r)) refl e
-    where
-      go : (x : Got₂) → child a (past₂ (of-two o) r) ≡ x → and-then₂ x (λ q r₂. and-then₂ (child a r₂) λ q′ r₃. got₂ (between o q q′) r₃) ≡ got₂ p r₁ → Tree₂ h a r p r₁
-      go (refused₂ n at) c e = not-got e
-      go (got₂ q r₂) c e = more (child a r₂) refl e
-        where
-          more : (x : Got₂) → child a r₂ ≡ x → and-then₂ x (λ q′ r₃. got₂ (between o q q′) r₃) ≡ got₂ p r₁ → Tree₂ h a r p r₁
-          more (refused₂ n at) c′ e = not-got e
-          more (got₂ q′ r₃) c′ e =
-              let x : between o q q′ ≡ p = cc in
-              let y : r₃ ≡ r₁ = cc in
-              subst₂ (Tree₂ h a r) x y (between-tree a r r₂ r₃ o q q′ (g (of-two o) refl) (f a (past₂ (of-two o) r) q r₂ c) (f a r₂ q′ r₃ c′))
-
   pub tree₂ : (room : ℕ) (b : List ℕ) (a : Surroundings) (r : Sofar) (p : Everyday) (r₁ : Sofar) → read₂ room b h a r ≡ got₂ p r₁ → Tree₂ h a r p r₁
-  unfolding read₂
-  tree₂ zero b a r p r₁ e = children-tree (λ a r. refused₂ LIMIT (r .place)) a r (due zero b h a r) p r₁ (λ a r p r₁ e. not-got e) (due-passed zero b h a r) e
-  tree₂ (suc room) b a r p r₁ e = children-tree (read₂ room b h) a r (due (suc room) b h a r) p r₁ (tree₂ room b) (due-passed (suc room) b h a r) e
+  tree₂ room b =
+      read-by b h (Tree₂ h) (λ room a r l e. alone-tree a r l (due-passed room b h a r (of-none l) e))
+      (λ room a r f p r₁ e t. around-tree a r r₁ f p (due-passed room b h a r (of-one f) e) t)
+      (λ room a r o p r₁ q r₂ e t u. between-tree a r r₁ r₂ o p q (due-passed room b h a r (of-two o) e) t u) room
 
 -- No loop is endless.
 or-none : (x y : Option ℕ) → or-else x y ≡ none → (x ≡ none) × (y ≡ none)
@@ -198,6 +167,10 @@ pub record Sound₂ (b : List ℕ) (h : Header) (p : Everyday) : Type 0 where
   pub scoped : Scoped₂ (h .inputs) (h .outputs) empty p
   pub locals-counted : h .locals ≡ length (locals₂ p)
   pub locals-next : Next₂ (h .inputs + h .outputs) p
+  pub after : Sofar
+  pub read : read₂ 64 b h outermost begun ≡ got₂ p after
+  pub ends : after .place ≡ length b
+  pub short : length b ≤ 3086
 
 not-good : {P : Type 0} {n at : ℕ} {h : Header} {p : Everyday} → turned-down₂ n at ≡ good₂ h p → P
 not-good e = let z : _≡_ {A = ℕ} 0 1 = cc in absurd (omega arith)
@@ -220,20 +193,21 @@ header-fits₂ b e =
     ltb-false _ _ (e₄ .0)
 
 ended-sound : (b : List ℕ) (h : Header) (x : Got₂) (h′ : Header) (p : Everyday) → ended₂ b h x ≡ good₂ h′ p
-    → (h′ ≡ h) × (r : Sofar) × (x ≡ got₂ p r) × (r .locals ≡ h .locals) × (lowest-endless₂ 14 p ≡ none)
+    → (h′ ≡ h) × (r : Sofar) × (x ≡ got₂ p r) × (r .locals ≡ h .locals) × (lowest-endless₂ 14 p ≡ none) × (r .place ≡ length b)
 ended-sound b h (refused₂ n at) h′ p e = not-good e
 ended-sound b h (got₂ q r) h′ p e =
     let e₁ = goes-on-if (eqb (r .place) (length b) && eqb (r .locals) (h .locals)) _ _ (loops-checked₂ h q (lowest-endless₂ 14 q)) e in
     let l = eqb→eq (r .locals) (h .locals) (and-right (eqb (r .place) (length b)) (eqb (r .locals) (h .locals)) (of-true (e₁ .0))) in
-    go (lowest-endless₂ 14 q) refl (e₁ .1) l
+    let k = eqb→eq (r .place) (length b) (and-left (eqb (r .place) (length b)) (eqb (r .locals) (h .locals)) (of-true (e₁ .0))) in
+    go (lowest-endless₂ 14 q) refl (e₁ .1) l k
   where
-    go : (o : Option ℕ) → lowest-endless₂ 14 q ≡ o → loops-checked₂ h q o ≡ good₂ h′ p → r .locals ≡ h .locals
-        → (h′ ≡ h) × (r₁ : Sofar) × (got₂ q r ≡ got₂ p r₁) × (r₁ .locals ≡ h .locals) × (lowest-endless₂ 14 p ≡ none)
-    go (some at) m e l = not-good e
-    go none m e l =
+    go : (o : Option ℕ) → lowest-endless₂ 14 q ≡ o → loops-checked₂ h q o ≡ good₂ h′ p → r .locals ≡ h .locals → r .place ≡ length b
+        → (h′ ≡ h) × (r₁ : Sofar) × (got₂ q r ≡ got₂ p r₁) × (r₁ .locals ≡ h .locals) × (lowest-endless₂ 14 p ≡ none) × (r₁ .place ≡ length b)
+    go (some at) m e l k = not-good e
+    go none m e l k =
         let x : h ≡ h′ = cc in
         let y : q ≡ p = cc in
-        (sym x, r, ap (λ (t : Everyday). got₂ t r) y, l, subst (λ (t : Everyday). lowest-endless₂ 14 t ≡ none) y m)
+        (sym x, r, ap (λ (t : Everyday). got₂ t r) y, l, subst (λ (t : Everyday). lowest-endless₂ 14 t ≡ none) y m, k)
 
 pub sound₂ : (b : List ℕ) (h : Header) (p : Everyday) → reading₂ b ≡ good₂ h p → Sound₂ b h p
 unfolding reading₂
@@ -255,4 +229,8 @@ sound₂ b h p e =
       scoped = subst⁻¹ (λ (h : Header). Scoped₂ (h .inputs) (h .outputs) empty p) eh (t .scoped);
       locals-counted = ap (λ (h : Header). h .locals) eh ∙ counted;
       locals-next = subst⁻¹ (λ (h : Header). Next₂ (h .inputs + h .outputs) p) eh (subst (λ (k : ℕ). Next₂ k p) (add-zero (header b .inputs + header b .outputs)) (t .next));
+      after = w .1;
+      read = subst⁻¹ (λ (h : Header). read₂ 64 b h outermost begun ≡ got₂ p (w .1)) eh (w .2);
+      ends = w .5;
+      short = ltb-false 3086 (length b) (e₁ .0);
     }

@@ -10,7 +10,7 @@ use mathlib.Core.List.{[], _∷_}
 use lib.Dec.{eqb}
 use borrow.Author.Tests.{eq-eqb, ne-eqb}
 use Rattle.sets.specs.Numbers.{listed}
-use Rattle.tables.specs.Kinds.{Shape, shape, short, long, of-shape, length-of, operands-of, children-of}
+use Rattle.tables.specs.Kinds.{Shape, shape, wide-shape, short, long, of-shape, length-of, operands-of, children-of}
 use Rattle.tables.specs.Kinds.{wire-of}
 use Rattle.tables.specs.Table.{kept-operand}
 use Rattle.tables.specs.declared.kinds.Shape.{Shape as Coded}
@@ -87,6 +87,30 @@ pub above-kinds : (k : ℕ) → 26 < k → shape k ≡ none
 above-kinds k l =
     no-kind k (λ e. omega arith) (λ e. omega arith) (⊎-elim (λ e. omega arith) (λ e. omega arith)) (⊎-elim (λ e. omega arith) (λ e. omega arith))
     (⊎-elim (λ e. omega arith) (λ e. omega arith)) (⊎-elim (λ e. omega arith) (λ e. omega arith)) (λ e. omega arith)
+
+-- The four kinds of edition 2; every other kind has the shape that it has in edition 1.
+pub halt-range : (k : ℕ) → k ≡ 32 → wide-shape k ≡ short 0
+unfolding wide-shape listed
+halt-range k e = ap wide-shape e
+
+pub signal-forms : (k : ℕ) → 33 ≤ k → k ≤ 34 → wide-shape k ≡ long 0
+unfolding wide-shape listed
+signal-forms k lo hi = ⊎-elim (λ e. ap wide-shape e) (λ e. ap wide-shape e) (first-or-next 33 lo hi)
+
+pub abort-range : (k : ℕ) → k ≡ 35 → wide-shape k ≡ long 1
+unfolding wide-shape listed
+abort-range k e = ap wide-shape e
+
+as-it-was : (k : ℕ) → (k ≡ 32 → ⊥) → (k ≡ 33 → ⊥) → (k ≡ 34 → ⊥) → (k ≡ 35 → ⊥) → wide-shape k ≡ shape k
+unfolding wide-shape listed
+as-it-was k a b c d = simp (ne-eqb k 32 a, ne-eqb k 33 b, ne-eqb k 34 c, ne-eqb k 35 d)
+
+pub first-edition : (k : ℕ) → k < 32 → wide-shape k ≡ shape k
+first-edition k l = as-it-was k (λ e. omega arith) (λ e. omega arith) (λ e. omega arith) (λ e. omega arith)
+
+pub above-forms : (k : ℕ) → 35 < k → wide-shape k ≡ none
+above-forms k l =
+    as-it-was k (λ e. omega arith) (λ e. omega arith) (λ e. omega arith) (λ e. omega arith) ∙ above-kinds k (omega arith)
 
 -- What the code's shape says of a kind.
 pub record Shaped (k : ℕ) (s : Coded) : Type 0 where

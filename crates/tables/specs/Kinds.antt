@@ -33,6 +33,15 @@ shape k =
     (cond (listed (19 ∷ []) k) (long 2)
     none)))))
 
+-- Edition 2 has four kinds more: 32 halt (length 4, no child), 33 sustain, 34 await (length 6, operand a signal, no child) and 35 abort (length 6, operand a
+-- signal, one child).
+unfoldable pub wide-shape : ℕ → Option Shape
+wide-shape k =
+    cond (listed (32 ∷ []) k) (short 0)
+    (cond (listed (33 ∷ 34 ∷ []) k) (long 0)
+    (cond (listed (35 ∷ []) k) (long 1)
+    (shape k)))
+
 -- A number of a kind's shape; a kind that is not allowed has none, and 0 is no record's length.
 abbrev pub of-shape : (Shape → ℕ) → Option Shape → ℕ
 of-shape f none = 0

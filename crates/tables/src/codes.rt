@@ -29,7 +29,7 @@ pub(crate) fn exit_codes(d: Depth) -> u32
 }
 
 // A statement's codes, from its kind and operand and its children's codes.
-pub(crate) fn codes_for(kind: u16, operand: u16, first: u32, second: u32) -> u32
+pub fn codes_for(kind: u16, operand: u16, first: u32, second: u32) -> u32
     ensures { λ r. ⌜ ((kind ≡ 25 → operand < 16) → bits r ≡ codes-for kind operand (bits first) (bits second)) ⌝ }
 {
     match kind {

@@ -6,7 +6,7 @@ ghost use Prim.Native.Nat.{_<_};
 ghost use lib.Dec.{eqb};
 ghost use Rattle.sets.specs.Numbers.{listed};
 ghost use Rattle.rules.specs.Statements.{depth, code};
-ghost use Rattle.tables.specs.Kinds.{shape, short, long, length-of};
+ghost use Rattle.tables.specs.Kinds.{shape, wide-shape, short, long, length-of};
 ghost use Rattle.tables.specs.Kinds.{wire-of};
 
 // An exit's depth: the traps passed over before its own.
@@ -85,17 +85,30 @@ fn in_turn(kind: u16) -> u16
     }
 }
 
-// Length, operands and children of a record, by its kind.
-pub fn shape_of(kind: u16) -> Wire
-    ensures { λ r. ⌜ r ≡ wire-of (shape kind) ⌝ }
+// Length, operands and children of a record of either edition, by its kind.
+pub fn wide_shape_of(kind: u16) -> Wire
+    ensures { λ r. ⌜ r ≡ wire-of (wide-shape kind) ⌝ }
 {
     match kind {
         16..=17 => short(0),
         18..=20 => long(under_signal(kind)),
         21..=24 => short(in_turn(kind)),
         25..=26 => long(kind - 25),
+        32 => short(0),
+        33..=34 => long(0),
+        35 => long(1),
         _ => Wire::Unknown,
     }
+}
+
+// The same in edition 1, whose last kind is 26.
+pub fn shape_of(kind: u16) -> Wire
+    ensures { λ r. ⌜ r ≡ wire-of (shape kind) ⌝ }
+{
+    if 26 < kind {
+        return Wire::Unknown;
+    }
+    wide_shape_of(kind)
 }
 
 // The length of a kind's records, and 0 for no kind.

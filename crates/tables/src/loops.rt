@@ -35,7 +35,7 @@ pub fn second_at(sizes: &[u16; 512], at: usize) -> usize
 }
 
 // The statement itself where it is a loop whose body may complete with 0, else what was found before.
-fn lower(kind: u16, body: u32, at: usize, found: usize) -> usize
+pub fn lower(kind: u16, body: u32, at: usize, found: usize) -> usize
     ensures { λ r. ⌜ r ≡ cond (eqb kind 22 && bits body 0) at found ⌝ }
 {
     if kind == 22 {

@@ -27,7 +27,7 @@ use Rattle.block.proofs.Parse.{read-fault, read-leaf, read-above, read-joined}
 use Rattle.block.proofs.Built.{leaf-builds, above-builds, joined-builds}
 use Rattle.block.proofs.Nesting.{leaf-nests, above-nests, joined-nests, row-tail}
 use Rattle.block.proofs.Trees.{Around-fits, small-signal, inside-fits, above-no-pause, joined-no-pause, leaf-numbered, locals-counted}
-use Rattle.block.proofs.Tests.{fault-limit, fault-last, header-signals}
+use Rattle.block.proofs.Tests.{fault-due, as-limit, as-last, header-signals}
 use Rattle.tables.proofs.Places.{all-counted}
 use Rattle.block.proofs.Offsets.{length-small}
 use Rattle.block.proofs.GoodReadings.{Sound, sound, none-endless, outermost-fits, statements-read, reading-is}
@@ -129,10 +129,10 @@ module _ (b : List ℕ) (h : Header) (fits : h .inputs + h .outputs + h .locals 
     -- Its number is LIMIT or none.
     fault-is : (room : ℕ) {t : Stmt} → Kind k → Own h a k x t → (k ≡ 26 → (r .locals < h .locals) × (x ≡ h .inputs + h .outputs + r .locals)) → (z : Bool) → over-limit room a r k ≡ z
         → statement-fault room b h a r ≡ cond z LIMIT 0
-    fault-is room v own d true e = fault-limit room b h a r (due v) (whole v) k (length-at b (r .place)) (sym (w .its-kind)) refl (sym (w .its-length)) e
+    fault-is room v own d true e = fault-due room b h a r (due v) k (sym (w .its-kind)) ∙ as-limit room b h a r k (whole v) (length-at b (r .place)) refl (sym (w .its-length)) e
     fault-is room v own d false e =
-        fault-last room b h a r (due v) (whole v) k (length-at b (r .place)) (sym (w .its-kind)) refl (sym (w .its-length)) e x (sym o) (right-signal h a r x v own d) false
-        (sym (right-exit h a r x k own))
+        fault-due room b h a r (due v) k (sym (w .its-kind))
+        ∙ as-last room b h a r k (whole v) (length-at b (r .place)) refl (sym (w .its-length)) e x (sym o) (right-signal h a r x v own d) false (sym (right-exit h a r x k own))
 
     refused-here : (room : ℕ) → statement-fault room b h a r ≡ LIMIT → read room b h a r ≡ refused LIMIT (r .place)
     unfolding read
@@ -318,9 +318,9 @@ module _ (h : Header) (rest : List ℕ) where
         λ j. record { version = v j; inputs = i j; outputs = o j; locals = l j }
 
     header-limit : header-fault b ≡ cond (ltb 64 (h .inputs + h .outputs + h .locals)) LIMIT 0
-    unfolding header-bytes in-bytes header
+    unfolding header-bytes in-bytes header header-fault
     header-limit =
-        header-signals b not-broken refl refl refl (ltb 64 (h .inputs + h .outputs + h .locals))
+        header-signals 1 b not-broken refl refl refl (ltb 64 (h .inputs + h .outputs + h .locals))
         (ap (λ (g : Header). ltb 64 (g .inputs + g .outputs + g .locals)) (sym header-back))
 
 -- A block of which all is in order but the limits.
