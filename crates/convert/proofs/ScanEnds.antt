@@ -158,7 +158,7 @@ module _ (b : List ℕ) where
       (small-if (ltb 64 (header b .inputs + header b .outputs + header b .locals)) 4 0 (lit≤ tt) (lit≤ tt))))
 
   same-header : header-fault₂ b ≡ header-fault-in 2 b
-  unfolding header-fault₂ header-fault-in
+  unfolding header-fault₂
   same-header = refl
 
   named : (n : ℕ) {w : Why} → 1 ≤ n → n ≤ 8 → w ≡ why-of n → n ≡ number w

@@ -8,7 +8,7 @@ use lib.Dec.{eqb, ltb, leb}
 use lib.ListN.{length}
 use Rattle.sets.specs.Numbers.{single, union}
 use Rattle.rules.specs.Statements.{depth}
-use Rattle.block.specs.Format.{BROKEN, KIND, EDITION, LIMIT, SIGNAL, EXIT, SHAPE, LOOP, two-bytes, length-at, kind-at, operand-at, is-broken, Header, header}
+use Rattle.block.specs.Format.{BROKEN, KIND, LIMIT, SIGNAL, EXIT, SHAPE, LOOP, length-at, kind-at, operand-at, is-broken, Header, header, header-fault-in}
 use Rattle.block.specs.Format.{Sofar, Around as Surroundings, declared-here, outermost, begun}
 use Rattle.everyday.specs.Statements.{Alone, nothing, pause, halt, emit, sustain, await, exit, Around, suspend-on, loop, trap, local, abort-when}
 use Rattle.everyday.specs.Statements.{Between, present-then-else, in-sequence, in-parallel, Everyday, alone, around, between}
@@ -225,14 +225,8 @@ ended₂ b h (got₂ p r) =
 
 -- The header: as in edition 1, with edition 2.
 unfoldable pub header-fault₂ : List ℕ → ℕ
-unfolding is-broken header
-header-fault₂ b =
-    let h = header b in
-    cond (is-broken b 0) BROKEN
-    (cond (not (eqb (kind-at b 0) 1 && eqb (length-at b 0) 14)) KIND
-    (cond (not (eqb (two-bytes b 4) 2)) EDITION
-    (cond (ltb 64 (h .inputs + h .outputs + h .locals)) LIMIT
-    0)))
+unfolding is-broken header header-fault-in
+header-fault₂ b = header-fault-in 2 b
 
 -- The size test, before all else; the header; the statements, at most 64 on a path from the root; the end.
 unfoldable pub reading₂ : List ℕ → Reading₂

@@ -9,7 +9,7 @@ use Rattle.tables.proofs.kinds.shape_of.Tie as tie
 
 returns : tie.Need-returns
 unfolding wire-of
-returns c = sym (ap wire-of (above-kinds _ (c .if1 .taken)))
+returns c = sym (ap wire-of (above-kinds _ (omega (arith, c .if1 .taken))))
 
 returns-2 : tie.Need-returns-2
 returns-2 c = c .wide-shape-of .ensures ∙ ap wire-of (first-edition _ (omega (arith, c .before .if1 .left)))
