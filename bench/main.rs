@@ -4,6 +4,7 @@
 //!   bench plot FILE MACHINE      time against statements and against nested locals, as a picture
 //!   bench slowest FILE MACHINE   two minutes of search for the slowest block, whose bytes are written
 //!   bench rates MACHINE          checks and instants a second on one core and on two
+//!   bench texts MACHINE          texts read and written
 //! Ends with 1 where the two give different answers, or a picture could not be written.
 
 mod climb;
@@ -15,6 +16,7 @@ mod race;
 mod rates;
 mod shapes;
 mod small;
+mod texts;
 mod tree;
 
 use plot::{Panel, Point};
@@ -118,6 +120,11 @@ fn main() {
         ["rates", ref rest @ ..] => {
             machine(rest);
             rates::print();
+            true
+        }
+        ["texts", ref rest @ ..] => {
+            machine(rest);
+            texts::print();
             true
         }
         ["smoke", ref rest @ ..] => {

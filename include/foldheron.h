@@ -50,7 +50,7 @@ extern "C" {
 #define FOLDHERON_GOOD 0
 #define FOLDHERON_BROKEN 1           /* a record is cut off, or has a length below 4 */
 #define FOLDHERON_KIND 2             /* a kind that is not allowed here, or not that kind's length */
-#define FOLDHERON_EDITION 3          /* the header's edition is not 1 */
+#define FOLDHERON_EDITION 3          /* the header's edition is not 1; of a block to be converted, not 2 */
 #define FOLDHERON_LIMIT 4            /* more of something than there may be */
 #define FOLDHERON_SIGNAL 5           /* a signal that may not stand here */
 #define FOLDHERON_EXIT 6             /* an exit without its trap */
@@ -238,6 +238,13 @@ uint16_t foldheron_alike(const uint8_t *first, size_t first_size, const uint8_t 
 #define FOLDHERON_AT_WRITTEN 16
 uint16_t foldheron_double_loops(const uint8_t *block, size_t block_size, uint8_t *out, size_t out_size, uint8_t *answer, size_t answer_size);
 
+/* Writes a block of edition 2, whose statements may also be halt, sustain, await and abort (kinds 32 to 35, docs/FORMAT.md), in edition 1, the header else kept, to the front of the lent
+ * output; the bytes behind it stay, and refused, all of them do. What is written passes foldheron_check, and from fresh any input run gives on it the outputs, codes and 13 that the
+ * four statements mean. No other call takes edition 2, and this one takes no other. FOLDHERON_BLOCK_MOST bytes are enough for any. The answer, 24 bytes: number, place, and how many bytes
+ * were written (AT_WRITTEN), 0 where it was refused. Refusals: 1 to 8 of the block lent, then 4 with place 0 where what would be written passes a limit, then 12. */
+#define FOLDHERON_CONVERT_SIZE 24
+uint16_t foldheron_convert(const uint8_t *block, size_t block_size, uint8_t *out, size_t out_size, uint8_t *answer, size_t answer_size);
+
 /* Writes the block as text, in the grammar of docs/FORMAT.md, to the front of the lent text; the bytes behind it stay, and refused, all of them do. A block has one text: signals are
  * named I0, O1 or S2 by their numbers, as they are inputs, outputs or locals, and traps T0, T1 .. by how many stand around them. It ends with a newline; no byte 0 comes after it.
  * FOLDHERON_TEXT_MOST bytes are enough for any. The answer, 24 bytes: number, place, and how many bytes were written (AT_WRITTEN), 0 where it was refused. Refusals: 1 to 8,
@@ -250,7 +257,8 @@ uint16_t foldheron_write_text(const uint8_t *block, size_t block_size, uint8_t *
  * refused, all of them do. What is written passes foldheron_check. Read so, what foldheron_write_text wrote of a block gives the same bytes back. FOLDHERON_BLOCK_MOST bytes are
  * enough for any. The answer, 24 bytes: number, place, and how many bytes were written (AT_WRITTEN), 0 where it was refused. Refusals: 15 for a text outside the grammar, or with a name
  * that is not declared there or declared again; its place is the first byte of the token at fault, or the text's length where it ends too early. Then, of the block that the text stands
- * for, 4 with place 0 for over 64 signals; 1 to 8, with the offset in that block as the place; then 12. A text with over 1,024 places open at once gets 4 with place 0 there and then. */
+ * for, 4 with place 0 for over 64 signals; 1 to 8, with the offset in that block as the place; then 12. A text with over 1,024 places open at once gets 4 with place 0 there and then.
+ * The time grows with the text's length, and with the square of how many names it declares as inputs and outputs: who reads texts of others sees to their length. */
 #define FOLDHERON_READ_TEXT_SIZE 24
 uint16_t foldheron_read_text(const uint8_t *text, size_t text_size, uint8_t *block, size_t block_size, uint8_t *answer, size_t answer_size);
 
@@ -379,6 +387,11 @@ struct foldheron_double_loops_answer {
     size_t place, count;
 };
 
+struct foldheron_convert_answer {
+    uint16_t number;
+    size_t place, count;
+};
+
 /* Of foldheron_write_text and foldheron_read_text. */
 struct foldheron_text_answer {
     uint16_t number;
@@ -480,6 +493,15 @@ static inline struct foldheron_alike_answer foldheron_read_alike(const uint8_t *
 static inline struct foldheron_double_loops_answer foldheron_read_double_loops(const uint8_t *answer)
 {
     struct foldheron_double_loops_answer a;
+    a.number = (uint16_t)foldheron_number(answer, FOLDHERON_AT_NUMBER);
+    a.place = (size_t)foldheron_number(answer, FOLDHERON_AT_PLACE);
+    a.count = (size_t)foldheron_number(answer, FOLDHERON_AT_WRITTEN);
+    return a;
+}
+
+static inline struct foldheron_convert_answer foldheron_read_convert(const uint8_t *answer)
+{
+    struct foldheron_convert_answer a;
     a.number = (uint16_t)foldheron_number(answer, FOLDHERON_AT_NUMBER);
     a.place = (size_t)foldheron_number(answer, FOLDHERON_AT_PLACE);
     a.count = (size_t)foldheron_number(answer, FOLDHERON_AT_WRITTEN);

@@ -222,6 +222,11 @@ static void answer_copies(const struct call *call)
     put_written("copies", foldheron_double_loops(block, call->block_size, out, (size_t)call->other, answer, FOLDHERON_DOUBLE_LOOPS_SIZE), call);
 }
 
+static void answer_convert(const struct call *call)
+{
+    put_written("convert", foldheron_convert(block, call->block_size, out, (size_t)call->other, answer, FOLDHERON_CONVERT_SIZE), call);
+}
+
 static void answer_read_text(const struct call *call)
 {
     put_written("readtext", foldheron_read_text(block, call->block_size, out, (size_t)call->other, answer, FOLDHERON_READ_TEXT_SIZE), call);
@@ -234,9 +239,9 @@ static void answer_write_text(const struct call *call)
 
 int main(int argc, char **argv)
 {
-    static void (*const answers[17])(const struct call *) = {NULL, answer_check, answer_fresh, answer_instant, answer_logged, answer_excerpt,
+    static void (*const answers[18])(const struct call *) = {NULL, answer_check, answer_fresh, answer_instant, answer_logged, answer_excerpt,
                                                              answer_heard, answer_heard_logged, answer_reason, answer_install, answer_fetch,
-                                                             answer_withdraw, answer_maze, answer_alike, answer_copies, answer_read_text, answer_write_text};
+                                                             answer_withdraw, answer_maze, answer_alike, answer_copies, answer_read_text, answer_write_text, answer_convert};
     struct call call;
     int more = -1;
     if (argc != 2) {
@@ -248,7 +253,7 @@ int main(int argc, char **argv)
         fprintf(stderr, "answer: %s: %s\n", argv[1], strerror(errno));
         return 1;
     }
-    while ((more = next_call(file, &call)) == 1 && call.kind <= 16 && answers[call.kind] != NULL) {
+    while ((more = next_call(file, &call)) == 1 && call.kind <= 17 && answers[call.kind] != NULL) {
         memset(answer, LENT, sizeof answer);
         answers[call.kind](&call);
         putchar('\n');

@@ -80,7 +80,7 @@ static void try_layout(void)
     EXPECT(FOLDHERON_WITHDRAW_SIZE == 16 && FOLDHERON_REASON_SIZE == 40 && foldheron_number(bytes, FOLDHERON_AT_STATEMENT) == 4);
     EXPECT(FOLDHERON_WHY_REFUSED == 0 && FOLDHERON_WHY_PRESENT == 1 && FOLDHERON_WHY_NOT_EXECUTED == 2);
     EXPECT(FOLDHERON_ALIKE_SIZE == 32 && FOLDHERON_DOUBLE_LOOPS_SIZE == 24 && FOLDHERON_MAZE_SIZE == 40 && FOLDHERON_CORRIDOR_SIZE == 48);
-    EXPECT(FOLDHERON_RUN_MOST == 1024 && FOLDHERON_WRITE_TEXT_SIZE == 24 && FOLDHERON_READ_TEXT_SIZE == 24 && FOLDHERON_TEXT_MOST == 137305);
+    EXPECT(FOLDHERON_CONVERT_SIZE == 24 && FOLDHERON_RUN_MOST == 1024 && FOLDHERON_WRITE_TEXT_SIZE == 24 && FOLDHERON_READ_TEXT_SIZE == 24 && FOLDHERON_TEXT_MOST == 137305);
 }
 
 /* The structs, against an answer whose n-th number is n. */
@@ -105,6 +105,8 @@ static void try_structs(void)
     EXPECT(a.number == 0 && a.place == 1 && a.block == 2 && a.length == 3);
     struct foldheron_double_loops_answer d = foldheron_read_double_loops(bytes);
     EXPECT(d.number == 0 && d.place == 1 && d.count == 2);
+    struct foldheron_convert_answer v = foldheron_read_convert(bytes);
+    EXPECT(v.number == 0 && v.place == 1 && v.count == 2);
     struct foldheron_text_answer t = foldheron_read_text_answer(bytes);
     EXPECT(t.number == 0 && t.place == 1 && t.count == 2);
     struct foldheron_maze_answer m = foldheron_read_maze(bytes);
@@ -595,6 +597,37 @@ static void try_double_loops(void)
     EXPECT(foldheron_double_loops(loop, sizeof loop, a.bytes, 42, a.bytes + 64, 23) == FOLDHERON_ANSWER && guarded(&a, 0));
 }
 
+/* The block of edition 2 in edition 1: these bytes, or this refusal; no other lent byte changes. */
+static int converts(const uint8_t *bytes, size_t size, size_t room, uint16_t number, size_t place, const uint8_t *converted, size_t count)
+{
+    const uint64_t numbers[] = {number, place, count};
+    struct lent a = lend(), out = lend();
+    uint16_t back = foldheron_convert(bytes, size, out.bytes, room, a.bytes, FOLDHERON_CONVERT_SIZE);
+    return back == number && told(&a, FOLDHERON_CONVERT_SIZE, numbers) && memcmp(out.bytes, converted, count) == 0 && guarded(&out, count);
+}
+
+/* trap (abort (sustain O; exit 0) when I): inside the form the exit is 1. 16 aborts around a halt would have 66 on the path. */
+static void try_convert(void)
+{
+    static const uint8_t everyday[] = {14, 0, 1, 0, 2, 0, 7, 0, 1, 0, 1, 0, 0, 0, 4, 0, 24, 0, 6, 0, 35, 0, 0, 0, 4, 0, 21, 0, 6, 0, 33, 0, 1, 0, 6, 0, 25, 0, 0, 0};
+    static const uint8_t form[] = {14, 0, 1, 0, 1, 0, 7, 0, 1, 0, 1, 0, 0, 0, 4, 0, 24, 0, 4, 0, 24, 0, 4, 0, 23, 0, 4, 0, 21, 0, 6, 0, 20, 0, 0, 0,
+                                   4, 0, 21, 0, 4, 0, 22, 0, 4, 0, 21, 0, 6, 0, 18, 0, 1, 0, 4, 0, 17, 0, 6, 0, 25, 0, 1, 0,
+                                   6, 0, 25, 0, 0, 0, 4, 0, 22, 0, 4, 0, 21, 0, 4, 0, 17, 0, 6, 0, 19, 0, 0, 0, 6, 0, 25, 0, 0, 0, 4, 0, 16, 0};
+    static const uint8_t input[] = {14, 0, 1, 0, 2, 0, 7, 0, 1, 0, 0, 0, 0, 0, 6, 0, 33, 0, 0, 0};
+    uint8_t nested[14 + 6 * 16 + 4] = {14, 0, 1, 0, 2, 0, 7, 0, 1};
+    struct lent a = lend();
+    for (size_t n = 0; n < 16; n++)
+        memcpy(nested + 14 + 6 * n, "\6\0\43\0\0\0", 6);
+    memcpy(nested + sizeof nested - 4, "\4\0\40\0", 4);
+    EXPECT(converts(everyday, sizeof everyday, sizeof form, 0, 0, form, sizeof form) && converts(everyday, sizeof everyday, 120, 0, 0, form, sizeof form));
+    EXPECT(converts(everyday, sizeof everyday, sizeof form - 1, FOLDHERON_ROOM, 0, form, 0) && converts(everyday, sizeof everyday, 0, FOLDHERON_ROOM, 0, form, 0));
+    EXPECT(converts(block, sizeof block, 0, FOLDHERON_EDITION, 0, form, 0) && converts(input, sizeof input, 0, FOLDHERON_SIGNAL, 14, form, 0));
+    EXPECT(converts(everyday, sizeof everyday - 1, 0, FOLDHERON_BROKEN, 34, form, 0) && converts(nested, sizeof nested, 0, FOLDHERON_LIMIT, 0, form, 0));
+    EXPECT(foldheron_check(everyday, sizeof everyday, a.bytes, FOLDHERON_CHECK_SIZE) == FOLDHERON_EDITION);
+    a = lend();
+    EXPECT(foldheron_convert(everyday, sizeof everyday, a.bytes, 80, a.bytes + 80, 25) == FOLDHERON_ANSWER && guarded(&a, 0));
+}
+
 /* The block as text: these bytes, or this refusal; no other lent byte changes. */
 static int shows(const uint8_t *bytes, size_t size, size_t room, uint16_t number, size_t place, const char *text)
 {
@@ -711,6 +744,7 @@ int main(void)
     try_alike();
     try_pairs();
     try_double_loops();
+    try_convert();
     try_write_text();
     try_read_text();
     try_maze();

@@ -5,7 +5,7 @@ use foldheron::{check, excerpt, fresh, instant, instant_heard, instant_heard_log
 use foldheron::{reason, Asked, Doubt, Instant, Logged, Reaction, Reason, Refusal, Summary};
 use foldheron::{alike, corridor, double_loops, maze, Corridor, Likeness, Room, Rooms, RUN_MOST};
 use foldheron::{fetch, install, withdraw, BLOCK_MOST, HELD_MOST, SHELF};
-use foldheron::{read_text, write_text, TEXT_MOST};
+use foldheron::{convert, read_text, write_text, TEXT_MOST};
 use std::sync::atomic::{AtomicUsize, Ordering};
 
 static WRONG: AtomicUsize = AtomicUsize::new(0);
@@ -301,6 +301,27 @@ fn try_double_loops() {
     expect!(alike(&block, &twice, &mut run) == Likeness::Alike);
 }
 
+/// await I; sustain O, in edition 2 and in edition 1.
+fn try_convert() {
+    let everyday = [14, 0, 1, 0, 2, 0, 7, 0, 1, 0, 1, 0, 0, 0, 4, 0, 21, 0, 6, 0, 34, 0, 0, 0, 6, 0, 33, 0, 1, 0];
+    let form = [
+        14, 0, 1, 0, 1, 0, 7, 0, 1, 0, 1, 0, 0, 0, 4, 0, 21, 0, 4, 0, 24, 0, 4, 0, 22, 0, 4, 0, 21, 0, 4, 0, 17, 0, 6, 0, 19, 0, 0, 0, 6, 0, 25, 0, 0, 0,
+        4, 0, 16, 0, 4, 0, 22, 0, 4, 0, 21, 0, 6, 0, 18, 0, 1, 0, 4, 0, 17, 0,
+    ];
+    let mut out = [0xA5; BLOCK_MOST];
+    expect!(convert(&everyday, &mut out[..67]) == Err(refused(12, 0)) && convert(&BLOCK, &mut out) == Err(refused(3, 0)));
+    expect!(convert(&everyday[..29], &mut out) == Err(refused(1, 24)) && check(&everyday) == Err(refused(3, 0)));
+    expect!(out == [0xA5; BLOCK_MOST]);
+    expect!(convert(&everyday, &mut out[..68]) == Ok(&form) && convert(&everyday, &mut out) == Ok(&form) && out[68..] == [0xA5; BLOCK_MOST - 68]);
+    let mut state = [0; 26];
+    expect!(fresh(&form, &mut state).is_ok());
+    let told: Vec<u64> = [1, 0, 1, 0].iter().map(|&inputs| match instant(&form, &mut state, inputs) {
+        Instant::Answered(reaction) => reaction.present,
+        _ => u64::MAX,
+    }).collect();
+    expect!(told == [0, 0, 2, 2]);
+}
+
 fn try_write_text() {
     let text = b"version 7;\ninput I0;\noutput O1;\nsuspend\n  pause;\n  emit O1\nwhen I0\n";
     let (mut out, size) = (vec![0xA5; TEXT_MOST], text.len());
@@ -379,6 +400,7 @@ fn main() {
     try_reason();
     try_alike();
     try_double_loops();
+    try_convert();
     try_write_text();
     try_read_text();
     try_maze();

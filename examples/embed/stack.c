@@ -1,5 +1,6 @@
 /* How much stack the calls take. Each is run on a stack of its own that was painted before, on blocks as deep as a block may be: 64
- * statements on a path, with up to 6 locals, 16 traps and any loops on it, from fresh and from the states that follow; the maze on such blocks of its form.
+ * statements on a path, with up to 6 locals, 16 traps and any loops on it, from fresh and from the states that follow; the maze on such blocks of its form,
+ * and what converts edition 2 on such paths of that edition, of aborts too.
  * Prints how many calls took more than FOLDHERON_STACK_MOST, of two blocks compared FOLDHERON_ALIKE_STACK_MOST and of a text read FOLDHERON_READ_TEXT_STACK_MOST; with a
  * word, also the most that each call took. Ends with 0 where none took more. */
 #define _XOPEN_SOURCE 600
@@ -10,11 +11,11 @@
 #include <ucontext.h>
 
 enum { DEEPEST = 64, ROOM = 1 << 17, PAINT = 0xA5, SPINES = 1500 };
-enum { PRESENT = 19, SUSPEND, SEQUENCE, LOOP, PARALLEL, TRAP, EXIT, LOCAL };
+enum { PRESENT = 19, SUSPEND, SEQUENCE, LOOP, PARALLEL, TRAP, EXIT, LOCAL, ABORT = 35 };
 
-enum { CHECK, FRESH, INSTANT, LOGGED, HEARD, HEARD_LOGGED, EXCERPT, REASON, INSTALL, FETCH, WITHDRAW, ALIKE, DOUBLE_LOOPS, WRITE_TEXT, READ_TEXT, MAZE, CORRIDOR, CALLS };
+enum { CHECK, FRESH, INSTANT, LOGGED, HEARD, HEARD_LOGGED, EXCERPT, REASON, INSTALL, FETCH, WITHDRAW, ALIKE, DOUBLE_LOOPS, CONVERT, WRITE_TEXT, READ_TEXT, MAZE, CORRIDOR, CALLS };
 static const char *const names[CALLS] = {"check",  "fresh",   "instant", "instant_logged", "instant_heard", "instant_heard_logged", "excerpt", "reason",
-                                         "install", "fetch", "withdraw", "alike", "double_loops", "write_text", "read_text", "maze", "corridor"};
+                                         "install", "fetch", "withdraw", "alike", "double_loops", "convert", "write_text", "read_text", "maze", "corridor"};
 static uint8_t block[FOLDHERON_BLOCK_MOST], state[FOLDHERON_STATE_SIZE], record[FOLDHERON_RECORD_SIZE], painted[ROOM];
 static size_t block_size, most[CALLS];
 static unsigned mazes;
@@ -98,6 +99,7 @@ static void run(void)
     case WITHDRAW: number = foldheron_withdraw(shelf, sizeof shelf, 0, 0, a, FOLDHERON_WITHDRAW_SIZE); break;
     case ALIKE: number = foldheron_alike(block, block_size, block, block_size, shown, sizeof shown, a, FOLDHERON_ALIKE_SIZE); break;
     case DOUBLE_LOOPS: number = foldheron_double_loops(block, block_size, fetched, sizeof fetched, a, FOLDHERON_DOUBLE_LOOPS_SIZE); break;
+    case CONVERT: number = foldheron_convert(block, block_size, fetched, sizeof fetched, a, FOLDHERON_CONVERT_SIZE); break;
     case WRITE_TEXT:
         number = foldheron_write_text(block, block_size, text, sizeof text, a, FOLDHERON_WRITE_TEXT_SIZE);
         text_size = foldheron_read_text_answer(a).count;
@@ -214,6 +216,9 @@ static unsigned try_path(unsigned only)
         kinds[at] = (unsigned char)kind;
     }
     build(kinds, locals);
+    block[4] = 2;
+    measure(CONVERT);
+    block[4] = 1;
     try_shelf();
     return try_block();
 }
@@ -225,6 +230,7 @@ int main(int count, char **words)
     for (unsigned kind = PRESENT; kind <= LOCAL; kind++)
         for (int n = 0; n < 20; n++)
             answered += try_path(kind);
+    try_path(ABORT);
     for (int n = 0; n < SPINES; n++) {
         answered += try_path(0);
         try_maze();

@@ -1,8 +1,8 @@
 // Checks the calls that take blocks alone, at the boundary of each refusal, with answers worked by hand: the maze of a first instant and its corridors, two blocks
-// compared, and loop bodies doubled. Says of each case what came and whether it is what was expected.
+// compared, loop bodies doubled, and edition 2 converted. Says of each case what came and whether it is what was expected.
 //
-// The cases stand in the file stdin. The line of a case is its name, a bar, and numbers: 12 a maze, 13 two blocks, 14 a block doubled, 15 a corridor; the number and the place
-// expected; and what the call's own file here says. The lines after it are its first block, of 13 the second, and of 13 and 14 the bytes expected in what is lent, each made
+// The cases stand in the file stdin. The line of a case is its name, a bar, and numbers: 12 a maze, 13 two blocks, 14 a block doubled, 15 a corridor, 17 a block converted; the number and the place
+// expected; and what the call's own file here says. The lines after it are its first block, of 13 the second, and of 13, 14 and 17 the bytes expected in what is lent, each made
 // as checking::pages::block says.
 mod corridors;
 mod mazes;

@@ -22,7 +22,8 @@ fn ask_front(name: &[u8], given: &[u16], block: &[u8], second: &[u8], size: usiz
 fn ask_into(name: &[u8], given: &[u16], block: &[u8], second: &[u8], size: usize, out: &mut [u8]) {
     match word(given, 0) {
         13 => compared(name, given, size, foldheron::alike(block, second, out)),
-        _ => doubled(name, given, size, foldheron::double_loops(block, out)),
+        14 => wrote(name, given, size, foldheron::double_loops(block, out)),
+        _ => wrote(name, given, size, foldheron::convert(block, out)),
     }
 }
 
@@ -36,7 +37,7 @@ fn compared(name: &[u8], given: &[u16], size: usize, answer: Likeness) {
     }
 }
 
-fn doubled(name: &[u8], given: &[u16], size: usize, answer: Wrote) {
+fn wrote(name: &[u8], given: &[u16], size: usize, answer: Wrote) {
     match answer {
         Wrote::Bytes(count) => told(name, given, 0, 0, 0, count, size),
         Wrote::Refused(why, place) => told(name, given, number(why), place, 0, 0, size),

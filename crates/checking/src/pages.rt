@@ -33,8 +33,36 @@ fn header(page: &mut [u8], inputs: u16, outputs: u16, locals: u16) -> usize {
     14
 }
 
-// A statement's record by its kind, while there is room.
+// Two bytes more, the lower first, while there is room.
+fn pair(page: &mut [u8], at: usize, number: u16) -> usize {
+    let next = put(page, at, (number % 256) as u8);
+    put(page, next, (number / 256) as u8)
+}
+
+// A record of 6 bytes by its kind, while there is room.
+fn with_operand(page: &mut [u8], at: usize, kind: u16, operand: u16) -> usize {
+    let a = pair(page, at, 6);
+    let b = pair(page, a, kind);
+    pair(page, b, operand)
+}
+
+// A record of 4 bytes by its kind, while there is room.
+fn without_operand(page: &mut [u8], at: usize, kind: u16) -> usize {
+    let a = pair(page, at, 4);
+    pair(page, a, kind)
+}
+
+// A statement's record by its kind, while there is room: of kinds that edition 1 does not have as well, 6 bytes for 33 to 35 and else 4.
 fn statement(page: &mut [u8], at: usize, kind: u16, operand: u16) -> usize {
+    match kind {
+        0..=26 => narrow(page, at, kind, operand),
+        33..=35 => with_operand(page, at, kind, operand),
+        _ => without_operand(page, at, kind),
+    }
+}
+
+// One of edition 1.
+fn narrow(page: &mut [u8], at: usize, kind: u16, operand: u16) -> usize {
     if page.len() < 6 {
         return at;
     }
@@ -75,6 +103,13 @@ fn records(page: &mut [u8], given: &[u16], count: usize) -> usize {
     at
 }
 
+// The same with a header of edition 2.
+fn records_2(page: &mut [u8], given: &[u16], count: usize) -> usize {
+    let size = records(page, given, count);
+    put(page, 4, 2);
+    size
+}
+
 // Bytes as they are given.
 fn bytes(page: &mut [u8], given: &[u16], count: usize) -> usize {
     let mut at: usize = 0;
@@ -87,11 +122,12 @@ fn bytes(page: &mut [u8], given: &[u16], count: usize) -> usize {
 }
 
 // The block of a case, by its form, the third of the given numbers. 0: inputs, outputs, locals, then for the statements how many times, kind and
-// operand. 1: bytes. 2: how many bytes, all 0.
+// operand. 1: bytes. 2: how many bytes, all 0. 3: as 0, of edition 2.
 pub fn block(page: &mut [u8], given: &[u16], count: usize) -> usize {
     match word(given, 2) {
         0 => records(page, given, count),
         1 => bytes(page, given, count),
+        3 => records_2(page, given, count),
         _ => word(given, 3) as usize,
     }
 }
@@ -99,7 +135,7 @@ pub fn block(page: &mut [u8], given: &[u16], count: usize) -> usize {
 // The bytes that a line of text makes: how many, and where the line ended.
 pub fn made(text: &[u8], from: usize, page: &mut [u8]) -> Line {
     let bar = bar_after(text, from);
-    let mut given = [0u16; 1200];
+    let mut given = [0u16; 1500];
     let line = numbers(text, bar + 2, &mut given);
     let count = block(page, &given, line.count);
     Line { count, at: line.at }

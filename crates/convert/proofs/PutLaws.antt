@@ -124,7 +124,8 @@ abbrev Left : Marks → ℕ → ℕ → List ℕ → List ℕ → Sort → Type 
 Left m to behind before now s = Puts (first-bytes (sends m) s) (first-size s) to behind before now
 
 module _ (k x to : ℕ) (m : Marks) {behind : ℕ} {before now : List ℕ} where
-  pub exit-left : {d : ℕ} → k ≡ 25 → depth d ≡ sends m (depth x) → behind ≡ to + length-of 25 → now ≡ sets before to (record-bytes 25 d) → (s : Sort) → sort-of k x ≡ some s → Left m to behind before now s
+  pub exit-left : {d : ℕ} → k ≡ 25 → depth d ≡ sends m (depth x) → behind ≡ to + length-of 25 → now ≡ sets before to (record-bytes 25 d) → (s : Sort) → sort-of k x ≡ some s
+      → Left m to behind before now s
   unfolding first-size length-of shape listed operand-of
   exit-left {d} q g f h s e =
       let i : d ≡ operand-of (Stmt.exit (sends m (depth x))) = ap (λ (d : Depth). operand-of (Stmt.exit d)) g in

@@ -7,3 +7,4 @@ pub mod Sizes
 pub mod Records
 pub mod KindsKept
 pub mod Sorts
+pub mod Numbers

@@ -10,7 +10,7 @@ ghost use Rattle.block.specs.Format.{reading};
 ghost use Rattle.reaction.specs.Instants.{told, state-after, log-after, end-after, instant-verdict, logged-verdict, heard-verdict, heard-logged-verdict};
 ghost use Rattle.reaction.specs.declared.Given.the-variants.{All, Two};
 ghost use Rattle.foldheron.specs.Answers.{check-owed, begun-owed, state-owed, part-owed, part-values};
-ghost use Rattle.values.specs.Whole.{Compares, doubling-owed, doubling-leaves, text-owed, text-leaves, block-owed, block-leaves, ShowsMaze, room-by, corridor-owed};
+ghost use Rattle.values.specs.Whole.{Compares, doubling-owed, doubling-leaves, conversion-owed, conversion-leaves, text-owed, text-leaves, block-owed, block-leaves, ShowsMaze, room-by, corridor-owed};
 ghost use Rattle.exports.specs.Layout.{lent, Answers, AnswersOwed, Stays, lent-both, AnswersBoth};
 ghost use Rattle.values.specs.Calls.{told-values, logged-values, asked-by, told-why, install-owed, install-leaves, fetch-owed, fetch-leaves, withdraw-owed, withdraw-leaves};
 
@@ -264,6 +264,20 @@ pub extern "C" fn foldheron_double_loops(block: &[u8], out: &mut [u8], answer: &
         return ANSWER;
     }
     let values = whole::double_loops(block, out);
+    put_values(answer, &values);
+    values[0] as u16
+}
+
+// 24 bytes: the same of a block of edition 2 written in edition 1.
+#[no_mangle]
+pub extern "C" fn foldheron_convert(block: &[u8], out: &mut [u8], answer: &mut [u8]) -> u16
+    ensures { λ r. ⌜ Answers 3 (conversion-owed (now (block .entry)) (now (out .entry))) (now (answer .entry)) (now (answer .exit)) r ⌝ }
+    ensures { λ _. ⌜ now (out .exit) ≡ lent 3 (now (answer .entry)) (conversion-leaves (now (block .entry)) (now (out .entry))) (now (out .entry)) ⌝ }
+{
+    if answer.len() != 24 {
+        return ANSWER;
+    }
+    let values = whole::convert(block, out);
     put_values(answer, &values);
     values[0] as u16
 }

@@ -1,6 +1,6 @@
 // What users call: the check of a block, a fresh state for it, one instant, one with a log record, an excerpt of a block, the reason of an
 // instant, the calls on a shelf of blocks: install, fetch and withdraw; whether two blocks are alike, a block with its loop bodies doubled, the maze
-// of a block with its corridors, and blocks as text.
+// of a block with its corridors, blocks as text, and blocks of edition 2 written in edition 1.
 pub mod say_why;
 
 pub use alike::Likeness;
@@ -9,6 +9,7 @@ pub use block::whole::Checked;
 pub use block::whole::Summary;
 use block::whole::offset_of;
 use block::whole::read_block;
+pub use convert::convert;
 pub use copies::double_loops;
 pub use maze::Corridor;
 pub use maze::Maze;

@@ -82,7 +82,7 @@ unfolding records
 records-are-bytes [] = no-bytes
 records-are-bytes (p ∷ ps) = both-bytes _ _ (record-is-bytes (kind-of p) (operand-of p) (shape (kind-of p))) (records-are-bytes ps)
 
-block-is-bytes : (h : Header) (t : Stmt) → Bytes (block-bytes h t)
+pub block-is-bytes : (h : Header) (t : Stmt) → Bytes (block-bytes h t)
 unfolding block-bytes header-bytes
 block-is-bytes h t = both-bytes _ _ (field 14 _ (field 1 _ (field 1 _ (field (h .version) _ (field (h .inputs) _ (field (h .outputs) _ (in-bytes-bytes 2 (h .locals)))))))) (records-are-bytes _)
   where
@@ -94,7 +94,7 @@ same-outputs : (v : Status) (b d : Block) → b .inputs ≡ d .inputs → (vs : 
 unfolding outputs-with
 same-outputs v b d e vs = ap (λ (i : ℕ). word 64 (λ n. leb i n && same (getD vs (n - i) unknown) v)) e
 
-told-same : (b d : Block) → b .inputs ≡ d .inputs → {x y : Answer} → SameAnswer x y → SameButActive (told-reaction b x) (told-reaction d y)
+pub told-same : (b d : Block) → b .inputs ≡ d .inputs → {x y : Answer} → SameAnswer x y → SameButActive (told-reaction b x) (told-reaction d y)
 told-same b d e (both-answered {vs = vs}) = record {
   same-number = refl;
   same-place = refl;
@@ -114,7 +114,7 @@ told-same b d e (both-refused {vs = vs}) = record {
   same-rounds = refl;
 }
 
-first-same : {a a′ : Answer} {more more′ : List Answer} → SameRun (a ∷ more) (a′ ∷ more′) → SameAnswer a a′ × SameRun more more′
+pub first-same : {a a′ : Answer} {more more′ : List Answer} → SameRun (a ∷ more) (a′ ∷ more′) → SameAnswer a a′ × SameRun more more′
 first-same (and-then s r) = (s, r)
 
 -- A good block and its doubled one.

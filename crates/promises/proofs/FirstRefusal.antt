@@ -55,7 +55,7 @@ one-of b n at e (k ∷ ns) h ts = go (eqb n k) refl h (λ l. one-of b n at e ns 
         inl (record { place = at; decided = turned-down-decides b k at (e ∙ ap (λ (m : ℕ). turned-down m at) d) }, d)
     go false q h rest = inr ((λ t. eqb-false n k q (same-number n at k (t .place) (sym e ∙ decides-alone b k (t .place) (t .decided)))), rest h)
 
-among : (n : ℕ) → 1 ≤ n → n ≤ 8 → T (listed one-to-8 n)
+pub among : (n : ℕ) → 1 ≤ n → n ≤ 8 → T (listed one-to-8 n)
 unfolding listed
 among zero l h = absurd (omega arith)
 among (suc zero) l h = tt

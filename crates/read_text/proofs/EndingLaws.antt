@@ -30,9 +30,9 @@ use Rattle.writing.specs.declared.Wrote.the-variants.{Refused}
 use Rattle.writing.proofs.Stores.{too-few, enough}
 use Rattle.text.specs.Meaning.{Blocked}
 use Rattle.text.specs.Reader.{checked, block-of}
-use Rattle.read_text.specs.Records.{Written}
+use Rattle.read_steps.specs.Records.{Written}
 use Rattle.read_text.specs.Ending.{Answers, blocked}
-use Rattle.read_text.proofs.StepLaws.{short-operand}
+use Rattle.read_steps.proofs.StepLaws.{short-operand}
 
 -- The room.
 module _ {bs before : List ℕ} {r : Wrote} (answer : wrote-values r ≡ wrote-owed (roomed (writes bs) (length before))) where
@@ -76,26 +76,26 @@ limit-owed : (w : Writing) (before : List ℕ) → w ≡ refuses 4 0 → Answers
 unfolding roomed wrote-values wrote-owed out-owed number
 limit-owed w before e = subst⁻¹ (λ (w : Writing). Answers w before before (Refused Limit 0)) e (record { answered = refl; stored = refl })
 
-too-large : (b : List ℕ) → 3086 < length b → checked b (reading b) ≡ refuses 4 0
+pub too-large : (b : List ℕ) → 3086 < length b → checked b (reading b) ≡ refuses 4 0
 too-large b l =
     ap (checked b) (reading-is b ∙ ap (λ (z : Bool). cond z (turned-down 4 0) (cond (eqb (header-fault b) 0) (statements-read b) (turned-down (header-fault b) 0))) (lt-ltb 3086 (length b) l))
 
 module _ (b : Blocked) where
-  abbrev signals : ℕ
+  abbrev pub signals : ℕ
   signals = b .header .inputs + b .header .outputs + b .header .locals
 
-  abbrev bytes : List ℕ
+  abbrev pub bytes : List ℕ
   bytes = header-bytes (b .header) ++ b .records
 
-  many-signals : 64 < signals → block-of b ≡ refuses 4 0
+  pub many-signals : 64 < signals → block-of b ≡ refuses 4 0
   unfolding block-of
   many-signals l = ap (λ (z : Bool). cond z (refuses 4 0) (checked bytes (reading bytes))) (lt-ltb 64 signals l)
 
-  few-signals : signals ≤ 64 → block-of b ≡ checked bytes (reading bytes)
+  pub few-signals : signals ≤ 64 → block-of b ≡ checked bytes (reading bytes)
   unfolding block-of
   few-signals l = ap (λ (z : Bool). cond z (refuses 4 0) (checked bytes (reading bytes))) (le-ltb 64 signals l)
 
-  whole-length : length bytes ≡ 14 + length (b .records)
+  pub whole-length : length bytes ≡ 14 + length (b .records)
   unfolding header-bytes in-bytes
   whole-length = length-append (header-bytes (b .header)) (b .records)
 

@@ -3,3 +3,5 @@ pub mod ReaderLaws
 pub mod ScanLaws
 pub mod EndingLaws
 pub mod OwedLaws
+pub mod ReadLaws
+pub mod TextRefusals

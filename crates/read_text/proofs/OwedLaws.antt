@@ -11,7 +11,7 @@ use Rattle.writing.specs.declared.Wrote.{Wrote}
 use Rattle.writing.specs.declared.Wrote.the-variants.{Refused}
 use Rattle.text.specs.Tokens.{tokens-placed}
 use Rattle.text.specs.Reader.{Outcome, begun, read-placed, block-of, owed, text-read}
-use Rattle.read_text.specs.Records.{Written}
+use Rattle.read_steps.specs.Records.{Written}
 use Rattle.read_text.specs.Ending.{Answers, blocked}
 use Rattle.read_text.specs.Reading.{Scanned, stood, was-outside, was-over}
 use Rattle.read_text.specs.declared.reading.Whole.{Whole}

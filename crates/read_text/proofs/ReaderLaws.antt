@@ -4,37 +4,36 @@ use mathlib.Core.Path.{_≡_, refl, sym, ap, ap₂, _∙_, subst}
 use mathlib.Core.Bool.{Bool, true, false, cond}
 use mathlib.Core.List.{List, [], _∷_}
 use mathlib.Core.Option.{Option, none, some}
-use Prim.Native.Nat.{ℕ, zero, suc, _+_, _≤_, _<_}
+use Prim.Native.Nat.{ℕ, suc, _+_, _≤_, _<_}
 use native.Mathlib.Omega.{arith}
 use borrow.Author.Tests.{ne-eqb, eq-eqb, lt-ltb}
-use lib.Dec.{T, eqb, eqb→eq, ltb}
-use lib.ListN.{length, take, drop}
+use lib.Dec.{T, eqb, eqb→eq}
+use lib.ListN.{length}
 use Rattle.text.specs.Tokens.{Token, sign, name, number, no-token, NOTHING, PAUSE, EMIT, PRESENT, THEN, ELSE, END, SUSPEND, WHEN, LOOP, TRAP, IN, EXIT, SIGNAL, SEMICOLON, BRACKET, CLOSED, BESIDE}
-use Rattle.text.specs.Tokens.{Placed, VERSION, INPUT, OUTPUT, COMMA}
+use Rattle.text.specs.Tokens.{VERSION, INPUT, OUTPUT, COMMA}
 use Rattle.text.specs.Meaning.{Declaration, signal-named, declared, go-on, if-new, signal-in, depth-in}
-use Rattle.text.specs.Machine.{Closer, at-the-end, by-else, by-end, by-when, by-bracket, Level, State, state, popped, due-step, closed, after-step, by-sign, by-name, step, around, declared-by, opened, put}
-use Rattle.text.specs.Machine.{Mode, due, after, emit-name, exit-name, present-name, trap-name, signal-name, when-name, then-due, in-due, is-outermost, complete}
+use Rattle.text.specs.Machine.{Closer, at-the-end, by-else, by-end, by-when, by-bracket, Level, State, state, popped, due-step, closed, after-step, by-sign, by-name, step, around, opened, put}
+use Rattle.text.specs.Machine.{Mode, due, after, emit-name, exit-name, present-name, trap-name, signal-name, when-name, then-due, in-due}
 use Rattle.text.specs.Reader.{Due, version-due, number-due, version-closed, inputs-due, outputs-due, input-name, input-named, output-name, output-named, body-due}
-use Rattle.text.specs.Reader.{Heading, heading, Reader, in-header, in-body, now, inputs-end, named, body-start, body-step, heading-sign, heading-name, heading-number, heading-step, read-step, places, too-deep}
+use Rattle.text.specs.Reader.{Heading, heading, Reader, in-header, in-body, now, inputs-end, named, body-start, body-step, heading-name, heading-number, heading-step, read-step, places, too-deep}
 use Rattle.text.specs.Coded.{from-kind, tokens-from}
 use Rattle.text.specs.declared.tokens.Token.{Token as CodedToken}
 use Rattle.text.proofs.Views.{Here, here}
-use Rattle.read_text.specs.Levels.{levels-in, Roomy}
-use Rattle.read_text.specs.Found.{word-at, level-declares, and-named, and-counted, names-until, header-names}
-use Rattle.read_text.specs.Records.{Written}
-use Rattle.read_text.specs.Moves.{mode-number, closer-of}
+use Rattle.read_steps.specs.Levels.{levels-in, Roomy}
+use Rattle.read_steps.specs.Found.{word-at, level-declares, and-named, and-counted, names-until, header-names}
+use Rattle.read_steps.specs.Moves.{mode-number, closer-of}
 use Rattle.read_text.specs.Heads.{due-number, due-of, head-sign, headed}
-use Rattle.read_text.specs.Holding.{level-of, around-it, levels-of, Course, course, state-of, Rising, KeptAll, codes, FreshIn, FreshAt, Holds, Steps, faulted, went, burst, Takes}
-use Rattle.read_text.specs.Reading.{Ahead, token-of, Headed, InHeader, InBody, Reads, of-header, of-body, Goes, turned-away, went-on, overflowed, first-stage, first-course, first-reader}
+use Rattle.read_steps.specs.Holding.{level-of, around-it, levels-of, Course, state-of, Rising, KeptAll, codes, FreshIn, FreshAt, Holds, Steps, faulted, went, burst, Takes}
+use Rattle.read_text.specs.Reading.{Ahead, token-of, Headed, InHeader, InBody, Reads, of-header, of-body, Goes, turned-away, went-on, overflowed, first-stage, first-course}
 use Rattle.read_text.specs.Reading.{HeadTakes, Leads, after-name, BodyTakes, TakesAny, Ready}
-use Rattle.read_text.specs.declared.levels.Level.{Level as CodeLevel}
-use Rattle.read_text.specs.declared.steps.Stage.{Stage}
-use Rattle.read_text.specs.declared.steps.Stepped.{Stepped}
+use Rattle.read_steps.specs.declared.levels.Level.{Level as CodeLevel}
+use Rattle.read_steps.specs.declared.steps.Stage.{Stage}
+use Rattle.read_steps.specs.declared.steps.Stepped.{Stepped}
 use Rattle.read_text.specs.declared.heading.Reader.{Reader as CodeReader}
 use Rattle.read_text.specs.declared.heading.Taken.{Taken}
-use Rattle.read_text.proofs.FoundLaws.{until-here, until-past}
+use Rattle.read_steps.proofs.FoundLaws.{until-here, until-past}
 use Rattle.read_text.proofs.HeadLaws.{sign-headed}
-use Rattle.read_text.proofs.StepLaws.{held-on, few-places}
+use Rattle.read_steps.proofs.StepLaws.{held-on}
 
 -- A step keeps the header's names, and counts no signal away.
 data Kept-on (s : State) : Option State → Type 0 where
@@ -110,20 +109,29 @@ module _ {s : State} where
   step-keeps (number v) = nowhere
   step-keeps no-token = nowhere
 
--- One token of the statement.
-few-deep : (g : Heading) (u : State) → 1025 < places (u .top .start) (u .below) → too-deep (in-body g u) ≡ true
+-- Over 1,024 places.
+many-deep : (g : Heading) (u : State) → 1025 < places (u .top .start) (u .below) → too-deep (in-body g u) ≡ true
 unfolding too-deep
-few-deep g u l = lt-ltb 1025 (places (u .top .start) (u .below)) l
+many-deep g u l = lt-ltb 1025 (places (u .top .start) (u .below)) l
+
+-- The header's numbers stay while the statement is read.
+same-numbers : {r : CodeReader} {g : Heading} {a e : ℕ} {s : Stage} → Headed r g
+    → Headed (record { awaits = a; version = r .version; inputs = r .inputs; signals = r .signals; end = e; stage = s }) g
+same-numbers h = record { its-version = h .its-version; its-inputs = h .its-inputs; its-signals = h .its-signals; few-inputs = h .few-inputs }
+
+abbrev in-statement : CodeReader → ℕ → Stage → CodeReader
+in-statement r to s = record { awaits = 0; version = r .version; inputs = r .inputs; signals = r .signals; end = to; stage = s }
 
 abbrev staged : CodeReader → Stage → CodeReader
 staged r s = record { awaits = r .awaits; version = r .version; inputs = r .inputs; signals = r .signals; end = r .end; stage = s }
 
-module _ {text names marks out : List ℕ} {at : ℕ} {r : CodeReader} {g : Heading} {c : Course} (h : InBody text names marks out at r g c) {names′ marks′ out′ : List ℕ} (to : ℕ) (l : at + 1 ≤ to) (s : Stage) where
+module _ {text names marks out : List ℕ} {at : ℕ} {r : CodeReader} {g : Heading} {c : Course} (h : InBody text names marks out at r g c) {names′ marks′ out′ : List ℕ}
+    (to : ℕ) (l : at + 1 ≤ to) (s : Stage) where
   kept-body : (q : Course) → Kept-on (state-of text c) (some (state-of text q)) → Holds names′ marks′ out′ (at + 1) s q → InBody text names′ marks′ out′ to (staged r s) g q
   unfolding state-of
   kept-body q (onward a b) k = record {
     its-awaits = h .its-awaits;
-    numbers = record { its-version = h .numbers .its-version; its-inputs = h .numbers .its-inputs; its-signals = h .numbers .its-signals; few-inputs = h .numbers .few-inputs };
+    numbers = same-numbers (h .numbers);
     more-signals = omega (arith, h .more-signals, b);
     its-names = a ∙ h .its-names;
     holds = held-on l k;
@@ -133,7 +141,7 @@ module _ {text names marks out : List ℕ} {at : ℕ} {r : CodeReader} {g : Head
       → Goes a (λ x. Reads text names′ marks′ out′ to (staged r s) x) (go-on o λ u. some (in-body g u))
   goes-body (faulted e) k = turned-away e
   goes-body (went q e b) k = went-on (in-body g (state-of text q)) e (of-body g q (kept-body q k b))
-  goes-body (burst {q = u} e b) k = overflowed (in-body g u) e (few-deep g u b)
+  goes-body (burst {q = u} e b) k = overflowed (in-body g u) e (many-deep g u b)
 
 pub body-taken : {text names marks out : List ℕ} {r : CodeReader} {t : CodedToken} {names′ marks′ out′ : List ℕ} {s : Stepped} → Takes text (r .end) names marks out (r .stage) t names′ marks′ out′ s
     → BodyTakes text names marks out r t names′ marks′ out′ (record { answer = s .answer; reader = staged r (s .stage) })
@@ -381,12 +389,12 @@ module _ {text names marks out : List ℕ} {at : ℕ} {r : CodeReader} {g : Head
         (h .numbers .its-inputs) (omega (arith, f, h .numbers .its-signals)) (omega (arith, h .numbers .few-inputs)))))
 
   -- The statement begins with it.
-  pub body-begun : InBody text names marks out at (record { awaits = 0; version = r .version; inputs = r .inputs; signals = r .signals; end = t .start; stage = first-stage (r .signals) }) g
+  pub body-begun : InBody text names marks out at (in-statement r (t .start) (first-stage (r .signals))) g
       (first-course g)
   unfolding mode-number codes levels-in Rising FreshIn FreshAt KeptAll
   body-begun = record {
     its-awaits = refl;
-    numbers = record { its-version = h .numbers .its-version; its-inputs = h .numbers .its-inputs; its-signals = h .numbers .its-signals; few-inputs = h .numbers .few-inputs };
+    numbers = same-numbers (h .numbers);
     more-signals = omega arith;
     its-names = sym names-here;
     holds = record {
@@ -477,7 +485,7 @@ module _ {text names marks out : List ℕ} {r : CodeReader} {t : CodedToken} {na
   -- The statement's first sign.
   module _ (p : t .kind ≡ 17 → ⊥) (p′ : t .kind ≡ 18 → ⊥) (p″ : t .kind ≡ 19 → ⊥) {n : ℕ} (f : n ≡ head-sign (r .awaits) (t .kind)) (e : n ≡ 11) where
     begin-on : {q : Taken}
-        → BodyTakes text names marks out (record { awaits = 0; version = r .version; inputs = r .inputs; signals = r .signals; end = t .start; stage = first-stage (r .signals) }) t names′ marks′ out′ q
+        → BodyTakes text names marks out (in-statement r (t .start) (first-stage (r .signals))) t names′ marks′ out′ q
         → (r .awaits ≡ 0 → ⊥) → {at : ℕ} {x : Reader} → Reads text names marks out at r x → Ahead text at t
         → Goes (q .answer) (λ y. Reads text names′ marks′ out′ (t .end) (q .reader) y) (read-step x (token-of text t))
     unfolding headed
@@ -490,10 +498,10 @@ module _ {text names marks out : List ℕ} {r : CodeReader} {t : CodedToken} {na
     begin-on d z (of-body g c h) a = absurd (z (h .its-awaits))
 
     pub takes-first : {q : Taken} {s : Stage} → s ≡ first-stage (r .signals)
-        → BodyTakes text names marks out (record { awaits = 0; version = r .version; inputs = r .inputs; signals = r .signals; end = t .start; stage = s }) t names′ marks′ out′ q
+        → BodyTakes text names marks out (in-statement r (t .start) s) t names′ marks′ out′ q
         → (r .awaits ≡ 0 → ⊥) → TakesAny text names marks out r t names′ marks′ out′ q
     takes-first {q} m d z =
-        let d′ = subst (λ (s : Stage). BodyTakes text names marks out (record { awaits = 0; version = r .version; inputs = r .inputs; signals = r .signals; end = t .start; stage = s }) t names′
+        let d′ = subst (λ (s : Stage). BodyTakes text names marks out (in-statement r (t .start) s) t names′
         marks′ out′ q) m d in
         record { takes = λ at x h a. begin-on d′ z h a }
 

@@ -1,35 +1,33 @@
 -- The loop over a text: the outcome of the whole is that of the reader so far on the tokens that are left. Assumes nothing.
 use mathlib.Core.Path.{_≡_, refl, sym, ap, ap₂, _∙_, subst}
 use mathlib.Core.Bool.{Bool, true, false, cond}
-use mathlib.Core.List.{List, [], _∷_}
+use mathlib.Core.List.{List, []}
 use mathlib.Core.Option.{Option, none, some}
 use Prim.Native.Nat.{ℕ, _-_, _≤_, _<_}
 use native.Mathlib.Omega.{arith}
-use borrow.Author.Tests.{ne-eqb, eq-eqb}
-use lib.Dec.{T, eqb, eqb→eq}
+use borrow.Author.Tests.{ne-eqb}
+use lib.Dec.{eqb}
 use lib.ListN.{length}
 use Rattle.text.specs.Tokens.{Placed, tokens-placed}
-use Rattle.text.specs.Meaning.{Blocked}
-use Rattle.text.specs.Machine.{Closer, at-the-end, by-else, by-end, by-when, by-bracket, Mode, due, after, emit-name, exit-name, present-name, trap-name, signal-name, when-name, then-due, in-due, State, is-outermost, complete}
-use Rattle.text.specs.Reader.{Heading, heading, version-due, Reader, in-header, in-body, begun, finish, too-deep, places, read-step, read-placed, unless-refused, at-end, Outcome, stands, outside, over}
+use Rattle.text.specs.Machine.{Closer, at-the-end, by-else, by-end, by-when, by-bracket, Mode, due, after, emit-name, exit-name, present-name, trap-name, signal-name, when-name, then-due, in-due}
+use Rattle.text.specs.Machine.{is-outermost, complete}
+use Rattle.text.specs.Reader.{Heading, heading, version-due, Reader, in-body, begun, finish, too-deep, places, read-step, read-placed, unless-refused, at-end, Outcome, stands, over}
 use Rattle.text.specs.Coded.{FrontAt, past-spaces, tokens-from}
 use Rattle.text.specs.declared.tokens.Token.{Token as CodedToken}
-use Rattle.text.proofs.Views.{Here, here, none-here}
-use Rattle.read_text.specs.Levels.{Roomy}
-use Rattle.read_text.specs.Found.{names-until}
-use Rattle.read_text.specs.Records.{Written}
-use Rattle.read_text.specs.Moves.{mode-number, closer-of}
+use Rattle.text.proofs.Views.{here, none-here}
+use Rattle.read_steps.specs.Levels.{Roomy}
+use Rattle.read_steps.specs.Moves.{mode-number, closer-of}
 use Rattle.read_text.specs.Heads.{due-number}
-use Rattle.read_text.specs.Holding.{Course, state-of, Holds, closer-in}
-use Rattle.read_text.specs.Reading.{Ahead, token-of, Headed, InHeader, InBody, Reads, of-header, of-body, Goes, turned-away, went-on, overflowed, first-reader, TakesAny, Ready, may-end}
+use Rattle.read_steps.specs.Holding.{Course, state-of, closer-in}
+use Rattle.read_text.specs.Ending.{blocked}
+use Rattle.read_text.specs.Reading.{Ahead, token-of, Headed, InBody, Reads, of-header, of-body, Goes, turned-away, went-on, overflowed, first-reader, TakesAny, Ready, may-end}
 use Rattle.read_text.specs.Reading.{Scanned, stood, was-outside, was-over}
-use Rattle.read_text.specs.declared.levels.Level.{Level as CodeLevel}
+use Rattle.read_steps.specs.declared.levels.Level.{Level as CodeLevel}
 use Rattle.read_text.specs.declared.heading.Reader.{Reader as CodeReader}
 use Rattle.read_text.specs.declared.heading.Taken.{Taken}
-use Rattle.read_text.specs.declared.reading.Whole.{Whole}
-use Rattle.read_text.proofs.FoundLaws.{not-below}
-use Rattle.read_text.proofs.StepLaws.{few-places}
-use Rattle.read_text.proofs.TokenLaws.{state-closer}
+use Rattle.read_steps.proofs.FoundLaws.{not-below}
+use Rattle.read_steps.proofs.StepLaws.{few-places}
+use Rattle.read_steps.proofs.TokenLaws.{state-closer}
 use Rattle.read_text.proofs.ReaderLaws.{no-start}
 
 abbrev outcome : List ℕ → Outcome
@@ -158,33 +156,17 @@ module _ {text names marks out : List ℕ} {at : ℕ} {r : CodeReader} where
       num : Headed r g
       num = h .numbers
 
-      whole : at-end (length text) (finish (in-body g (state-of text c)))
-          ≡ stands (record {
-            header = record { version = r .version; inputs = r .inputs; outputs = r .signals - r .inputs; locals = r .stage .next - r .signals };
-            records = c .block;
-          })
+      whole : at-end (length text) (finish (in-body g (state-of text c))) ≡ stands (blocked (r .version) (r .inputs) (r .signals) (r .stage .next) (c .block))
       whole =
-          ap (λ (z : Bool). at-end (length text) (cond z (some (record {
-            header = record { version = g .version; inputs = g .inputs; outputs = g .next - g .inputs; locals = c .next - g .next };
-            records = c .block;
-          })) none)) (body-ends h ∙ e)
-          ∙ (λ i. stands (record {
-            header = record {
-              version = sym (num .its-version) i;
-              inputs = sym (num .its-inputs) i;
-              outputs = sym (num .its-signals) i - sym (num .its-inputs) i;
-              locals = sym (h .holds .its-next) i - sym (num .its-signals) i;
-            };
-            records = c .block;
-          }))
+          ap (λ (z : Bool). at-end (length text) (cond z (some (blocked (g .version) (g .inputs) (g .next) (c .next) (c .block))) none)) (body-ends h ∙ e)
+          ∙ sym (λ i. stands (blocked (num .its-version i) (num .its-inputs i) (num .its-signals i) (h .holds .its-next i) (c .block)))
 
   not-ended : {x : Reader} → Reads text names marks out at r x → may-end r ≡ false → Scanned out (record { answer = 1; place = length text; reader = r }) (at-end (length text) (finish x))
   unfolding finish state-of
   not-ended (of-header g h) e = was-outside refl
-  not-ended (of-body g c h) e = subst (λ (z : Bool). Scanned out (record { answer = 1; place = length text; reader = r }) (at-end (length text) (cond z (some (record {
-    header = record { version = g .version; inputs = g .inputs; outputs = g .next - g .inputs; locals = c .next - g .next };
-    records = c .block;
-  })) none))) (sym (body-ends h ∙ e)) (was-outside refl)
+  not-ended (of-body g c h) e =
+      subst (λ (z : Bool). Scanned out (record { answer = 1; place = length text; reader = r }) (at-end (length text) (cond z (some (blocked (g .version) (g .inputs) (g .next) (c .next)
+      (c .block))) none))) (sym (body-ends h ∙ e)) (was-outside refl)
 
   pub still-room : Going text names marks out at r → length out ≡ 3092
   still-room w = room-kept (w .reads)

@@ -24,7 +24,7 @@ use Rattle.block.proofs.Views.{Leaf, Above, Joined, Kind, leafs, aboves, joins,
 use Rattle.block.proofs.Views.{leaf-children, above-children, joined-children, known-length}
 use Rattle.block.proofs.Passes.{is-whole}
 use Rattle.block.proofs.Parse.{read-fault, read-leaf, read-above, read-joined}
-use Rattle.block.proofs.Tests.{fault-limit, fault-signal, fault-last, signal-emit, signal-test, signal-local, signal-none, exit-depth, exit-none, header-signals}
+use Rattle.block.proofs.Tests.{fault-due, as-limit, as-signal, as-last, signal-emit, signal-test, signal-local, signal-none, exit-depth, exit-none, header-signals}
 use Rattle.block.proofs.GoodReadings.{reading-is, statements-read}
 use Rattle.records.specs.Numerals.{in-bytes}
 use Rattle.writing.specs.Written.{shaped-bytes, record-bytes, header-bytes}
@@ -137,7 +137,7 @@ module _ (b : List ℕ) (h : Header) (few : h .inputs + h .outputs + h .locals �
     whole = is-whole b (r .place) (omega (arith, long, w .ends)) (omega (arith, long, w .its-length)) (omega (arith, w .ends, w .its-length))
 
     limit : (room : ℕ) → over-limit room a r k ≡ true → statement-fault room b h a r ≡ 4
-    limit room e = fault-limit room b h a r due whole k (length-at b (r .place)) (sym (w .its-kind)) refl (sym (w .its-length)) e
+    limit room e = fault-due room b h a r due k (sym (w .its-kind)) ∙ as-limit room b h a r k whole (length-at b (r .place)) refl (sym (w .its-length)) e
 
     faults : (room : ℕ) → (statement-fault room b h a r ≡ 0) ⊎ Early (statement-fault room b h a r) (r .place)
     faults room = go (over-limit room a r k) refl (wrong-signal h a r k x) refl
@@ -148,10 +148,13 @@ module _ (b : List ℕ) (h : Header) (few : h .inputs + h .outputs + h .locals �
         go false e true f =
             let i = right .signals f in
             inr (inr (
-              fault-signal room b h a r due whole k (length-at b (r .place)) (sym (w .its-kind)) refl (sym (w .its-length)) e x refl f,
+              fault-due room b h a r due k (sym (w .its-kind)) ∙ as-signal room b h a r k whole (length-at b (r .place)) refl (sym (w .its-length)) e x refl f,
               record { an-emit-there = w .its-kind ∙ i .0; of-an-input = i .1 },
             ))
-        go false e false f = inl (fault-last room b h a r due whole k (length-at b (r .place)) (sym (w .its-kind)) refl (sym (w .its-length)) e x refl f false (sym (right .exits)))
+        go false e false f =
+            inl
+            (fault-due room b h a r due k (sym (w .its-kind)) ∙
+            as-last room b h a r k whole (length-at b (r .place)) refl (sym (w .its-length)) e x refl f false (sym (right .exits)))
 
     not-none : {n : ℕ} → Early n (r .place) → n ≡ 0 → ⊥
     not-none (inl e) f = omega (arith, e, f)
@@ -486,9 +489,9 @@ module _ (h : Header) (rs : List ℕ) (few : h .inputs + h .outputs + h .locals 
   still-few = omega (arith, few, inputs-there, outputs-there, locals-there)
 
   no-header-fault : header-fault bs ≡ 0
-  unfolding header header-bytes in-bytes
+  unfolding header header-bytes in-bytes header-fault
   no-header-fault =
-      header-signals bs (is-whole bs 0 (omega arith) (omega arith) (omega arith)) refl refl refl false
+      header-signals 1 bs (is-whole bs 0 (omega arith) (omega arith) (omega arith)) refl refl refl false
       (sym (le-ltb 64 (two-bytes bs 8 + two-bytes bs 10 + two-bytes bs 12) still-few))
 
   late : {n at : ℕ} → Early bs (header bs) still-few n at → Late n at

@@ -11,14 +11,14 @@ use Rattle.text.specs.Machine.{due}
 use Rattle.text.specs.Reader.{Heading, Reader, in-header, in-body, body-step, read-step, too-deep, Outcome, stands, outside, over}
 use Rattle.text.specs.Coded.{from-kind, FrontAt, past-spaces, tokens-from}
 use Rattle.text.specs.declared.tokens.Token.{Token as CodedToken}
-use Rattle.read_text.specs.Levels.{Roomy}
-use Rattle.read_text.specs.Found.{word-at, names-until, header-names}
-use Rattle.read_text.specs.Records.{Written}
+use Rattle.read_steps.specs.Levels.{Roomy}
+use Rattle.read_steps.specs.Found.{word-at, names-until, header-names}
+use Rattle.read_steps.specs.Records.{Written}
 use Rattle.read_text.specs.Heads.{due-number, headed}
 use Rattle.read_text.specs.Ending.{blocked}
-use Rattle.read_text.specs.Holding.{Course, course, state-of, Holds, closer-in}
-use Rattle.read_text.specs.declared.levels.Level.{Level as CodeLevel}
-use Rattle.read_text.specs.declared.steps.Stage.{Stage}
+use Rattle.read_steps.specs.Holding.{Course, course, state-of, Holds, closer-in}
+use Rattle.read_steps.specs.declared.levels.Level.{Level as CodeLevel}
+use Rattle.read_steps.specs.declared.steps.Stage.{Stage}
 use Rattle.read_text.specs.declared.heading.Reader.{Reader as CodeReader}
 use Rattle.read_text.specs.declared.heading.Taken.{Taken}
 use Rattle.read_text.specs.declared.reading.Whole.{Whole}

@@ -15,7 +15,7 @@ ghost use lib.ListN.{length};
 ghost use Rattle.block.specs.Format.{reading};
 ghost use Rattle.writing.specs.Answers.{writes};
 ghost use Rattle.text.specs.Reader.{checked, block-of};
-ghost use Rattle.read_text.specs.Records.{Written};
+ghost use Rattle.read_steps.specs.Records.{Written};
 ghost use Rattle.read_text.specs.Ending.{Answers, blocked};
 
 // The bytes of a good block copied to the front of the lent ones: 12 where these are fewer.

@@ -1,7 +1,7 @@
 // The header of a text, one token a step.
-use crate::found::Found;
-use crate::found::in_header;
-use crate::steps::Stage;
+use read_steps::found::Found;
+use read_steps::found::in_header;
+use read_steps::steps::Stage;
 use text::tokens::Token;
 ghost use mathlib.Core.Path.{_≡_};
 ghost use mathlib.Core.Bool.{cond};
@@ -9,7 +9,7 @@ ghost use mathlib.Core.List.{List};
 ghost use Prim.Native.Nat.{ℕ, _<_};
 ghost use lib.Dec.{eqb};
 ghost use Rattle.text.specs.Meaning.{declared};
-ghost use Rattle.read_text.specs.Found.{word-at, header-names};
+ghost use Rattle.read_steps.specs.Found.{word-at, header-names};
 ghost use Rattle.read_text.specs.Heads.{head-sign};
 ghost use Rattle.read_text.specs.Reading.{HeadTakes, Leads, after-name};
 
@@ -102,11 +102,11 @@ pub fn head_number(r: Reader, t: Token) -> Taken
     }
 }
 
-// The name here is declared before it in the header.
-fn again(text: &[u8], at: usize) -> bool
-    ensures { λ r. ⌜ r ≡ declared (header-names (now (text .entry)) at) (word-at (now (text .entry)) at) ⌝ }
+// A name is among those of the header that stand before a place.
+fn again(text: &[u8], end: usize, name: usize) -> bool
+    ensures { λ r. ⌜ r ≡ declared (header-names (now (text .entry)) end) (word-at (now (text .entry)) name) ⌝ }
 {
-    match in_header(text, at, at) {
+    match in_header(text, end, name) {
         Found::Nothing => false,
         Found::Signal(_) => true,
         Found::Trap(_) => true,
@@ -125,7 +125,7 @@ pub fn head_name(text: &[u8], r: Reader, t: Token) -> Taken
             reader: r,
         };
     }
-    if again(text, t.start) {
+    if again(text, t.start, t.start) {
         return Taken {
             answer: 1,
             reader: r,

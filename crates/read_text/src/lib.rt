@@ -1,16 +1,10 @@
-// Blocks read from kernel text: the reader, one token a step.
-mod body;
-mod bytes;
+// Blocks read from kernel text: the header and the statement, one token a step, then the end.
 mod ending;
-mod found;
 mod heading;
-mod levels;
-mod moves;
 mod reading;
-mod steps;
 
 use crate::ending::finish_block;
-use crate::reading::scan;
+use crate::reading::read_tokens;
 use refusals::Why;
 use writing::Wrote;
 ghost use mathlib.Core.Path.{_≡_};
@@ -24,10 +18,8 @@ pub fn read_text(text: &[u8], block: &mut [u8]) -> Wrote
     ensures { λ r. ⌜ wrote-values r ≡ wrote-owed (roomed (text-read (now (text .entry))) (length (now (block .entry)))) ⌝ }
     ensures { λ _. ⌜ now (block .exit) ≡ out-owed (roomed (text-read (now (text .entry))) (length (now (block .entry)))) (now (block .entry)) ⌝ }
 {
-    let mut names = [0usize; 3075];
-    let mut marks = [0u16; 4100];
     let mut out = [0u8; 3092];
-    let e = scan(text, &mut names, &mut marks, &mut out);
+    let e = read_tokens(text, &mut out);
     if e.answer == 1 {
         return Wrote::Refused(Why::Text, e.place);
     }

@@ -1,14 +1,14 @@
 // The tokens of a whole text, one after the other.
-use crate::body::body_step;
-use crate::body::closer;
 use crate::heading::Reader;
 use crate::heading::Taken;
 use crate::heading::head_move;
 use crate::heading::head_name;
 use crate::heading::head_number;
 use crate::heading::head_sign;
-use crate::levels::Level;
-use crate::steps::Stage;
+use read_steps::body::body_step;
+use read_steps::body::closer;
+use read_steps::levels::Level;
+use read_steps::steps::Stage;
 use text::tokens::Token;
 use text::tokens::token_at;
 ghost use mathlib.Core.Path.{_≡_};
@@ -16,7 +16,7 @@ ghost use Prim.Native.Nat.{_≤_, _<_};
 ghost use lib.ListN.{length};
 ghost use Rattle.text.specs.Tokens.{tokens-placed};
 ghost use Rattle.text.specs.Reader.{begun, read-placed};
-ghost use Rattle.read_text.specs.Levels.{Roomy};
+ghost use Rattle.read_steps.specs.Levels.{Roomy};
 ghost use Rattle.read_text.specs.Reading.{first-stage, first-reader, BodyTakes, TakesAny, Ready, may-end, Scanned};
 
 // A whole text read: 0 for a block, 1 for a fault at a place, 2 for over 1,024 places open; and the reader at its end.
@@ -140,13 +140,8 @@ fn may_end(r: Reader) -> bool
     closer(r.stage.top) == 0
 }
 
-// All tokens of a text.
-pub fn scan(
-    text: &[u8],
-    names: &mut [usize; 3075],
-    marks: &mut [u16; 4100],
-    out: &mut [u8],
-) -> Whole
+// All tokens of a text, in lent arrays.
+fn scan(text: &[u8], names: &mut [usize; 3075], marks: &mut [u16; 4100], out: &mut [u8]) -> Whole
     requires { ⌜ Roomy (now names) (now marks) ⌝ }
     requires { ⌜ length (now out) ≡ 3092 ⌝ }
     ensures { λ e. ⌜ Scanned (now (out .exit)) e (read-placed begun (tokens-placed (now (text .entry))) (length (now (text .entry)))) ⌝ }
@@ -182,4 +177,14 @@ pub fn scan(
         r = q.reader;
         at = t.end;
     }
+}
+
+// All tokens of a text. The levels' arrays are given back before the block is checked, which has arrays of its own.
+pub fn read_tokens(text: &[u8], out: &mut [u8]) -> Whole
+    requires { ⌜ length (now out) ≡ 3092 ⌝ }
+    ensures { λ e. ⌜ Scanned (now (out .exit)) e (read-placed begun (tokens-placed (now (text .entry))) (length (now (text .entry)))) ⌝ }
+{
+    let mut names = [0usize; 3075];
+    let mut marks = [0u16; 4100];
+    scan(text, &mut names, &mut marks, out)
 }

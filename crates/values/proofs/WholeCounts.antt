@@ -13,6 +13,11 @@ use Rattle.block.specs.Format.{LIMIT, reading}
 use Rattle.block.proofs.GoodReadings.{numbers}
 use Rattle.reaction.specs.Instants.{block-of}
 use Rattle.writing.specs.Answers.{writes, refuses, roomed, wrote-owed}
+use Rattle.writing.specs.Written.{block-bytes}
+use Rattle.everyday.specs.Conversion.{converted}
+use Rattle.converting.specs.Format.{Reading₂, good₂, turned-down₂, reading₂}
+use Rattle.converting.specs.Conversions.{converting, converting-of, converting-tree}
+use Rattle.converting.proofs.Numbers.{SmallReading, reading-small}
 use Rattle.doubled.specs.Copies.{doubling, doubling-of, doubled-writing, doubled, doubled-header, within-limits}
 use Rattle.alike.specs.declared.Likeness.{Likeness}
 use Rattle.alike.specs.declared.Likeness.the-variants as told
@@ -21,7 +26,7 @@ use Rattle.maze.specs.Views.{View, refused, shown}
 use Rattle.maze.specs.Ways.{way-by, way-in, no-room, has-room}
 use Rattle.maze.specs.declared.Maze.{Maze}
 use Rattle.maze.specs.declared.Maze.the-variants as viewed
-use Rattle.values.specs.Whole.{likeness-values, maze-values, doubling-owed, way-from, room-values, way-values, corridor-owed}
+use Rattle.values.specs.Whole.{likeness-values, maze-values, doubling-owed, conversion-owed, way-from, room-values, way-values, corridor-owed}
 use Rattle.values.proofs.Counts.{Counted, by-reading, why-small}
 use Rattle.values.proofs.Rooms.{by-view}
 
@@ -48,6 +53,15 @@ roomed-counted : (lent : ℕ) (t : Bool) (bs : List ℕ) → Counted 3 (wrote-ow
 unfolding roomed wrote-owed
 roomed-counted lent true bs = fit-counted lent bs
 roomed-counted lent false bs = record { counted = refl; small = lit≤ tt }
+
+-- Edition 2 converted.
+pub conversion-counted : (b out : List ℕ) → Counted 3 (conversion-owed b out)
+unfolding converting converting-of converting-tree SmallReading roomed wrote-owed
+conversion-counted b out = go (reading₂ b) (reading-small b)
+  where
+    go : (x : Reading₂) → SmallReading x → Counted 3 (wrote-owed (roomed (converting-of x) (length out)))
+    go (good₂ h p) l = roomed-counted (length out) (within-limits h (converted p)) (block-bytes h (converted p))
+    go (turned-down₂ n at) l = record { counted = refl; small = omega (arith, l) }
 
 pub doubling-counted : (b out : List ℕ) → Counted 3 (doubling-owed b out)
 unfolding doubling doubling-of doubled-writing roomed wrote-owed

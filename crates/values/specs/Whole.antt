@@ -1,4 +1,4 @@
--- The values of the calls on whole blocks, in their order: two blocks compared, loops doubled, blocks as text, the maze and its corridors. Assumes nothing.
+-- The values of the calls on whole blocks, in their order: two blocks compared, loops doubled, edition 2 converted, blocks as text, the maze and its corridors. Assumes nothing.
 use mathlib.Core.Path.{_≡_}
 use mathlib.Core.Bool.{cond}
 use mathlib.Core.List.{List, [], _∷_}
@@ -10,6 +10,7 @@ use Rattle.refusals.specs.Refusals.{number}
 use Rattle.mazes.specs.Mazes.{Room, signal, part, gate, dungeon, visible, secret}
 use Rattle.writing.specs.Answers.{roomed, wrote-owed, out-owed}
 use Rattle.doubled.specs.Copies.{doubling}
+use Rattle.converting.specs.Conversions.{converting}
 use Rattle.text.specs.Reader.{text-read}
 use Rattle.write_text.specs.WriteText.{text-writing}
 use Rattle.alike.specs.Calls.{front, Owed}
@@ -40,6 +41,13 @@ doubling-owed b out = wrote-owed (roomed (doubling b) (length out))
 
 abbrev pub doubling-leaves : List ℕ → List ℕ → List ℕ
 doubling-leaves b out = out-owed (roomed (doubling b) (length out)) out
+
+-- The same of a block of edition 2 written in edition 1.
+abbrev pub conversion-owed : List ℕ → List ℕ → List ℕ
+conversion-owed b out = wrote-owed (roomed (converting b) (length out))
+
+abbrev pub conversion-leaves : List ℕ → List ℕ → List ℕ
+conversion-leaves b out = out-owed (roomed (converting b) (length out)) out
 
 -- The same of the text that is written for a block.
 abbrev pub text-owed : List ℕ → List ℕ → List ℕ

@@ -1,4 +1,4 @@
-// The calls on whole blocks: two compared, loops doubled, blocks as text, the maze and its corridors.
+// The calls on whole blocks: two compared, loops doubled, edition 2 converted, blocks as text, the maze and its corridors.
 use foldheron::Corridor;
 use foldheron::Likeness;
 use foldheron::Maze;
@@ -10,7 +10,7 @@ ghost use mathlib.Core.List.{_∷_};
 ghost use Rattle.writing.specs.Answers.{wrote-values};
 ghost use Rattle.maze.specs.Ways.{room-of, way-told};
 ghost use Rattle.values.specs.Asking.{room-for};
-ghost use Rattle.values.specs.Whole.{likeness-values, Compares, doubling-owed, doubling-leaves, text-owed, text-leaves, block-owed, block-leaves};
+ghost use Rattle.values.specs.Whole.{likeness-values, Compares, doubling-owed, doubling-leaves, conversion-owed, conversion-leaves, text-owed, text-leaves, block-owed, block-leaves};
 ghost use Rattle.values.specs.Whole.{maze-values, ShowsMaze, room-by, room-values, way-values, corridor-owed};
 
 // Number, place, which block, and the size of the run.
@@ -47,6 +47,13 @@ pub fn double_loops(block: &[u8], out: &mut [u8]) -> [u64; 3]
     ensures { λ _. ⌜ now (out .exit) ≡ doubling-leaves (now (block .entry)) (now (out .entry)) ⌝ }
 {
     wrote(foldheron::double_loops(block, out))
+}
+
+pub fn convert(block: &[u8], out: &mut [u8]) -> [u64; 3]
+    ensures { λ r. ⌜ r ≡ conversion-owed (now (block .entry)) (now (out .entry)) ⌝ }
+    ensures { λ _. ⌜ now (out .exit) ≡ conversion-leaves (now (block .entry)) (now (out .entry)) ⌝ }
+{
+    wrote(foldheron::convert(block, out))
 }
 
 pub fn write_text(block: &[u8], text: &mut [u8]) -> [u64; 3]

@@ -340,6 +340,15 @@ pub fn double_loops<'a>(block: &[u8], out: &'a mut [u8]) -> Result<&'a [u8], Ref
     Ok(&out[..number(&a, 2) as usize])
 }
 
+/// A block of edition 2, whose statements may also be halt, sustain, await and abort, written in edition 1 to the front of the lent bytes: the part that it fills is handed back,
+/// and no other byte of them changes. `BLOCK_MOST` bytes are enough for any. From fresh, any input run gives on it the outputs, codes and 13 that the four statements mean. Refused with 1
+/// to 8 of the block lent, with 3 any edition but 2; then with 4 at place 0 where what would be written passes a limit; then with 12.
+pub fn convert<'a>(block: &[u8], out: &'a mut [u8]) -> Result<&'a [u8], Refusal> {
+    let a = raw::convert(block, out);
+    refusal(&a)?;
+    Ok(&out[..number(&a, 2) as usize])
+}
+
 /// The block as text, in the grammar of `docs/FORMAT.md`, written to the front of the lent bytes: the part that it fills is handed back, and no other byte of
 /// them changes. `TEXT_MOST` bytes are enough for any. A block has one text, which is ASCII: signals are named `I0`, `O1` or `S2` by their numbers, traps `T0`, `T1` ..
 pub fn write_text<'a>(block: &[u8], text: &'a mut [u8]) -> Result<&'a [u8], Refusal> {

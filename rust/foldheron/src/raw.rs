@@ -42,6 +42,9 @@ extern "C" {
     fn foldheron_double_loops(
         block: *const u8, block_len: usize, out: *mut u8, out_len: usize, answer: *mut u8, answer_len: usize,
     ) -> u16;
+    fn foldheron_convert(
+        block: *const u8, block_len: usize, out: *mut u8, out_len: usize, answer: *mut u8, answer_len: usize,
+    ) -> u16;
     fn foldheron_write_text(
         block: *const u8, block_len: usize, text: *mut u8, text_len: usize, answer: *mut u8, answer_len: usize,
     ) -> u16;
@@ -158,6 +161,13 @@ pub fn double_loops(block: &[u8], out: &mut [u8]) -> [u8; 24] {
     let mut answer = [0; 24];
     let (lent, size) = (out.as_mut_ptr(), out.len());
     let number = unsafe { foldheron_double_loops(block.as_ptr(), block.len(), lent, size, answer.as_mut_ptr(), answer.len()) };
+    told(number, answer)
+}
+
+pub fn convert(block: &[u8], out: &mut [u8]) -> [u8; 24] {
+    let mut answer = [0; 24];
+    let (lent, size) = (out.as_mut_ptr(), out.len());
+    let number = unsafe { foldheron_convert(block.as_ptr(), block.len(), lent, size, answer.as_mut_ptr(), answer.len()) };
     told(number, answer)
 }
 

@@ -25,8 +25,8 @@ const MEANINGS: [(Status, u8, &str); 10] = [
     (File, 5, "a file, or standard output, could not be read or written"),
     (Different, 6, "two blocks are not alike"),
     (CannotTell, 7, "whether two blocks are alike cannot be told (25)"),
-    (Refused, 8, "something else asked was refused (14, 16, 18 to 24, 26; a log that is none, or another block's; names that do not fit)"),
-    (NotExpected, 9, "not as expected: with run --expect, 9 stands in place of 1, 3 and 4, but for a refused state of --from"),
+    (Refused, 8, "something else asked was refused (14 to 16, 18 to 24, 26; a log that is none, or another block's; names that do not fit)"),
+    (NotExpected, 9, "not as expected: fmt --check; with run --expect, 9 stands in place of 1, 3 and 4, but for a refused state of --from"),
 ];
 
 impl Status {

@@ -45,26 +45,26 @@ write-at-put-first-requires : (t : ℕ) → write-at-lts.Need-put-first-requires
 write-at-put-first-requires t c κs =
     let head = c .before in
     let start = head .before .before .before in
-    room-first (start .args .spot) (start .args .marks) (head .head-at .ensures) (start .pre .1 .0) (start .pre .1 .1)
+    let a = start .args in
+    let told = head .head-at .ensures in
+    room-first (a .spot) (a .marks) told (start .pre .1 .0) (start .pre .1 .1)
 
 write-at-same-length : (t : ℕ) → write-at-lts.Need-same-length (write-at-claims t) (write-at-at t) write-at.Post
 write-at-same-length t c = search needs
 
 write-at-returns : (t : ℕ) → write-at-lts.Need-returns (write-at-claims t) (write-at-at t) write-at.Post
 write-at-returns t c =
-    let tested = c in
-    let first = tested .before .before .before .before in
+    let first = c .before .before .before .before in
     let head = first .before .before in
     let start = head .before .before .before in
-    none-below (start .args .spot) (start .args .marks) (head .head-at .ensures) (first .put-first .ensures) (tested .if1 .taken)
+    let a = start .args in
+    let told = head .head-at .ensures in
+    none-below (a .spot) (a .marks) told (first .put-first .ensures) (c .if1 .taken)
 
 write-at-inside-requires : (t : ℕ) → write-at-lts.Need-inside-requires (write-at-claims t) (write-at-at t) write-at.Post
 write-at-inside-requires t c κs =
-    let tested = c in
-    let first = tested .before .before .before .before in
-    let head = first .before .before in
-    let start = head .before .before .before in
-    marks-few (start .pre .1 .1)
+    let first = c .before .before .before .before in
+    marks-few (first .before .before .before .before .before .pre .1 .1)
 
 write-at-write-at-requires : (t : ℕ) → write-at-lts.Need-write-at-requires (write-at-claims t) (write-at-at t) write-at.Post
 write-at-write-at-requires t c κs =
@@ -73,7 +73,9 @@ write-at-write-at-requires t c κs =
     let first = tested .before .before .before .before in
     let head = first .before .before in
     let start = head .before .before .before in
-    let n = below-walks (start .args .spot) (start .args .marks) (head .head-at .ensures) (first .put-first .ensures) (inner .inside .ensures) (tested .if1 .left) (start .pre .1 .0) (start .pre .1 .1) in
+    let a = start .args in
+    let told = head .head-at .ensures in
+    let n = below-walks (a .spot) (a .marks) told (first .put-first .ensures) (inner .inside .ensures) (tested .if1 .left) (start .pre .1 .0) (start .pre .1 .1) in
     (falls-to (start .pre .0) (n .0) (place-small (n .1 .1)), n .1)
 
 write-at-put-last-requires : (t : ℕ) → write-at-lts.Need-put-last-requires (write-at-claims t) (write-at-at t) write-at.Post
@@ -85,7 +87,9 @@ write-at-put-last-requires t c κs =
     let first = tested .before .before .before .before in
     let head = first .before .before in
     let start = head .before .before .before in
-    room-last (start .args .spot) (start .args .marks) (head .head-at .ensures) (first .put-first .ensures) (inner .inside .ensures) (below .write-at .ensures) (ended .if2 .taken) (start .pre .1 .0) (start .pre .1 .1)
+    let a = start .args in
+    let told = head .head-at .ensures in
+    room-last (a .spot) (a .marks) told (first .put-first .ensures) (inner .inside .ensures) (below .write-at .ensures) (ended .if2 .taken) (start .pre .1 .0) (start .pre .1 .1)
 
 write-at-same-length-2 : (t : ℕ) → write-at-lts.Need-same-length-2 (write-at-claims t) (write-at-at t) write-at.Post
 write-at-same-length-2 t c = search needs
@@ -100,7 +104,9 @@ write-at-returns-2 t c =
     let first = tested .before .before .before .before in
     let head = first .before .before in
     let start = head .before .before .before in
-    one-below (start .args .spot) (start .args .marks) (head .head-at .ensures) (first .put-first .ensures) (inner .inside .ensures) (below .write-at .ensures) (last .put-last .ensures) (ended .if2 .taken)
+    let a = start .args in
+    let told = head .head-at .ensures in
+    one-below (a .spot) (a .marks) told (first .put-first .ensures) (inner .inside .ensures) (below .write-at .ensures) (last .put-last .ensures) (ended .if2 .taken)
 
 write-at-write-at-requires-2 : (t : ℕ) → write-at-lts.Need-write-at-requires-2 (write-at-claims t) (write-at-at t) write-at.Post
 write-at-write-at-requires-2 t c κs =
@@ -111,7 +117,10 @@ write-at-write-at-requires-2 t c κs =
     let first = tested .before .before .before .before in
     let head = first .before .before in
     let start = head .before .before .before in
-    let n = second-walks (start .args .spot) (start .args .marks) (head .head-at .ensures) (first .put-first .ensures) (inner .inside .ensures) (below .write-at .ensures) (tested .if1 .left) (ended .if2 .left) (start .pre .1 .0) (start .pre .1 .1) in
+    let a = start .args in
+    let told = head .head-at .ensures in
+    let w = start .pre .1 in
+    let n = second-walks (a .spot) (a .marks) told (first .put-first .ensures) (inner .inside .ensures) (below .write-at .ensures) (tested .if1 .left) (ended .if2 .left) (w .0) (w .1) in
     (falls-to (start .pre .0) (n .0) (place-small (n .1 .1)), n .1)
 
 write-at-same-length-3 : (t : ℕ) → write-at-lts.Need-same-length-3 (write-at-claims t) (write-at-at t) write-at.Post
@@ -127,7 +136,9 @@ write-at-returns-3 t c =
     let first = tested .before .before .before .before in
     let head = first .before .before in
     let start = head .before .before .before in
-    two-below (start .args .spot) (start .args .marks) (head .head-at .ensures) (first .put-first .ensures) (inner .inside .ensures) (below .write-at .ensures) (second .write-at2 .ensures) (tested .if1 .left) (ended .if2 .left)
+    let a = start .args in
+    let told = head .head-at .ensures in
+    two-below (a .spot) (a .marks) told (first .put-first .ensures) (inner .inside .ensures) (below .write-at .ensures) (second .write-at2 .ensures) (tested .if1 .left) (ended .if2 .left)
 
 pub +write-at-spec : {M : Type 1} → statement M
 +write-at-spec = close μ-write-at λ t. write-at-lts.spec (write-at-claims t)

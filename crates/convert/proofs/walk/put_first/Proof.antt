@@ -33,7 +33,8 @@ put-abort-requires : tie.Need-put-abort-requires
 put-abort-requires c κs = abort-room (c .before .before .before .pre) (c .before .match .keys5)
 
 put-record-requires-2 : tie.Need-put-record-requires-2
-put-record-requires-2 c κs = record-room (c .before .before .before .pre) (c .before .match .rest .0 .0 .0 .0 .1) (c .before .match .rest .0 .0 .0 .1) (c .before .match .rest .0 .0 .1) (c .before .match .rest .0 .1) (c .before .match .rest .1)
+put-record-requires-2 c κs =
+    let r = c .before .match .rest in record-room (c .before .before .before .pre) (r .0 .0 .0 .0 .1) (r .0 .0 .0 .1) (r .0 .0 .1) (r .0 .1) (r .1)
 
 same-length : tie.Need-same-length
 same-length c = search needs

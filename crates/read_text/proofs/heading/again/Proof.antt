@@ -1,12 +1,12 @@
 -- `heading::again`: it is declared where it stands for something. Assumes nothing.
-use mathlib.Core.Path.{_≡_, sym, ap, _∙_}
+use mathlib.Core.Path.{sym, ap, _∙_}
 use borrow.Author.Needs.{needs}
-use Rattle.read_text.proofs.MoveLaws.{told-some, declared-found}
+use Rattle.read_steps.proofs.MoveLaws.{told-some, declared-found}
 use Rattle.read_text.proofs.heading.again.Statement.{statement}
 use Rattle.read_text.proofs.heading.again.Tie as tie
 use Rattle.read_text.proofs.heading.again.Reads as reads
 use Rattle.read_text.proofs.heading.again.Lts as lts
-use Rattle.read_text.proofs.found.in_header.Reads as in-header-reads
+use Rattle.read_steps.proofs.found.in_header.Reads as in-header-reads
 
 in-header-requires : tie.Need-in-header-requires
 in-header-requires c κs = search needs

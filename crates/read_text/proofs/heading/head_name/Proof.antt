@@ -1,5 +1,5 @@
 -- `heading::head_name`: no name may stand here, it is declared before, or it is new. Assumes nothing.
-use mathlib.Core.Path.{_≡_, refl, sym, ap, _∙_}
+use mathlib.Core.Path.{refl, sym, ap, _∙_}
 use mathlib.Core.Bool.{cond}
 use lib.Dec.{eqb}
 use borrow.Author.Needs.{needs}
@@ -20,27 +20,41 @@ on-one-requires-2 c κs = search needs
 
 returns : tie.Need-returns
 unfolding after-name
-returns c = λ k.
-    let next = c .before .on-one2 .ensures ∙ ap (cond (eqb (c .before .before .before .before .args .r .awaits) 6) 7) (c .before .before .on-one .ensures) in
-    record { takes = λ at g h a. name-fault h a k next (c .if1 .taken) }
+returns c =
+    let at-on-one2 = c .before in
+    let at-on-one = at-on-one2 .before in
+    let start = at-on-one .before .before in
+    let next = at-on-one2 .on-one2 .ensures ∙ ap (cond (eqb (start .args .r .awaits) 6) 7) (at-on-one .on-one .ensures) in
+    λ k. record { takes = λ at g h a. name-fault h a k next (c .if1 .taken) }
 
 again-requires : tie.Need-again-requires
 again-requires c κs = search needs
 
 returns-2 : tie.Need-returns-2
 unfolding after-name
-returns-2 c = λ k.
-    let next = c .before .before .before .on-one2 .ensures ∙ ap (cond (eqb (c .before .before .before .before .before .before .args .r .awaits) 6) 7) (c .before .before .before .before .on-one .ensures) in
-    record { takes = λ at g h a. name-again h a k next (c .before .before .if1 .left) (sym (c .before .again .ensures) ∙ c .if2 .taken) }
+returns-2 c =
+    let at-again = c .before in
+    let at-if1 = at-again .before in
+    let at-on-one2 = at-if1 .before in
+    let at-on-one = at-on-one2 .before in
+    let start = at-on-one .before .before in
+    let next = at-on-one2 .on-one2 .ensures ∙ ap (cond (eqb (start .args .r .awaits) 6) 7) (at-on-one .on-one .ensures) in
+    λ k. record { takes = λ at g h a. name-again h a k next (at-if1 .if1 .left) (sym (at-again .again .ensures) ∙ c .if2 .taken) }
 
 add-q : tie.Need-add-q
 add-q c = search needs
 
 returns-3 : tie.Need-returns-3
 unfolding after-name
-returns-3 c = λ k.
-    let next = c .before .before .before .before .on-one2 .ensures ∙ ap (cond (eqb (c .before .before .before .before .before .before .before .args .r .awaits) 6) 7) (c .before .before .before .before .before .on-one .ensures) in
-    record { takes = λ at g h a. name-taken h a k next (c .before .before .before .if1 .left) (sym (c .before .before .again .ensures) ∙ c .before .if2 .left) refl }
+returns-3 c =
+    let at-if2 = c .before in
+    let at-again = at-if2 .before in
+    let at-if1 = at-again .before in
+    let at-on-one2 = at-if1 .before in
+    let at-on-one = at-on-one2 .before in
+    let start = at-on-one .before .before in
+    let next = at-on-one2 .on-one2 .ensures ∙ ap (cond (eqb (start .args .r .awaits) 6) 7) (at-on-one .on-one .ensures) in
+    λ k. record { takes = λ at g h a. name-taken h a k next (at-if1 .if1 .left) (sym (at-again .again .ensures) ∙ at-if2 .if2 .left) refl }
 
 pub head-name-spec : {M : Type 1} → statement M
 head-name-spec =

@@ -5,7 +5,7 @@ use Rattle.read_text.proofs.reading.body_token.Statement.{statement}
 use Rattle.read_text.proofs.reading.body_token.Tie as tie
 use Rattle.read_text.proofs.reading.body_token.Reads as reads
 use Rattle.read_text.proofs.reading.body_token.Lts as lts
-use Rattle.read_text.proofs.body.body_step.Reads as body-step-reads
+use Rattle.read_steps.proofs.body.body_step.Reads as body-step-reads
 
 body-step-requires : tie.Need-body-step-requires
 body-step-requires c κs = search needs

@@ -1,8 +1,7 @@
 -- `reading::first_reader`: with the first state of the statement. Assumes nothing.
-use mathlib.Core.Path.{_≡_, ap}
+use mathlib.Core.Path.{ap}
 use borrow.Author.Needs.{needs}
-use Rattle.read_text.specs.declared.steps.Stage.{Stage}
-use Rattle.read_text.specs.declared.heading.Reader.{Reader}
+use Rattle.read_steps.specs.declared.steps.Stage.{Stage}
 use Rattle.read_text.proofs.reading.first_reader.Statement.{statement}
 use Rattle.read_text.proofs.reading.first_reader.Tie as tie
 use Rattle.read_text.proofs.reading.first_reader.Reads as reads

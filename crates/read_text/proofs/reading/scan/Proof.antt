@@ -1,9 +1,8 @@
 -- `reading::scan`: the outcome of the text is that of the reader so far on the tokens that are left. Assumes nothing.
-use mathlib.Core.Path.{_≡_, sym, _∙_}
+use mathlib.Core.Path.{sym, _∙_}
 use Prim.Native.Nat.{_-_}
 use native.Mathlib.Omega.{arith}
 use borrow.Author.Needs.{needs}
-use denote.Ref.{now}
 use lib.ListN.{length}
 use Rattle.read_text.proofs.ScanLaws.{Going, going-first, less-left, ready, going-on, going-stops, still-room, scan-ends, scan-breaks}
 use Rattle.read_text.proofs.reading.scan.Statement.{statement}
@@ -34,31 +33,70 @@ may-end-requires : tie.Need-may-end-requires Inv-loop μ-loop
 may-end-requires c κs = search needs
 
 same-length : tie.Need-same-length Inv-loop μ-loop
-same-length c = still-room (c .before .before .before .before .loop .inv) ∙ sym (c .before .before .before .before .before .before .before .before .pre .1)
+same-length c =
+    let at-loop = c .before .before .before .before in
+    let start = at-loop .before .before .before .before in
+    still-room (at-loop .loop .inv) ∙ sym (start .pre .1)
 
 returns : tie.Need-returns Inv-loop μ-loop
-returns c = scan-ends (c .before .before .before .before .loop .inv) (c .before .before .before .token-at .ensures) (c .before .before .if1 .taken) (sym (c .before .may-end .ensures) ∙ c .if2 .taken)
+returns c =
+    let at-may-end = c .before in
+    let at-if1 = at-may-end .before in
+    let at-token-at = at-if1 .before in
+    let at-loop = at-token-at .before in
+    scan-ends (at-loop .loop .inv) (at-token-at .token-at .ensures) (at-if1 .if1 .taken) (sym (at-may-end .may-end .ensures) ∙ c .if2 .taken)
 
 same-length-2 : tie.Need-same-length-2 Inv-loop μ-loop
-same-length-2 c = still-room (c .before .before .before .before .loop .inv) ∙ sym (c .before .before .before .before .before .before .before .before .pre .1)
+same-length-2 c =
+    let at-loop = c .before .before .before .before in
+    let start = at-loop .before .before .before .before in
+    still-room (at-loop .loop .inv) ∙ sym (start .pre .1)
 
 returns-2 : tie.Need-returns-2 Inv-loop μ-loop
-returns-2 c = scan-breaks (c .before .before .before .before .loop .inv) (c .before .before .before .token-at .ensures) (c .before .before .if1 .taken) (sym (c .before .may-end .ensures) ∙ c .if2 .left)
+returns-2 c =
+    let at-may-end = c .before in
+    let at-if1 = at-may-end .before in
+    let at-token-at = at-if1 .before in
+    let at-loop = at-token-at .before in
+    scan-breaks (at-loop .loop .inv) (at-token-at .token-at .ensures) (at-if1 .if1 .taken) (sym (at-may-end .may-end .ensures) ∙ c .if2 .left)
 
 take-requires : tie.Need-take-requires Inv-loop μ-loop
-take-requires c κs = ready (c .before .before .before .before .before .loop .inv) (record { front = c .before .before .before .before .token-at .ensures; inside = omega (arith, c .before .before .before .if1 .left) })
+take-requires c κs =
+    let at-if1 = c .before .before .before in
+    let at-token-at = at-if1 .before in
+    let at-loop = at-token-at .before in
+    ready (at-loop .loop .inv) (record { front = at-token-at .token-at .ensures; inside = omega (arith, at-if1 .if1 .left) })
 
 same-length-3 : tie.Need-same-length-3 Inv-loop μ-loop
-same-length-3 c = c .before .before .before .out .given ∙ still-room (c .before .before .before .before .before .before .before .before .before .before .loop .inv) ∙ sym (c .before .before .before .before .before .before .before .before .before .before .before .before .before .before .pre .1)
+same-length-3 c =
+    let at-out = c .before .before .before in
+    let at-loop = at-out .before .before .before .before .before .before .before in
+    let start = at-loop .before .before .before .before in
+    at-out .out .given ∙ still-room (at-loop .loop .inv) ∙ sym (start .pre .1)
 
 returns-3 : tie.Need-returns-3 Inv-loop μ-loop
-returns-3 c = going-stops (c .before .before .before .before .before .before .before .before .before .before .loop .inv) (record { front = c .before .before .before .before .before .before .before .before .before .token-at .ensures; inside = omega (arith, c .before .before .before .before .before .before .before .before .if1 .left) }) (c .before .before .before .before .take .ensures) (c .if3 .taken)
+returns-3 c =
+    let at-take = c .before .before .before .before in
+    let at-if1 = at-take .before .before .before .before in
+    let at-token-at = at-if1 .before in
+    let at-loop = at-token-at .before in
+    going-stops (at-loop .loop .inv) (record { front = at-token-at .token-at .ensures; inside = omega (arith, at-if1 .if1 .left) }) (at-take .take .ensures) (c .if3 .taken)
 
 loop-less : tie.Need-loop-less Inv-loop μ-loop
-loop-less c = less-left (c .before .before .before .before .before .before .before .before .before .before .before .loop .inv) (record { front = c .before .before .before .before .before .before .before .before .before .before .token-at .ensures; inside = omega (arith, c .before .before .before .before .before .before .before .before .before .if1 .left) })
+loop-less c =
+    let at-if1 = c .before .before .before .before .before .before .before .before .before in
+    let at-token-at = at-if1 .before in
+    let at-loop = at-token-at .before in
+    less-left (at-loop .loop .inv) (record { front = at-token-at .token-at .ensures; inside = omega (arith, at-if1 .if1 .left) })
 
 loop-again : tie.Need-loop-again Inv-loop μ-loop
-loop-again c = going-on (c .before .before .before .before .before .before .before .before .before .before .before .loop .inv) (record { front = c .before .before .before .before .before .before .before .before .before .before .token-at .ensures; inside = omega (arith, c .before .before .before .before .before .before .before .before .before .if1 .left) }) (c .before .before .before .before .before .take .ensures) (c .before .if3 .left)
+loop-again c =
+    let at-if3 = c .before in
+    let at-take = at-if3 .before .before .before .before in
+    let at-if1 = at-take .before .before .before .before in
+    let at-token-at = at-if1 .before in
+    let at-loop = at-token-at .before in
+    going-on (at-loop .loop .inv) (record { front = at-token-at .token-at .ensures; inside = omega (arith, at-if1 .if1 .left) }) (at-take .take .ensures) (at-if3 .if3 .left)
 
 pub scan-spec : {M : Type 1} → statement M
 scan-spec =

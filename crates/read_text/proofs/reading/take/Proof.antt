@@ -17,25 +17,41 @@ returns : tie.Need-returns
 returns c = takes-none (c .if1 .taken)
 
 body-token-requires : tie.Need-body-token-requires
-body-token-requires c κs = body-asks (c .before .before .before .before .before .before .before .before .before .pre) (c .before .before .before .before .before .before .before .before .before .good .0 .0) (c .before .before .before .if2 .taken)
+body-token-requires c κs =
+    let at-if2 = c .before .before .before in
+    let start = at-if2 .before .before .before .before .before .before in
+    body-asks (start .pre) (start .good .0 .0) (at-if2 .if2 .taken)
 
 same-length : tie.Need-same-length
 same-length c = search needs
 
 returns-2 : tie.Need-returns-2
-returns-2 c = takes-body (c .before .before .before .before .before .before .if2 .taken) (c .before .before .body-token .ensures)
+returns-2 c =
+    let at-body-token = c .before .before in
+    let at-if2 = at-body-token .before .before .before .before in
+    takes-body (at-if2 .if2 .taken) (at-body-token .body-token .ensures)
 
 head-name-requires : tie.Need-head-name-requires
-head-name-requires c κs = name-asks (c .before .before .before .before .before .before .before .before .pre) (c .before .before .before .before .before .before .before .before .good .0 .0) (c .before .before .if2 .left)
+head-name-requires c κs =
+    let at-if2 = c .before .before in
+    let start = at-if2 .before .before .before .before .before .before in
+    name-asks (start .pre) (start .good .0 .0) (at-if2 .if2 .left)
 
 returns-3 : tie.Need-returns-3
-returns-3 c = takes-head (c .before .before .before .if2 .left) (c .head-name .ensures (c .before .if3 .taken))
+returns-3 c =
+    let at-if3 = c .before in
+    let at-if2 = at-if3 .before .before in
+    takes-head (at-if2 .if2 .left) (c .head-name .ensures (at-if3 .if3 .taken))
 
 head-number-requires : tie.Need-head-number-requires
 head-number-requires c κs = search needs
 
 returns-4 : tie.Need-returns-4
-returns-4 c = takes-head (c .before .before .before .before .before .if2 .left) (c .head-number .ensures (now (c .before .before .before .before .before .before .before .before .before .before .before .args .text)) (c .before .if4 .taken))
+returns-4 c =
+    let at-if4 = c .before in
+    let at-if2 = at-if4 .before .before .before .before in
+    let start = at-if2 .before .before .before .before .before .before in
+    takes-head (at-if2 .if2 .left) (c .head-number .ensures (now (start .args .text)) (at-if4 .if4 .taken))
 
 head-sign-requires : tie.Need-head-sign-requires
 head-sign-requires c κs = search needs
@@ -44,19 +60,42 @@ head-move-requires : tie.Need-head-move-requires
 head-move-requires c κs = search needs
 
 returns-5 : tie.Need-returns-5
-returns-5 c = takes-head (c .before .before .before .before .before .before .before .if2 .left) (sign-takes (now (c .before .before .before .before .before .before .before .before .before .before .before .before .before .args .text)) (c .before .before .before .before .before .before .before .before .before .before .before .before .before .args .r) (c .before .before .before .before .before .before .before .before .before .before .before .before .before .args .t) (c .before .before .before .before .before .if3 .left) (c .before .before .before .if4 .left) (c .before .before .before .before .before .before .before .before .before .if1 .left) (c .before .before .head-sign .ensures) (c .before .if5 .taken) (c .head-move .ensures))
+returns-5 c =
+    let at-if5 = c .before in
+    let at-head-sign = at-if5 .before in
+    let at-if4 = at-head-sign .before in
+    let at-if3 = at-if4 .before .before in
+    let at-if2 = at-if3 .before .before in
+    let at-if1 = at-if2 .before .before in
+    let start = at-if1 .before .before .before .before in
+    takes-head (at-if2 .if2 .left) (sign-takes (now (start .args .text)) (start .args .r) (start .args .t) (at-if3 .if3 .left) (at-if4 .if4 .left) (at-if1 .if1 .left)
+    (at-head-sign .head-sign .ensures) (at-if5 .if5 .taken) (c .head-move .ensures))
 
 first-stage-requires : tie.Need-first-stage-requires
 first-stage-requires c κs = search needs
 
 body-token-requires-2 : tie.Need-body-token-requires-2
-body-token-requires-2 c κs = first-asks (c .before .before .before .before .before .before .before .before .before .before .before .before .before .before .before .before .pre) (c .before .before .before .before .before .before .before .before .before .before .before .before .before .before .before .before .good .0 .0) (c .before .before .before .before .before .before .before .before .before .before .if2 .left) (c .before .before .before .first-stage .ensures)
+body-token-requires-2 c κs =
+    let at-first-stage = c .before .before .before in
+    let at-if2 = at-first-stage .before .before .before .before .before .before .before in
+    let start = at-if2 .before .before .before .before .before .before in
+    first-asks (start .pre) (start .good .0 .0) (at-if2 .if2 .left) (at-first-stage .first-stage .ensures)
 
 same-length-2 : tie.Need-same-length-2
 same-length-2 c = search needs
 
 returns-6 : tie.Need-returns-6
-returns-6 c = takes-first (c .before .before .before .before .before .before .before .before .before .before .before .if3 .left) (c .before .before .before .before .before .before .before .before .before .if4 .left) (c .before .before .before .before .before .before .before .before .before .before .before .before .before .before .before .if1 .left) (c .before .before .before .before .before .before .before .before .head-sign .ensures) (c .before .before .before .before .before .before .before .if5 .left) (c .before .before .before .before .before .before .first-stage .ensures) (c .before .before .body-token2 .ensures) (c .before .before .before .before .before .before .before .before .before .before .before .before .before .if2 .left)
+returns-6 c =
+    let at-body-token2 = c .before .before in
+    let at-first-stage = at-body-token2 .before .before .before .before in
+    let at-if5 = at-first-stage .before in
+    let at-head-sign = at-if5 .before in
+    let at-if4 = at-head-sign .before in
+    let at-if3 = at-if4 .before .before in
+    let at-if2 = at-if3 .before .before in
+    let at-if1 = at-if2 .before .before in
+    takes-first (at-if3 .if3 .left) (at-if4 .if4 .left) (at-if1 .if1 .left) (at-head-sign .head-sign .ensures) (at-if5 .if5 .left)
+    (at-first-stage .first-stage .ensures) (at-body-token2 .body-token2 .ensures) (at-if2 .if2 .left)
 
 pub take-spec : {M : Type 1} → statement M
 take-spec =

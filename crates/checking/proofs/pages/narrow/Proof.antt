@@ -1,11 +1,11 @@
--- `pages::statement` is safe: the page has room for the longest record. Assumes nothing.
+-- `pages::narrow` is safe: the page has room for the longest record. Assumes nothing.
 use native.Mathlib.Omega.{arith}
 use Rattle.block.proofs.Offsets.{length-small}
 use borrow.Author.Needs.{needs}
-use Rattle.checking.proofs.pages.statement.Statement.{statement}
-use Rattle.checking.proofs.pages.statement.Tie as tie
-use Rattle.checking.proofs.pages.statement.Reads as reads
-use Rattle.checking.proofs.pages.statement.Lts as lts
+use Rattle.checking.proofs.pages.narrow.Statement.{statement}
+use Rattle.checking.proofs.pages.narrow.Tie as tie
+use Rattle.checking.proofs.pages.narrow.Reads as reads
+use Rattle.checking.proofs.pages.narrow.Lts as lts
 use Rattle.writing.proofs.put_record.Reads as put-record-reads
 
 returns : tie.Need-returns
@@ -30,6 +30,6 @@ same-length c = search needs
 returns-3 : tie.Need-returns-3
 returns-3 c = search needs
 
-pub statement-spec : {M : Type 1} → statement M
-statement-spec =
+pub narrow-spec : {M : Type 1} → statement M
+narrow-spec =
     tie.close (tie.spec returns sub-if2 returns-2 put-record-requires same-length returns-3)
