@@ -1,10 +1,12 @@
 //! Edition 2 by its own meaning beside what it is converted to. And the calls that convert.
 
+use std::io::{self, Read, Write};
+
 use crate::all::{All, Alphabet};
 use crate::block::{decode, decode_edition, encode_edition, encode_tokens, Block, Form, Header, Token};
 use crate::cases::{some_edge_block, spoil, with_version, Call, Case};
 use crate::chance::Chance;
-use crate::convert::converted;
+use crate::convert::{convert, converted};
 use crate::edge_calls::EdgeCall;
 use crate::edges::{block_of, set, with_more};
 use crate::fault::{Fault, DIRECT};
@@ -131,6 +133,20 @@ fn everyday(block: &Block, chance: &mut Chance) -> Vec<Token> {
         _ => (form, operand),
     };
     block.root.tokens().into_iter().map(|token| change(token)).collect()
+}
+
+/// The conversion of the block on standard input; false if it is refused.
+pub fn print_converted() -> bool {
+    let (mut block, mut bytes) = (Vec::new(), [0; 3086]);
+    let (answer, size) = match io::stdin().read_to_end(&mut block) {
+        Ok(_) => convert(&block, &mut bytes, Fault::None),
+        Err(_) => return false,
+    };
+    if answer.number != 0 {
+        eprintln!("refused with {} at {}", answer.number, answer.place);
+        return false;
+    }
+    io::stdout().write_all(&bytes[..size]).is_ok()
 }
 
 /// All small blocks of edition 2 and so many random ones; false if a run differs.

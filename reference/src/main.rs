@@ -91,6 +91,7 @@ const USAGE: &str = "subcommands:
   text [MORE N SEED]  every text of up to MORE tokens (5) after the header, and N random blocks (2000, seed 1) read back
   read              reads a text from standard input and writes the block's bytes
   convert [SIZE N SEED]  edition 2 beside its conversion: all up to SIZE statements (5), N random ones (3000, seed 1)
+  converted         reads a block of edition 2 from standard input and writes the bytes of its conversion
   bite [CASES]      a case for each fault
   run FOLDER        the run program
   cases [CASES]     lines of calls with their complete answers
@@ -140,6 +141,7 @@ fn main() {
         Some("copies") => doubles::print_copies(number(1, 6) as usize, number(2, 2000) as usize, number(3, 1)),
         Some("text") => kernels::print_text(number(1, 5) as usize, number(2, 2000) as usize, number(3, 1)),
         Some("read") => kernels::print_block(),
+        Some("converted") => converts::print_converted(),
         Some("convert") => converts::print_convert(number(1, 5) as usize, number(2, 3000) as usize, number(3, 1)),
         Some("older") => older::print_older(number(1, 40_000) as usize, number(2, 1)),
         Some("older-smallest") => older::print_smallest(number(1, 1)),

@@ -22,9 +22,6 @@ pub mod LikeRuns
 pub mod Likeness
 pub mod Written
 pub mod Doubling
-pub mod ConversionNumbers
-pub mod Editions
-pub mod Conversion
 pub mod Texts
 pub mod ReadTexts
 pub mod MazeInstants

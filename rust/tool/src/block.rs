@@ -3,8 +3,10 @@
 use crate::args::Words;
 use crate::cause::{likely, Cause};
 use crate::commands::check::refused;
+use crate::everyday;
 use crate::files;
 use crate::labels::Labels;
+use crate::layout::{edition, EVERYDAY};
 use crate::names;
 use crate::output::Out;
 use crate::refusal;
@@ -34,6 +36,12 @@ impl Block {
         };
         name.map_or("a block".to_string(), |name| files::printable(&name.to_string_lossy()))
     }
+
+    /// Its counts in words, with its edition where that is not 1.
+    pub fn counts(&self) -> String {
+        let edition = if edition(&self.bytes) == EVERYDAY { "edition 2, " } else { "" };
+        format!("{}{}", edition, counts(&self.summary, self.bytes.len()))
+    }
 }
 
 /// Reads the block that a word names, and its names. A refused one ends the command.
@@ -55,14 +63,30 @@ pub fn load_or_tell(words: &Words, word: &OsStr, out: &mut Out) -> Outcome<Optio
 
 /// The same of a block that is read already.
 pub fn checked(words: &Words, path: PathBuf, bytes: Vec<u8>) -> Outcome<Block> {
-    let mut block = unnamed(path, bytes)?;
+    named(words, unnamed(path, bytes)?)
+}
+
+/// The same of a block of either edition.
+pub fn either(words: &Words, path: PathBuf, bytes: Vec<u8>) -> Outcome<Block> {
+    named(words, either_unnamed(path, bytes)?)
+}
+
+fn named(words: &Words, mut block: Block) -> Outcome<Block> {
     block.labels = names::labels(words, &block.path, &block.bytes, &block.summary)?;
     Ok(block)
 }
 
 /// The same without a look at its names.
 pub fn unnamed(path: PathBuf, bytes: Vec<u8>) -> Outcome<Block> {
-    match check(&bytes) {
+    with_counts(check(&bytes), path, bytes)
+}
+
+pub fn either_unnamed(path: PathBuf, bytes: Vec<u8>) -> Outcome<Block> {
+    with_counts(everyday::summary(&bytes), path, bytes)
+}
+
+fn with_counts(told: Result<Summary, Refusal>, path: PathBuf, bytes: Vec<u8>) -> Outcome<Block> {
+    match told {
         Ok(summary) => Ok(Block { path, bytes, summary, labels: Labels::numbered(&summary) }),
         Err(why) => Err(Trouble { status: Status::BlockRefused, lines: Report::of(&path, &bytes, why).lines() }),
     }
@@ -85,6 +109,8 @@ pub fn counts(summary: &Summary, bytes: usize) -> String {
 /// All that is said of a refused block.
 pub struct Report {
     pub path: PathBuf,
+    /// Whether it is refused as a block of edition 2.
+    pub is_everyday: bool,
     pub refusal: Refusal,
     pub statement: Option<usize>,
     pub record: String,
@@ -96,9 +122,10 @@ impl Report {
     pub fn of(path: &Path, block: &[u8], why: Refusal) -> Report {
         Report {
             path: path.to_path_buf(),
+            is_everyday: edition(block) == EVERYDAY && why.number != 3,
             refusal: why,
             statement: refusal::statement_number(block, &why),
-            record: refusal::record(block, why.place),
+            record: if refusal::is_conversions(block, &why) { "the whole block".to_string() } else { refusal::record(block, why.place) },
             wrong: refusal::wrong(block, &why),
             cause: likely(block, &why),
         }
@@ -109,9 +136,10 @@ impl Report {
     }
 
     pub fn lines(&self) -> Vec<String> {
+        let edition = if self.is_everyday { "edition 2: " } else { "" };
         let statement = self.statement.map_or(String::new(), |number| format!(" (statement {})", number));
         let mut lines = vec![
-            format!("{}: refused with {}, at offset {}{}", files::shown(&self.path), refusal::title(self.refusal.number), self.refusal.place, statement),
+            format!("{}: {}refused with {}, at offset {}{}", files::shown(&self.path), edition, refusal::title(self.refusal.number), self.refusal.place, statement),
             format!("there:         {}", self.record),
             format!("what is wrong: {}", self.wrong),
         ];
@@ -123,9 +151,9 @@ impl Report {
     }
 }
 
-/// Whether a file holds a good block. What has no end, or has to be waited for, is not looked at.
+/// Whether a file holds a good block, of either edition. What has no end, or has to be waited for, is not looked at.
 pub fn is_good(path: &Path) -> bool {
-    files::size(path).is_some() && files::block(path).map_or(false, |bytes| check(&bytes).is_ok())
+    files::size(path).is_some() && files::block(path).map_or(false, |bytes| everyday::is_good(&bytes))
 }
 
 /// Writes a block into a file, where it may.

@@ -1,9 +1,11 @@
 //! The likely cause of a refused block, and what to do about it. Where something can be tried it is tried: a file whose pairs of bytes are turned
 //! round and that is then good was written high byte first.
 
-use crate::layout::{begins_entry, begins_log_record, begins_state, eight, two, Header, BLOCK_MOST, HEADER, RECORD, SET};
+use crate::everyday::{is_good, summary};
+use crate::layout::{begins_entry, begins_log_record, begins_state, edition, eight, two, Header, Kind, BLOCK_MOST, EVERYDAY, HEAD, HEADER, RECORD, SET};
+use crate::refusal::{is_conversions, title};
 use crate::walk::counted;
-use foldheron::{check, Refusal};
+use foldheron::Refusal;
 
 pub struct Cause {
     pub what: String,
@@ -19,7 +21,8 @@ pub fn likely(block: &[u8], refusal: &Refusal) -> Option<Cause> {
     if !matches!(refusal.number, 1..=8) {
         return None;
     }
-    let tries: [fn(&[u8], &Refusal) -> Option<Cause>; 9] = [empty, text, packed, other_record, turned, line_ends, goes_on, input_sets, cut_off];
+    let tries: [fn(&[u8], &Refusal) -> Option<Cause>; 12] =
+        [empty, other_edition, unsaid_edition, too_large, text, packed, other_record, turned, line_ends, goes_on, input_sets, cut_off];
     tries.iter().find_map(|attempt| attempt(block, refusal))
 }
 
@@ -47,6 +50,41 @@ fn empty(block: &[u8], _: &Refusal) -> Option<Cause> {
     cause("the file is empty", "fetch it again; look whether the disk was full when it was written")
 }
 
+/// A block of the edition that is not taken: what it is as one of its own.
+fn other_edition(block: &[u8], refusal: &Refusal) -> Option<Cause> {
+    if refusal.number != 3 {
+        return None;
+    }
+    match (edition(block), summary(block)) {
+        (1, Ok(_)) => cause("it is in edition 1 already, and good", "use it as it is: there is nothing to convert"),
+        (EVERYDAY, Ok(_)) => cause("edition 2 has halt, sustain, await and abort; as such a block it is good", "foldheron convert writes it in edition 1: take what that writes"),
+        (number @ (1 | EVERYDAY), Err(why)) => {
+            let what = format!("it is a block of edition {}, and refused as such with {}, at offset {}", number, title(why.number), why.place);
+            cause(what, "foldheron check says what is wrong there")
+        }
+        _ => None,
+    }
+}
+
+/// One of the four of edition 2 in a block whose header says edition 1.
+fn unsaid_edition(block: &[u8], refusal: &Refusal) -> Option<Cause> {
+    if refusal.number != 2 || refusal.place == 0 || edition(block) != 1 || Kind::at(block, refusal.place).is_some() {
+        return None;
+    }
+    let kind = Kind::of(two(block, refusal.place + 2)?, EVERYDAY)?;
+    let mut other = block.to_vec();
+    other[HEAD] = EVERYDAY as u8;
+    let good = if is_good(&other) { "; with edition 2 there the block is good" } else { "" };
+    cause(format!("this is {} of edition 2, and the header says edition 1{}", kind.name, good), "ask the maker for the edition that the header should say")
+}
+
+fn too_large(block: &[u8], refusal: &Refusal) -> Option<Cause> {
+    if !is_conversions(block, refusal) {
+        return None;
+    }
+    cause("each of halt, sustain, await and abort is written as several statements", "ask the maker for fewer of them, for aborts less deep inside each other, or for two blocks")
+}
+
 fn is_text(block: &[u8]) -> bool {
     let text = std::str::from_utf8(block).or_else(|why| std::str::from_utf8(&block[..why.valid_up_to()]));
     let whole = text.map_or(0, str::len) + 3 >= block.len();
@@ -61,7 +99,7 @@ fn text(block: &[u8], _: &Refusal) -> Option<Cause> {
         return None;
     }
     if let Some(bytes) = from_hex(block) {
-        let good = if check(&bytes).is_ok() { "; read as such they are a good block" } else { "" };
+        let good = if is_good(&bytes) { "; read as such they are a good block" } else { "" };
         return cause(format!("these are bytes written as text in base 16{}", good), "turn them into bytes, as: xxd -r -p FILE > block.bin");
     }
     let words = String::from_utf8_lossy(block);
@@ -114,7 +152,7 @@ fn turned(block: &[u8], _: &Refusal) -> Option<Cause> {
     if two(&turned, 0) != Some(HEADER as u16) || two(&turned, 2) != Some(1) {
         return None;
     }
-    let good = if check(&turned).is_ok() { "; with each pair of bytes turned round the block is good" } else { "" };
+    let good = if is_good(&turned) { "; with each pair of bytes turned round the block is good" } else { "" };
     cause(format!("the numbers are written high byte first{}", good), "ask the maker to write them low byte first (little-endian)")
 }
 
@@ -125,7 +163,7 @@ fn line_ends(block: &[u8], _: &Refusal) -> Option<Cause> {
             mended.push(*byte);
         }
     }
-    if mended.len() == block.len() || check(&mended).is_err() {
+    if mended.len() == block.len() || !is_good(&mended) {
         return None;
     }
     cause("the transfer took the file for text and changed line ends; undone, the block is good", "fetch it again as bytes (binary mode)")
@@ -133,7 +171,7 @@ fn line_ends(block: &[u8], _: &Refusal) -> Option<Cause> {
 
 fn goes_on(block: &[u8], refusal: &Refusal) -> Option<Cause> {
     let rest = block.get(refusal.place..)?;
-    if refusal.number != 7 || rest.is_empty() || check(&block[..refusal.place]).is_err() {
+    if refusal.number != 7 || rest.is_empty() || !is_good(&block[..refusal.place]) {
         return None;
     }
     let added = if rest.iter().all(|byte| matches!(byte, b'\n' | b'\r')) {

@@ -75,9 +75,27 @@ pub static KINDS: [Kind; 11] = [
     kind(26, "local", Operand::Signal, &[""]),
 ];
 
+/// The edition that has four kinds more, and that is converted before it runs.
+pub const EVERYDAY: u16 = 2;
+
+/// Those four.
+static EVERYDAY_KINDS: [Kind; 4] = [
+    kind(32, "halt", Operand::None, &[]),
+    kind(33, "sustain", Operand::Signal, &[]),
+    kind(34, "await", Operand::Signal, &[]),
+    kind(35, "abort", Operand::Signal, &[""]),
+];
+
 impl Kind {
-    pub fn of(number: u16) -> Option<&'static Kind> {
-        KINDS.iter().find(|kind| kind.number == number)
+    /// The kind of a number in an edition.
+    pub fn of(number: u16, edition: u16) -> Option<&'static Kind> {
+        let more = EVERYDAY_KINDS.iter().filter(|_| edition == EVERYDAY);
+        KINDS.iter().chain(more).find(|kind| kind.number == number)
+    }
+
+    /// The kind of the record at an offset, in the edition of the block's header.
+    pub fn at(block: &[u8], at: usize) -> Option<&'static Kind> {
+        Kind::of(two(block, at + 2)?, edition(block))
     }
 
     /// How many bytes its record has.
@@ -87,6 +105,11 @@ impl Kind {
             _ => HEAD + 2,
         }
     }
+}
+
+/// The edition that a block's header says; 1 where there is no header.
+pub fn edition(block: &[u8]) -> u16 {
+    Header::of(block).map_or(1, |header| header.edition)
 }
 
 #[derive(Clone, Copy, PartialEq, Eq, Debug)]
@@ -283,8 +306,9 @@ mod tests {
 
     #[test]
     fn kinds_and_lengths() {
-        let lengths: Vec<usize> = (16..27).filter_map(Kind::of).map(Kind::length).collect();
-        assert_eq!(lengths, [4, 4, 6, 6, 6, 4, 4, 4, 4, 6, 6]);
-        assert!(Kind::of(15).is_none() && Kind::of(27).is_none());
+        let lengths = |edition| (0..99).filter_map(|number| Kind::of(number, edition)).map(Kind::length).collect::<Vec<_>>();
+        assert_eq!(lengths(1), [4, 4, 6, 6, 6, 4, 4, 4, 4, 6, 6]);
+        assert_eq!(lengths(2)[11..], [4, 6, 6, 6]);
+        assert!([15, 27, 31, 36].iter().all(|number| Kind::of(*number, 2).is_none()) && Kind::of(32, 1).is_none());
     }
 }

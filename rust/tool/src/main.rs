@@ -2,10 +2,13 @@
 
 mod args;
 mod block;
+mod carried;
 mod cause;
 mod commands;
 mod draw;
+mod everyday;
 mod files;
+mod grown;
 mod hash;
 mod json;
 mod labels;

@@ -1,6 +1,7 @@
 //! A refusal in words: what its number means in general, what is wrong at its place, the record that stands there, and what to do.
 
-use crate::layout::{two, Kind, BLOCK_MOST, HEAD, LOCALS, PATH, PAUSES, RECORD, SIGNALS, STATE, STATEMENTS, TRAPS};
+use crate::grown::Grown;
+use crate::layout::{edition, two, Header, Kind, BLOCK_MOST, EVERYDAY, HEAD, LOCALS, PATH, PAUSES, RECORD, SIGNALS, STATE, STATEMENTS, TRAPS};
 use crate::walk::{counted, grouped, in_words, left, walk, Walk};
 use foldheron::{name_of, Refusal};
 
@@ -56,7 +57,13 @@ pub fn wrong(block: &[u8], refusal: &Refusal) -> String {
     match refusal.number {
         1 => broken(block, at),
         2 => kind(block, at),
-        3 => format!("the header's edition is {}, and only edition 1 is read", two(block, HEAD).unwrap_or(0)),
+        3 => match edition(block) {
+            // The converter alone refuses edition 1 so.
+            1 => "the header's edition is 1, and only edition 2 is converted".to_string(),
+            EVERYDAY => "the header's edition is 2, and only edition 1 is taken here".to_string(),
+            other => format!("the header's edition is {}, and there are editions 1 and 2 alone", other),
+        },
+        4 if is_conversions(block, refusal) => format!("converted, it would have {}", Grown::converted(block).passed().join("; ")),
         4 => limit(block, &walk, at),
         5 => signal(block, &walk, at),
         6 => exit(block, &walk, at),
@@ -64,6 +71,12 @@ pub fn wrong(block: &[u8], refusal: &Refusal) -> String {
         8 => "the loop's body may end in the very instant in which it began, so the loop could go round without end".to_string(),
         _ => meaning(refusal.number),
     }
+}
+
+/// Whether it is the conversion that passes a limit, and the block itself passes none.
+pub fn is_conversions(block: &[u8], refusal: &Refusal) -> bool {
+    let signals = Header::of(block).map_or(0, |header| header.signals());
+    *refusal == Refusal { number: 4, place: 0 } && edition(block) == EVERYDAY && block.len() <= BLOCK_MOST && signals <= SIGNALS
 }
 
 /// The bytes that stand at the place, and what they say.
@@ -96,9 +109,9 @@ fn kind(block: &[u8], at: usize) -> String {
     if at == 0 {
         return format!("a block begins with its header, length 14 and kind 1; this has length {} and kind {}", length, number);
     }
-    match Kind::of(number) {
+    match Kind::at(block, at) {
         Some(kind) => format!("the length of {} is {}, not {}", kind.name, kind.length(), length),
-        None => format!("{} is no statement's kind in edition 1", number),
+        None => format!("{} is no statement's kind in edition {}", number, edition(block)),
     }
 }
 
@@ -111,7 +124,7 @@ fn limit(block: &[u8], walk: &Walk, at: usize) -> String {
         return format!("{} declared, and {} are the most", are(signals, "signal"), SIGNALS);
     }
     let around = &walk.around;
-    let kind = two(block, at + 2).and_then(Kind::of).map_or("", |kind| kind.name);
+    let kind = Kind::at(block, at).map_or("", |kind| kind.name);
     let inside = |count: usize, noun: &str, most: usize| format!("{} inside each other, and {} are the most", counted(count as u64, noun), most);
     if walk.statements.len() >= STATEMENTS {
         format!("this is the {}th statement, and {} are the most", walk.statements.len() + 1, STATEMENTS)
@@ -136,14 +149,14 @@ fn signal(block: &[u8], walk: &Walk, at: usize) -> String {
         Some(header) => header,
         None => return meaning(0),
     };
-    let kind = two(block, at + 2).and_then(Kind::of).map_or("", |kind| kind.name);
+    let kind = Kind::at(block, at).map_or("", |kind| kind.name);
     let next = usize::from(header.inputs) + usize::from(header.outputs) + walk.around.locals;
     if usize::from(signal) >= header.signals() {
         format!("signal {} is not declared: the header has {}, and they are numbered from 0", signal, counted(header.signals() as u64, "signal"))
     } else if kind == "local" {
         format!("a local declares signal {}, and the next one is {}: locals are numbered as they stand in the file", signal, next)
-    } else if kind == "emit" && signal < header.inputs {
-        format!("signal {} is an input, and an input cannot be emitted", signal)
+    } else if matches!(kind, "emit" | "sustain") && signal < header.inputs {
+        format!("signal {} is an input, and an input cannot be {}", signal, if kind == "emit" { "emitted" } else { "sustained" })
     } else {
         format!("signal {} is a local, and this stands outside of its body", signal)
     }

@@ -63,7 +63,7 @@ pub fn walk(block: &[u8], until: usize) -> Walk {
 
 /// The statement's record at an offset, where one of its kind's length stands there.
 fn record(block: &[u8], at: usize) -> Option<(&'static Kind, Option<u16>)> {
-    let kind = Kind::of(two(block, at + 2)?)?;
+    let kind = Kind::at(block, at)?;
     if usize::from(two(block, at)?) != kind.length() {
         return None;
     }
@@ -98,7 +98,7 @@ pub fn in_words(block: &[u8], at: usize) -> String {
         _ => return format!("{} of a record's head, which has 4", left(block, at)),
     };
     let mut words = format!("length {}, kind {}", length, number);
-    match Kind::of(number) {
+    match Kind::at(block, at) {
         Some(kind) if at > 0 => {
             words.push_str(&format!(" ({})", kind.name));
             if let (true, Some(operand)) = (kind.operand != Operand::None, two(block, at + HEAD)) {

@@ -37,7 +37,7 @@ const LIBRARY: Option<&str> = option_env!("FOLDHERON_LIBRARY");
 pub fn version(out: &mut Out) -> Outcome<Status> {
     let most = grouped(BLOCK_MOST as u64);
     out.line(&format!("foldheron {}", foldheron::VERSION))?;
-    out.line(&format!("blocks of edition 1, up to {} bytes; states of {} bytes; log records of {} bytes", most, STATE, RECORD))?;
+    out.line(&format!("blocks of edition 1, and of edition 2 to convert, up to {} bytes; states of {} bytes; log records of {} bytes", most, STATE, RECORD))?;
     out.line(&library())?;
     Ok(Status::Good)
 }

@@ -7,6 +7,7 @@ use crate::trouble::{Outcome, Trouble};
 
 pub mod build;
 pub mod check;
+pub mod convert;
 pub mod copies;
 pub mod excerpt;
 pub mod fmt;
@@ -32,7 +33,7 @@ pub struct Command {
     pub run: fn(&Words, &mut Out) -> Outcome<Status>,
 }
 
-pub static COMMANDS: [&Command; 16] = [
+pub static COMMANDS: [&Command; 17] = [
     &check::COMMAND,
     &build::COMMAND,
     &fmt::COMMAND,
@@ -44,6 +45,7 @@ pub static COMMANDS: [&Command; 16] = [
     &excerpt::COMMAND,
     &same::COMMAND,
     &copies::COMMAND,
+    &convert::COMMAND,
     &state::COMMAND,
     &log::COMMAND,
     &names::COMMAND,

@@ -36,7 +36,7 @@ fn run(words: &Words, out: &mut Out) -> Outcome<Status> {
         return print(words, file, out);
     }
     let path = files::block_path(file);
-    let mut block = block::unnamed(path.clone(), files::block(&path)?)?;
+    let mut block = block::either_unnamed(path.clone(), files::block(&path)?)?;
     for (signal, name) in given.iter().enumerate().filter(|(_, name)| *name != "-") {
         block.labels.give(signal, &name.to_string_lossy()).map_err(|why| Trouble::call(format!("name {}: {}", signal + 1, why)))?;
     }
@@ -75,7 +75,9 @@ fn print(words: &Words, file: &OsStr, out: &mut Out) -> Outcome<Status> {
     if let Some(option) = ["--to", "--over"].iter().find(|option| words.has(option)) {
         return Err(Trouble::call(format!("{} wants names to write", option)));
     }
-    let block = block::load(words, file)?;
+    let path = files::block_path(file);
+    let bytes = files::block(&path)?;
+    let block = block::either(words, path, bytes)?;
     for signal in 0..block.labels.signals() {
         let sort = block.labels.sort(signal).map_or("", |sort| sort.word());
         out.line(&format!("{:6} {:3}  {}", sort, signal, block.labels.signal(signal)))?;

@@ -1,6 +1,6 @@
 //! foldheron shelf: blocks of two parties in one file. Who changes it holds its lock, and puts the new shelf in its place in one step.
 
-use super::check::refused;
+use super::check::tell_refused;
 use super::Command;
 use crate::args::{flag, nearest, with, Words};
 use crate::block::{self, Report};
@@ -204,17 +204,9 @@ fn install(path: &Path, words: &Words, out: &mut Out) -> Outcome<Status> {
     match foldheron::install(&mut shelf.bytes, asked.party, asked.name, &block) {
         Ok(()) => replace(path, &shelf.bytes)?,
         Err(why) if why.number > 8 => return turned_down(&shelf, asked, why, &block, words, out),
-        Err(why) => return refused_block(&Report::of(&from, &block, why), words, out),
+        Err(why) => return tell_refused(&Report::of(&from, &block, why), words, out),
     }
     told(&shelf, asked, "installed", &block, words, out)
-}
-
-fn refused_block(report: &Report, words: &Words, out: &mut Out) -> Outcome<Status> {
-    if !words.has("--json") {
-        return Err(Trouble { status: Status::BlockRefused, lines: report.lines() });
-    }
-    out.line(&refused(report).done())?;
-    Ok(Status::BlockRefused)
 }
 
 /// The party, the name and the block in an object.

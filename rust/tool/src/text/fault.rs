@@ -129,8 +129,21 @@ fn why(text: &[u8], before: &[u8], token: &Token, may: &May) -> Option<String> {
         Sort::Keyword if last == "end" && may.is_after() => Some("no word follows 'end': it closes the last statement that is open".to_string()),
         Sort::Name if may.is_new_name => again(text, before, token),
         Sort::Name if wants_name || matches!(last.as_str(), "emit" | "present" | "when" | "exit") => undeclared(text, before, token, may, &last),
+        Sort::Name if may.keywords.contains(&"pause") => everyday(&token.shown()),
         _ => None,
     }
+}
+
+/// What one of the four statements of edition 2, which has no text, is in a text.
+fn everyday(word: &str) -> Option<String> {
+    let form = match word {
+        "halt" => "loop pause end",
+        "sustain" => "loop emit S; pause end",
+        "await" => "trap T in loop pause; present S then exit T else nothing end end end",
+        "abort" => "trap T in suspend P when S; exit T || loop pause; present S then exit T else nothing end end end",
+        _ => return None,
+    };
+    Some(format!("'{}' is of edition 2, which has no text; written out it is: {}", word, form))
 }
 
 impl May {

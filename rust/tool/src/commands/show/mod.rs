@@ -5,12 +5,14 @@ pub mod picture;
 
 use super::Command;
 use crate::args::{flag, with, Words};
-use crate::block::{self, counts, Block};
+use crate::block::{self, Block};
+use crate::everyday;
 use crate::files;
 use crate::labels::Labels;
 use crate::layout::State;
 use crate::names;
 use crate::output::Out;
+use crate::refusal::is_conversions;
 use crate::run::keep;
 use crate::saved::in_words;
 use crate::status::Status;
@@ -18,7 +20,7 @@ use crate::text::{self, written::with_labels};
 use crate::tree;
 use crate::trouble::{Outcome, Trouble};
 use crate::walk::{walk, Statement};
-use foldheron::{check, Refusal};
+use foldheron::Refusal;
 use std::ops::Range;
 use std::path::Path;
 
@@ -36,7 +38,8 @@ pub static COMMAND: Command = Command {
     ],
     more: "A line a statement: its number, its offset in the file, its line in the text where the block was built from one, and the\n\
            statement with its signal; of a pause its number, of an exit its depth and the number of the trap that it ends. Of a\n\
-           refused block it prints what was read before the place of the refusal.\n",
+           refused block it prints what was read before the place of the refusal. A block of edition 2 is shown as it stands, with its\n\
+           halt, sustain, await and abort; it has no text and no state.\n",
     run,
 };
 
@@ -80,10 +83,12 @@ fn run(words: &Words, out: &mut Out) -> Outcome<Status> {
     words.at_most_one(&["--text", "--from"])?;
     let path = files::block_path(word);
     let bytes = files::block(&path)?;
-    if let (None, Err(why)) = (form, check(&bytes)) {
+    // Of edition 2 the library has no text, and no state is one of it.
+    let take = if form == Some("--text") || from.is_some() { block::checked } else { block::either };
+    if let (None, Err(why)) = (form, everyday::summary(&bytes)) {
         part_read(&bytes, &why, out)?;
     }
-    let block = block::checked(words, path, bytes)?;
+    let block = take(words, path, bytes)?;
     let state = match from.map(|path| keep::begins(Some(path), &block).map(|state| (path, state))).transpose()? {
         Some((path, Err(down))) => return keep::not_taken(path, &down, false, out),
         Some((_, Ok(state))) => State::of(&state),
@@ -121,7 +126,8 @@ pub fn told(shown: &Shown, out: &mut Out) -> Outcome<()> {
 
 /// What was read of a refused block before the place.
 fn part_read(bytes: &[u8], why: &Refusal, out: &mut Out) -> Outcome<()> {
-    let walk = walk(bytes, why.place);
+    let until = if is_conversions(bytes, why) { bytes.len() } else { why.place };
+    let walk = walk(bytes, until);
     let header = match walk.header {
         Some(header) if !walk.statements.is_empty() && header.signals() <= 64 => header,
         _ => return Ok(()),
@@ -135,7 +141,7 @@ fn part_read(bytes: &[u8], why: &Refusal, out: &mut Out) -> Outcome<()> {
         pauses: 0,
     };
     let labels = Labels::numbered(&summary);
-    out.line(&format!("{}   (a refused block, up to offset {})", tree::head(&labels), why.place))?;
+    out.line(&format!("{}   (a refused block, up to offset {})", tree::head(&labels), until))?;
     for row in tree::rows(&walk.statements, &labels, |_| None) {
         out.line(&row)?;
     }
@@ -145,7 +151,7 @@ fn part_read(bytes: &[u8], why: &Refusal, out: &mut Out) -> Outcome<()> {
 /// The lines above the tree: version, counts, and the signals.
 fn about(block: &Block, out: &mut Out) -> Outcome<()> {
     let labels = &block.labels;
-    out.line(&format!("{}: {}", files::shown(&block.path), counts(&block.summary, block.bytes.len())))?;
+    out.line(&format!("{}: {}", files::shown(&block.path), block.counts()))?;
     let locals = labels.outputs().end..labels.signals();
     for (title, range) in [("inputs", labels.inputs()), ("outputs", labels.outputs()), ("locals", locals)] {
         if !range.is_empty() {

@@ -1,7 +1,6 @@
 //! The tree of a block as a chart: a sequence one below the other, a parallel side by side, the others round what they hold; what is active in a state is marked.
 
 use super::Shown;
-use crate::block::counts;
 use crate::draw::chart::{Frame, Stands, Told};
 use crate::draw::text::Words;
 use crate::draw::{at, style, Area, Picture};
@@ -13,7 +12,7 @@ const KEY: &str = "One below the other: in sequence. With a double line between:
 
 /// A file of its own.
 pub fn file(shown: &Shown) -> String {
-    let mut heads = vec![Words::bold(heading(shown), 15.0), Words::new(counts(&shown.block.summary, shown.block.bytes.len()), 12.0)];
+    let mut heads = vec![Words::bold(heading(shown), 15.0), Words::new(shown.block.counts(), 12.0)];
     heads.extend(state(shown).map(|said| Words::new(said, 12.0)));
     drawn(shown, &heads).file(&heading(shown), &about(shown))
 }
