@@ -3,8 +3,9 @@
 use crate::clock::spent;
 use crate::shapes;
 
-/// The least of so many tries.
+/// The least of so many tries, or of one that took over a second.
 const TRIES: usize = 5;
+const LONG: f64 = 1e9;
 
 /// More than any block has.
 const ROOM: usize = 4096;
@@ -52,6 +53,9 @@ fn timed(call: &mut dyn FnMut() -> Result<usize, u32>) -> (f64, String) {
             Ok(bytes) => format!("{} bytes", bytes),
             Err(number) => format!("refused with {}", number),
         };
+        if least > LONG {
+            break;
+        }
     }
     (least, gets)
 }

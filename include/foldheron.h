@@ -11,13 +11,13 @@
  * nothing checks a caller in C:
  *
  *   - each pointer is to as many bytes as the length beside it says, and is not NULL, not even beside a length of 0;
- *   - the bytes that a call may write (state, log, run, output, text, answer) overlap neither each other nor anything else that is lent;
- *   - no other thread writes the block, or touches the state, the log, the run, the output or the answer, during the call.
+ *   - the bytes that a call may write (state, log, run, output, answer; the text of foldheron_write_text, the block of foldheron_read_text)
+ *     overlap neither each other nor anything else that is lent;
+ *   - no other thread touches these, or writes what the call reads (block, text), during the call.
  *
  * The library keeps nothing between calls and allocates nothing. Calls on different states and answers may run at the same time. Of the
- * C library it needs memcpy and memset, and nothing else. A call takes less stack than FOLDHERON_STACK_MOST below, foldheron_alike less than
- * FOLDHERON_ALIKE_STACK_MOST and foldheron_read_text less than FOLDHERON_READ_TEXT_STACK_MOST: that is measured, by examples/embed/stack.c on
- * blocks as deep as they may be, and not proved.
+ * C library it needs memcpy and memset, and nothing else. A call takes less stack than FOLDHERON_STACK_MOST below, and foldheron_alike less than
+ * FOLDHERON_ALIKE_STACK_MOST: that is measured, by examples/embed/stack.c on blocks as deep as they may be, and not proved.
  *
  * Each call gives back the number of its refusal, 0 where it was not turned down, and writes its whole answer into lent bytes whose
  * count is fixed for the call: with any other count it gives back FOLDHERON_ANSWER and changes no byte of anything. An answer is a row of
@@ -84,11 +84,12 @@ extern "C" {
 #define FOLDHERON_STATE_SIZE 26
 #define FOLDHERON_RECORD_SIZE 32
 
-/* A call takes less stack than this, from its caller's frame down; 46,264 bytes were the most that was seen. */
-#define FOLDHERON_STACK_MOST 49152
+/* A call takes less stack than this, from its caller's frame down; 106,360 bytes were the most that was seen,
+ * where a block has 64 statements on a path. */
+#define FOLDHERON_STACK_MOST 114688
 
-/* foldheron_alike takes less than this: it keeps the pairs of states that it has found there. 84,728 bytes were the most that was seen. */
-#define FOLDHERON_ALIKE_STACK_MOST 98304
+/* foldheron_alike takes less than this: it keeps the pairs of states that it has found there. 144,824 bytes were the most that was seen. */
+#define FOLDHERON_ALIKE_STACK_MOST 163840
 
 /* foldheron_read_text takes less than this: it keeps the names that are declared and the places that are open there. 58,012 bytes were the most that was seen. */
 #define FOLDHERON_READ_TEXT_STACK_MOST 65536
@@ -254,11 +255,12 @@ uint16_t foldheron_convert(const uint8_t *block, size_t block_size, uint8_t *out
 uint16_t foldheron_write_text(const uint8_t *block, size_t block_size, uint8_t *text, size_t text_size, uint8_t *answer, size_t answer_size);
 
 /* Reads a text of that grammar, in any layout, with any names and of any length, and writes the block that it stands for to the front of the lent block; the bytes behind it stay, and
- * refused, all of them do. What is written passes foldheron_check. Read so, what foldheron_write_text wrote of a block gives the same bytes back. FOLDHERON_BLOCK_MOST bytes are
+ * refused, all of them do. What is written passes foldheron_check. The bytes that foldheron_write_text wrote of a block, as many as it says, give the same block back. FOLDHERON_BLOCK_MOST bytes are
  * enough for any. The answer, 24 bytes: number, place, and how many bytes were written (AT_WRITTEN), 0 where it was refused. Refusals: 15 for a text outside the grammar, or with a name
  * that is not declared there or declared again; its place is the first byte of the token at fault, or the text's length where it ends too early. Then, of the block that the text stands
- * for, 4 with place 0 for over 64 signals; 1 to 8, with the offset in that block as the place; then 12. A text with over 1,024 places open at once gets 4 with place 0 there and then.
- * The time grows with the text's length, and with the square of how many names it declares as inputs and outputs: who reads texts of others sees to their length. */
+ * for, 4 with place 0 for over 64 signals; 1 to 8, with the offset in that block as the place; then 12. A text with over 1,024 places open at once besides the outermost gets 4 with place 0 there and then.
+ * The time is at most some steps for each name of the text times the bytes of its header, spaces among them, and so with the square of the text's length at worst: who reads
+ * texts of others sees to their length. */
 #define FOLDHERON_READ_TEXT_SIZE 24
 uint16_t foldheron_read_text(const uint8_t *text, size_t text_size, uint8_t *block, size_t block_size, uint8_t *answer, size_t answer_size);
 

@@ -1,8 +1,7 @@
 /* How much stack the calls take. Each is run on a stack of its own that was painted before, on blocks as deep as a block may be: 64
  * statements on a path, with up to 6 locals, 16 traps and any loops on it, from fresh and from the states that follow; the maze on such blocks of its form,
  * and what converts edition 2 on such paths of that edition, of aborts too.
- * Prints how many calls took more than FOLDHERON_STACK_MOST, of two blocks compared FOLDHERON_ALIKE_STACK_MOST and of a text read FOLDHERON_READ_TEXT_STACK_MOST; with a
- * word, also the most that each call took. Ends with 0 where none took more. */
+ * Prints how many calls took more than FOLDHERON_STACK_MOST, and of two blocks compared FOLDHERON_ALIKE_STACK_MOST; with a word, also the most that each call took. Ends with 0 where none took more. */
 #define _XOPEN_SOURCE 600
 #include "foldheron.h"
 
@@ -10,7 +9,7 @@
 #include <string.h>
 #include <ucontext.h>
 
-enum { DEEPEST = 64, ROOM = 1 << 17, PAINT = 0xA5, SPINES = 1500 };
+enum { DEEPEST = 64, ROOM = 1 << 18, PAINT = 0xA5, SPINES = 1500 };
 enum { PRESENT = 19, SUSPEND, SEQUENCE, LOOP, PARALLEL, TRAP, EXIT, LOCAL, ABORT = 35 };
 
 enum { CHECK, FRESH, INSTANT, LOGGED, HEARD, HEARD_LOGGED, EXCERPT, REASON, INSTALL, FETCH, WITHDRAW, ALIKE, DOUBLE_LOOPS, CONVERT, WRITE_TEXT, READ_TEXT, MAZE, CORRIDOR, CALLS };

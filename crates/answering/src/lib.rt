@@ -53,7 +53,7 @@ fn line(case: Case, block: &[u8], state: &mut [u8], log: &mut [u8]) {
             case.other,
         ),
         12 => blocks::maze(block, case.inputs),
-        14..=16 => blocks::written(kind, block, b"", case.other as usize),
+        14..=17 => blocks::written(kind, block, b"", case.other as usize),
         _ => no_call(),
     }
 }

@@ -1,4 +1,4 @@
-// The answers of the calls that take blocks alone, with no state: the maze, two blocks compared, loop bodies doubled, and blocks as text.
+// The answers of the calls that take blocks alone, with no state: the maze, two blocks compared, loop bodies doubled, edition 2 converted, and blocks as text.
 use crate::refused;
 use foldheron::Likeness;
 use foldheron::Maze;
@@ -53,6 +53,10 @@ pub fn alike(first: &[u8], second: &[u8], run: &mut [u8]) -> [u64; 11] {
 // The same, and SIZE.
 pub fn copies(block: &[u8], out: &mut [u8]) -> [u64; 11] {
     wrote(foldheron::double_loops(block, out))
+}
+
+pub fn convert(block: &[u8], out: &mut [u8]) -> [u64; 11] {
+    wrote(foldheron::convert(block, out))
 }
 
 pub fn read_text(text: &[u8], block: &mut [u8]) -> [u64; 11] {

@@ -29,7 +29,8 @@ fn written_into(kind: u64, block: &[u8], beside: &[u8], out: &mut [u8]) {
         13 => alike(block, beside, out),
         14 => copies(block, out),
         15 => read_text(block, out),
-        _ => write_text(block, out),
+        16 => write_text(block, out),
+        _ => convert(block, out),
     }
 }
 
@@ -43,6 +44,13 @@ fn alike(first: &[u8], second: &[u8], run: &mut [u8]) {
 fn copies(block: &[u8], out: &mut [u8]) {
     let numbers = answers::blocks::copies(block, out);
     put(b"copies");
+    put_numbers(&numbers, 3);
+    put_until(out, LENT);
+}
+
+fn convert(block: &[u8], out: &mut [u8]) {
+    let numbers = answers::blocks::convert(block, out);
+    put(b"convert");
     put_numbers(&numbers, 3);
     put_until(out, LENT);
 }

@@ -28,6 +28,7 @@ use Rattle.alike.specs.Calls as alike
 use Rattle.writing.specs.declared.Wrote.{Wrote}
 use Rattle.writing.specs.Answers.{roomed, wrote-values, wrote-owed, out-owed}
 use Rattle.doubled.specs.Copies.{doubling}
+use Rattle.converting.specs.Conversions.{converting}
 use Rattle.text.specs.Reader.{text-read}
 use Rattle.write_text.specs.WriteText.{text-writing}
 use Rattle.maze.specs.declared.Maze.{Maze}
@@ -39,7 +40,7 @@ use Rattle.reaction.specs.Answers.{instant-told}
 use Rattle.refusals.specs.Refusals.{number}
 use Rattle.foldheron.specs.Answers.{check-values, check-owed, begun-values, begun-owed, state-owed, part-owed, part-lies}
 use Rattle.promises.specs.Calls.{_holds_, CheckCalled, FreshCalled, CalledFor, LoggedFor, with-set, with-two, PartCalled, ExcerptCalled, ReasonCalled}
-use Rattle.promises.specs.Calls.{InstallCalled, FetchCalled, WithdrawCalled, NumberCalled, AlikeCalled, DoubleCalled, WriteTextCalled, ReadTextCalled, MazeCalled, CorridorCalled}
+use Rattle.promises.specs.Calls.{InstallCalled, FetchCalled, WithdrawCalled, NumberCalled, AlikeCalled, DoubleCalled, ConvertCalled, WriteTextCalled, ReadTextCalled, MazeCalled, CorridorCalled}
 
 module _ (b : List ℕ) where
   pub check-says : {r : Checked} → CheckCalled b r → check-values r ≡ check-owed (reading b)
@@ -120,6 +121,10 @@ alike-says c = c .call .learnt
 pub double-says : {b out out′ : List ℕ} {r : Wrote} → DoubleCalled b out r out′
     → (wrote-values r ≡ wrote-owed (roomed (doubling b) (length out))) × (out′ ≡ out-owed (roomed (doubling b) (length out)) out)
 double-says c = c .call .learnt
+
+pub convert-says : {b out out′ : List ℕ} {r : Wrote} → ConvertCalled b out r out′
+    → (wrote-values r ≡ wrote-owed (roomed (converting b) (length out))) × (out′ ≡ out-owed (roomed (converting b) (length out)) out)
+convert-says c = c .call .learnt
 
 pub write-text-says : {b out out′ : List ℕ} {r : Wrote} → WriteTextCalled b out r out′
     → (wrote-values r ≡ wrote-owed (roomed (text-writing b) (length out))) × (out′ ≡ out-owed (roomed (text-writing b) (length out)) out)

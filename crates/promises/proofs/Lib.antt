@@ -22,6 +22,9 @@ pub mod LikeRuns
 pub mod Likeness
 pub mod Written
 pub mod Doubling
+pub mod ConversionNumbers
+pub mod Editions
+pub mod Conversion
 pub mod Texts
 pub mod ReadTexts
 pub mod MazeInstants

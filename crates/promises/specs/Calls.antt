@@ -40,6 +40,7 @@ use Rattle.shelf.proofs.fetch.Reads as fetch
 use Rattle.shelf.proofs.withdraw.Reads as withdraw
 use Rattle.alike.proofs.alike.Reads as alike
 use Rattle.copies.proofs.double_loops.Reads as double_loops
+use Rattle.convert.proofs.convert.Reads as convert
 use Rattle.write_text.proofs.write_text.Reads as write_text
 use Rattle.read_text.proofs.read_text.Reads as read_text
 use Rattle.maze.proofs.view.maze.Reads as maze
@@ -136,6 +137,10 @@ pub record AlikeCalled (first second run : List ℕ) (r : Likeness) (run′ : Li
 -- `double_loops` of the block b into the lent bytes out answers r and leaves out′.
 pub record DoubleCalled (b out : List ℕ) (r : Wrote) (out′ : List ℕ) : Type 0 where
   pub call : Call 2 λ κs at. double_loops.Learnt κs (at 0 holds b, (at 1 holds out, tt)) r (at 0 holds b, (at 1 holds out′, tt))
+
+-- `convert` of the block b into the lent bytes out answers r and leaves out′.
+pub record ConvertCalled (b out : List ℕ) (r : Wrote) (out′ : List ℕ) : Type 0 where
+  pub call : Call 2 λ κs at. convert.Learnt κs (at 0 holds b, (at 1 holds out, tt)) r (at 0 holds b, (at 1 holds out′, tt))
 
 -- `write_text` of the block b into the lent bytes out answers r and leaves out′.
 pub record WriteTextCalled (b out : List ℕ) (r : Wrote) (out′ : List ℕ) : Type 0 where

@@ -9,5 +9,6 @@ pub mod Shelves
 pub mod Beside
 pub mod Likeness
 pub mod Doubling
+pub mod Conversion
 pub mod Texts
 pub mod Mazes

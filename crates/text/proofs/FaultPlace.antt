@@ -234,7 +234,7 @@ unfolding All-writ
 both-writ [] ks v w = w
 both-writ (t ∷ ts) ks v w = (v .0, both-writ ts ks (v .1) w)
 
-tokens-append : (ps qs : List Placed) → tokens-of (ps ++ qs) ≡ tokens-of ps ++ tokens-of qs
+pub tokens-append : (ps qs : List Placed) → tokens-of (ps ++ qs) ≡ tokens-of ps ++ tokens-of qs
 unfolding tokens-of
 tokens-append [] qs = refl
 tokens-append (p ∷ ps) qs = ap (λ (l : List Token). p .token ∷ l) (tokens-append ps qs)

@@ -21,3 +21,5 @@ pub mod WordTokens
 pub mod Fronts
 pub mod SameWords
 pub mod Views
+pub mod EveryText
+pub mod OneFault

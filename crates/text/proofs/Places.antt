@@ -175,7 +175,7 @@ text-gets text t b e m =
     ⊎-elim (λ s. ap owed s) (λ s. ap owed (s .0) ∙ sym (too-long b (s .1))) i
 
 -- What stands for a block was read to its end.
-stands-read : (ps : List Placed) (r : Reader) (end : ℕ) (b : Blocked) → read-placed r ps end ≡ stands b → (q : Reader) × (read-all r (tokens-of ps) ≡ some q) × (finish q ≡ some b)
+pub stands-read : (ps : List Placed) (r : Reader) (end : ℕ) (b : Blocked) → read-placed r ps end ≡ stands b → (q : Reader) × (read-all r (tokens-of ps) ≡ some q) × (finish q ≡ some b)
 unfolding read-placed read-all tokens-of
 stands-read [] r end b e = (r, refl, at-the-end (finish r) e)
   where
@@ -225,3 +225,82 @@ outside-none text at e t b s m =
 
     not-over : outside at ≡ over → ⊥
     not-over e = let z : _≡_ {A = ℕ} 0 1 = cc in omega arith
+
+-- Too many places open: some tokens at the front were read, and by then the block is too long.
+record Deep (r : Reader) (ts : List Token) : Type 0 where
+  before : List Token
+  behind : List Token
+  parted : ts ≡ before ++ behind
+  reader : Reader
+  was-read : read-all r before ≡ some reader
+  its-fine : Fine reader
+  too-large : 4096 < size reader
+
+over-read : (ps : List Placed) (r : Reader) (end : ℕ) → Fine r → read-placed r ps end ≡ over → Deep r (tokens-of ps)
+unfolding read-placed read-all tokens-of
+over-read [] r end f e = absurd (at-the-end (finish r) e)
+  where
+    at-the-end : (o : Option Blocked) → at-end end o ≡ over → ⊥
+    at-the-end none e = let z : _≡_ {A = ℕ} 0 1 = cc in omega arith
+    at-the-end (some c) e = let z : _≡_ {A = ℕ} 0 1 = cc in omega arith
+over-read (p ∷ ps) r end f e = go (read-step r (p .token)) refl (λ q g. over-read ps q end g) e
+  where
+    go : (o : Option Reader) → read-step r (p .token) ≡ o → ((q : Reader) → Fine q → read-placed q ps end ≡ over → Deep q (tokens-of ps))
+        → unless-refused (p .place) o (λ q. cond (too-deep q) over (read-placed q ps end)) ≡ over → Deep r (p .token ∷ tokens-of ps)
+    go none s ih e = let z : _≡_ {A = ℕ} 0 1 = cc in absurd (omega arith)
+    go (some q) s ih e = next (too-deep q) refl e
+      where
+        l : Later r q
+        l = step-later r (p .token) f s
+
+        next : (z : Bool) → too-deep q ≡ z → cond z over (read-placed q ps end) ≡ over → Deep r (p .token ∷ tokens-of ps)
+        next true d e = record {
+          before = p .token ∷ [];
+          behind = tokens-of ps;
+          parted = refl;
+          reader = q;
+          was-read = ap (λ (o : Option Reader). go-on o λ v. some v) s;
+          its-fine = l .fine;
+          too-large = deep-large q (l .fine) d;
+        }
+        next false d e =
+            let w = ih q (l .fine) e in
+            record {
+              before = p .token ∷ w .before;
+              behind = w .behind;
+              parted = ap (λ (ts : List Token). p .token ∷ ts) (w .parted);
+              reader = w .reader;
+              was-read = ap (λ (o : Option Reader). go-on o λ v. read-all v (w .before)) s ∙ w .was-read;
+              its-fine = w .its-fine;
+              too-large = w .too-large;
+            }
+
+-- Tokens read one part after the other.
+read-on : (ts us : List Token) (r q : Reader) → read-all r ts ≡ some q → read-all r (ts ++ us) ≡ read-all q us
+unfolding read-all
+read-on [] us r q e = ap (λ (v : Reader). read-all v us) (one-value e)
+read-on (t ∷ ts) us r q e =
+    let w = went-on (read-step r t) _ e in
+    ap (λ (o : Option Reader). go-on o λ v. read-all v (ts ++ us)) (w .1) ∙ read-on ts us (w .0) q (w .2)
+
+-- Where 4 is told there and then, the text begins so that every text with its names in order that begins so stands for over 4,096 bytes of records.
+pub record Too-many-open (ts : List Token) : Type 0 where
+  pub before : List Token
+  pub behind : List Token
+  pub parted : ts ≡ before ++ behind
+  pub over-its-limits : (t : Text) (b : Blocked) (more : List Token) → spelt t ≡ before ++ more → text-means t ≡ some b → 4096 < length (b .records)
+
+pub over-means : (text : List ℕ) → read-placed begun (tokens-placed text) (length text) ≡ over → Too-many-open (tokens text)
+over-means text e =
+    let d = over-read (tokens-placed text) begun (length text) tt e in
+    record {
+      before = d .before;
+      behind = d .behind;
+      parted = d .parted;
+      over-its-limits = λ t b more s m.
+          let r = reads-text [] t b m in
+          let all = sym (read-on (d .before) more begun (d .reader) (d .was-read)) ∙ ap (read-all begun) (sym s) ∙ r .1 in
+          let large = all-larger more (d .reader) (r .0) (d .its-fine) all in
+          let n = finished-size (r .0) b (r .2) in
+          omega (arith, d .too-large, large, n);
+    }

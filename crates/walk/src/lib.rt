@@ -181,7 +181,8 @@ fn walk_form(
     }
 }
 
-// Whether what is found of a task is worth an entry: two parts and more than eight statements, in a block of more than 63.
+// Whether what is found of a task is worth an entry: two parts and more than eight statements, in a block of more than 63. The kinds with two parts are odd; the other odd
+// ones have no parts, and so no eight statements. Below these sizes an entry takes longer than the walk; `react` lends no room for it either.
 fn is_kept(kinds: &[u16; 512], sizes: &[u16; 512], task: Task) -> bool
     requires { ⌜ task .at < 512 ⌝ }
 {
@@ -195,7 +196,7 @@ fn is_kept(kinds: &[u16; 512], sizes: &[u16; 512], task: Task) -> bool
     }
 }
 
-// Where what is found of a local's body with the signal unknown is kept.
+// Where what is found of a local's body with the signal unknown is kept. Nested locals have numbers near each other, so 16 places hold them apart.
 fn body_entry(s: u16, task: Task, mark: Mark) -> usize
     ensures { λ r. ⌜ r < 1024 ⌝ }
 {
@@ -213,7 +214,7 @@ fn body_entry(s: u16, task: Task, mark: Mark) -> usize
     }
 }
 
-// Where what is found of a task is kept: behind the locals' 64 entries.
+// Where what is found of a task is kept: behind the locals' 64 entries; resumed half the places further, so that a loop's body started again does not take its place.
 fn task_entry(task: Task) -> usize
     ensures { λ r. ⌜ r < 1024 ⌝ }
 {

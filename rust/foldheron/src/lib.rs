@@ -359,7 +359,7 @@ pub fn write_text<'a>(block: &[u8], text: &'a mut [u8]) -> Result<&'a [u8], Refu
 
 /// The block that a text stands for, written to the front of the lent bytes: the part that it fills is handed back, and no other byte of them changes. `BLOCK_MOST` bytes are
 /// enough for any. Names are not kept. A text outside the grammar, or with a name at fault, is refused with 15 at the first byte of the token at fault, or at its end; then the block
-/// with 1 to 8, the place being an offset in that block.
+/// with 1 to 8, the place being an offset in that block, and with 12 where too few bytes are lent. Over 1,024 places open at once besides the outermost are a 4 there and then.
 pub fn read_text<'a>(text: &[u8], block: &'a mut [u8]) -> Result<&'a [u8], Refusal> {
     let a = raw::read_text(text, block);
     refusal(&a)?;
