@@ -91,9 +91,6 @@ extern "C" {
 /* foldheron_alike takes less than this: it keeps the pairs of states that it has found there. 144,824 bytes were the most that was seen. */
 #define FOLDHERON_ALIKE_STACK_MOST 163840
 
-/* foldheron_read_text takes less than this: it keeps the names that are declared and the places that are open there. 58,012 bytes were the most that was seen. */
-#define FOLDHERON_READ_TEXT_STACK_MOST 65536
-
 /* Where every answer has its number and its place. */
 #define FOLDHERON_AT_NUMBER 0
 #define FOLDHERON_AT_PLACE 8

@@ -6,7 +6,7 @@ use crate::trouble::{Outcome, Trouble};
 use std::ffi::OsStr;
 use std::fs::File;
 use std::io::{self, ErrorKind, Read};
-use std::path::{Path, PathBuf};
+use std::path::{Component, Path, PathBuf};
 
 /// The block's file in a folder.
 const BLOCK: &str = "block.bin";
@@ -107,6 +107,15 @@ pub fn size(path: &Path) -> Option<u64> {
 /// Whether two paths name one file, be it there or not.
 pub fn same(a: &Path, b: &Path) -> bool {
     real(a) == real(b)
+}
+
+/// The way from a folder to a file, where that can stand on a line of text.
+pub fn way(folder: &Path, file: &Path) -> Option<String> {
+    let (from, to) = (real(folder), real(file));
+    let common = from.components().zip(to.components()).take_while(|(a, b)| a == b).count();
+    let up = from.components().skip(common).map(|_| Component::ParentDir);
+    let way: PathBuf = up.chain(to.components().skip(common)).collect();
+    way.to_str().filter(|way| printable(way) == *way && way.trim() == *way && !way.is_empty()).map(str::to_string)
 }
 
 /// A path without links and dots, as far as it is there.

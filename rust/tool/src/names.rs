@@ -4,18 +4,23 @@
 use crate::args::{flag, with, Opt, Words};
 use crate::files;
 use crate::hash::sha256;
-use crate::labels::{Labels, Sort, SORTS};
+use crate::labels::{Labels, Sort, Text, SORTS};
 use crate::output::warn;
 use crate::status::Status;
 use crate::trouble::{reason, Outcome, Trouble};
 use foldheron::Summary;
 use std::io::ErrorKind;
 use std::path::{Path, PathBuf};
+use std::sync::Once;
 
 /// The first line, with the edition of the file's form.
 pub const FIRST: &str = "foldheron names 1";
 /// What begins the line on a statement's place in the text.
 const LINE: &str = "line";
+/// What begins the line on the text, with its hash and its path from the folder of the names file.
+const TEXT: &str = "text ";
+/// What a names file that was made from a text has in its second line, before the text's name.
+pub const FROM: &str = "# from ";
 /// A names file is read up to here; 64 names and the lines of 512 statements take less.
 pub const MOST: usize = 1 << 14;
 
@@ -34,6 +39,9 @@ pub fn written(block: &[u8], summary: &Summary, labels: &Labels) -> String {
     let mut text = format!("{}\n", FIRST);
     for (key, value) in keys(block, summary) {
         text.push_str(&format!("{} {}\n", key, value));
+    }
+    if let Some(of) = &labels.text {
+        text.push_str(&format!("{}{} {}\n", TEXT, of.sha256, of.path));
     }
     for signal in 0..labels.signals() {
         if let (Some(sort), Some(name)) = (labels.sort(signal), labels.name(signal)) {
@@ -58,6 +66,10 @@ pub fn read(text: &str, block: &[u8], summary: &Summary) -> Result<Labels, Strin
     let mut labels = Labels::numbered(summary);
     let mut wanted = keys(block, summary).to_vec();
     for (n, line) in lines {
+        if let Some(rest) = line.strip_prefix(TEXT) {
+            text_of(&mut labels, rest).map_err(|why| format!("line {}: {}", n, why))?;
+            continue;
+        }
         let words: Vec<&str> = line.split_whitespace().collect();
         match words.as_slice() {
             [LINE, statement, line] => line_of(&mut labels, statement, line).map_err(|why| format!("line {}: {}", n, why))?,
@@ -83,6 +95,15 @@ fn settle(wanted: &mut Vec<(&'static str, String)>, key: &str, value: &str) -> R
         "statements" => format!("it is for another block: it has {} statements, and this block has {}", value, ours),
         _ => format!("it is for another block: its {} is {}, and this block's is {}", key, value, ours),
     })
+}
+
+fn text_of(labels: &mut Labels, rest: &str) -> Result<(), String> {
+    match rest.split_once(' ') {
+        Some((sha256, path)) if labels.text.is_none() => labels.text = Some(Text { sha256: sha256.to_string(), path: path.to_string() }),
+        Some(_) => return Err("a text is named twice".to_string()),
+        None => return Err(format!("'{}' is no SHA-256 and a text's file", rest)),
+    }
+    Ok(())
 }
 
 fn line_of(labels: &mut Labels, statement: &str, line: &str) -> Result<(), String> {
@@ -140,9 +161,53 @@ pub fn labels(words: &Words, path: &Path, block: &[u8], summary: &Summary) -> Ou
         Ok(bytes) if bytes.len() > MOST => unused(format!("it has over {} bytes", MOST)),
         Ok(bytes) => match String::from_utf8(bytes) {
             Err(_) => unused("it is no text".to_string()),
-            Ok(text) => read(&text, block, summary).or_else(unused),
+            Ok(text) => read(&text, block, summary).map(|labels| as_the_text_is(labels, &file)).or_else(unused),
         },
     }
+}
+
+/// The lines of a text are told only where it is as it was when they were written: after a change they would name other statements.
+fn as_the_text_is(labels: Labels, file: &Path) -> Labels {
+    let (text, was) = match &labels.text {
+        Some(of) => (file.with_file_name(&of.path), of.sha256.clone()),
+        None => return labels,
+    };
+    let why = match files::size(&text).map(|_| files::text(&text)) {
+        Some(Ok(bytes)) if sha256(&bytes) == was => return labels,
+        Some(Ok(_)) => "has changed since the block was built from it",
+        _ => "cannot be read, and the block was built from it",
+    };
+    labels.without_lines(format!("{} {}: its lines are left out", files::shown(&text), why))
+}
+
+/// Tells once why the lines of the text are left out, where a command would have them.
+pub fn tell_stale(labels: &Labels) {
+    static TOLD: Once = Once::new();
+    if let Some(why) = &labels.stale {
+        TOLD.call_once(|| warn(why.clone(), "they are told again where the text is as it was, or after foldheron build"));
+    }
+}
+
+/// Whether a names file was made from a text.
+pub fn is_made(text: &str) -> bool {
+    text.lines().nth(1).map_or(false, |line| line.starts_with(FROM))
+}
+
+/// The names of another block's file for this one, where each is what its signal has here, but for '_'.
+pub fn carried(text: &str, summary: &Summary, here: &Labels) -> Option<Labels> {
+    let mut labels = Labels::numbered(summary);
+    let plain = |name: &str| name.replace('_', "");
+    for line in text.lines().skip(1) {
+        let words: Vec<&str> = line.split_whitespace().collect();
+        if let [sort, number, name] = words.as_slice() {
+            if SORTS.iter().any(|row| row.1 == *sort) {
+                let signal = number.parse().ok()?;
+                here.name(signal).filter(|here| plain(here) == plain(name))?;
+                name_signal(&mut labels, sort, number, name).ok()?;
+            }
+        }
+    }
+    Some(labels).filter(|labels| (0..labels.signals()).any(|n| labels.name(n).is_some()))
 }
 
 /// Whether the names file beside a block is this block's.

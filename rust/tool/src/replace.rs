@@ -31,14 +31,17 @@ pub fn look(path: &Path) -> Outcome<()> {
 
 fn unwritten(path: &Path, why: &io::Error) -> Trouble {
     let trouble = Trouble::new(Status::File, format!("{} could not be written: {}", shown(path), reason(why)));
-    if path.exists() {
+    let folder = folder_of(path);
+    if why.kind() == ErrorKind::NotFound && !folder.exists() {
+        trouble.advise(format!("there is no folder {}: make it first", shown(folder)))
+    } else if path.exists() {
         trouble.advise("it is as it was before")
     } else {
         trouble
     }
 }
 
-fn folder_of(place: &Path) -> &Path {
+pub fn folder_of(place: &Path) -> &Path {
     match place.parent() {
         Some(folder) if folder != Path::new("") => folder,
         _ => Path::new("."),

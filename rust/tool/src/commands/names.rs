@@ -42,8 +42,12 @@ fn run(words: &Words, out: &mut Out) -> Outcome<Status> {
     }
     let to = place(words, &path)?;
     may_be_written(&to, &block, words.has("--over"))?;
+    let had_lines = names::is_made(&String::from_utf8_lossy(&files::first(&to, names::MOST).unwrap_or_default()));
     replace(&to, names::written(&block.bytes, &block.summary, &block.labels).as_bytes())?;
     out.line(&format!("{}: {} written", files::shown(&to), counted(given.iter().filter(|name| *name != "-").count() as u64, "name")))?;
+    if had_lines {
+        out.line("  the lines of the text that stood there are dropped: foldheron build --over writes them again, with the text's names")?;
+    }
     Ok(Status::Good)
 }
 
