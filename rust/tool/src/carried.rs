@@ -3,8 +3,10 @@
 use crate::args::Words;
 use crate::block::{self, Block};
 use crate::commands::names::may_be_written;
+use crate::everyday;
 use crate::files;
 use crate::labels::Labels;
+use crate::layout::{edition, EVERYDAY};
 use crate::names;
 use crate::replace::replace;
 use crate::sets::listed;
@@ -41,6 +43,7 @@ pub fn put(new: &Block, old: &Block, over: bool) -> Outcome<bool> {
     let beside = names::beside(&new.path);
     // Where pump.bin is written into pump.out one names file is beside both, and stays the block's own.
     let is_carried = named(&new.labels) > 0 && !files::same(&beside, &names::beside(&old.path));
+    look(&new.path, over)?;
     block::may_be_put(&new.path, &new.bytes, over)?;
     let is_written = is_carried && may_be_named(&beside, new, over)?;
     replace(&new.path, &new.bytes)?;
@@ -48,6 +51,16 @@ pub fn put(new: &Block, old: &Block, over: bool) -> Outcome<bool> {
         replace(&beside, names::written(&new.bytes, &new.summary, &new.labels).as_bytes())?;
     }
     Ok(is_carried)
+}
+
+/// What is written here is of edition 1: a block of edition 2 is somebody's source, and --over does not take its place.
+fn look(to: &Path, over: bool) -> Outcome<()> {
+    let is_source = over && files::size(to).is_some() && files::block(to).map_or(false, |bytes| edition(&bytes) == EVERYDAY && everyday::is_good(&bytes));
+    if !is_source {
+        return Ok(());
+    }
+    let trouble = Trouble::call(format!("{} is a block of edition 2: it is left as it is", files::shown(to)));
+    Err(trouble.advise("--over takes the place of a block of edition 1: remove it where it is not wanted any more, or name another file"))
 }
 
 /// How many signals have a name.
@@ -69,12 +82,14 @@ fn may_be_named(to: &Path, new: &Block, over: bool) -> Outcome<bool> {
     }
 }
 
-/// What is said of the names: that they were carried along, with `besides` on those that were not, or that one names file is beside both; none where there are none.
+/// What is said of the names: that they were carried along, with `besides` on those that were not, or that one names file is beside both; where there are none, that a
+/// file that is there is not for this block.
 pub fn told(new: &Block, old: &Block, is_carried: bool, besides: &str) -> Option<String> {
     let (beside, shown) = (files::shown(&names::beside(&new.path)), files::shown(&new.path));
     match (is_carried, named(&new.labels)) {
         (true, count) => Some(format!("{}: {} carried along{}", beside, counted(count as u64, "name"), besides)),
-        (false, 0) => None,
+        (false, 0) => (names::beside(&new.path).exists() && !names::fits(&new.path, &new.bytes, &new.summary))
+            .then(|| format!("{} is there, and its names are not this block's: remove it, or write others with foldheron names --over", beside)),
         (false, _) => Some(format!("{} stays the names file of {}: with another name before its ending {} would have one of its own", beside, files::shown(&old.path), shown)),
     }
 }

@@ -68,10 +68,18 @@ pub fn listed(words: &[String]) -> String {
     }
 }
 
-/// Pauses by their numbers.
+/// The same of a few; of many the first ones, and how many more there are.
+pub fn few(words: &[String]) -> String {
+    match words.len() {
+        0..=8 => listed(words),
+        n => format!("{} and {} more", words[..4].join(", "), n - 4),
+    }
+}
+
+/// Pauses by their numbers, a few of them.
 pub fn pauses(numbers: &[usize]) -> String {
     let words: Vec<String> = numbers.iter().map(usize::to_string).collect();
-    format!("pause{} {}", if words.len() == 1 { "" } else { "s" }, listed(&words))
+    format!("pause{} {}", if words.len() == 1 { "" } else { "s" }, few(&words))
 }
 
 /// A text with a semicolon for each line's end; empty lines, and a semicolon at a line's end, are no sets.
@@ -80,6 +88,16 @@ fn in_one_line(text: &str) -> String {
     match lines.split_last() {
         Some((last, before)) => before.iter().map(|line| line.strip_suffix(';').unwrap_or(line)).chain(Some(*last)).collect::<Vec<_>>().join(";"),
         None => String::new(),
+    }
+}
+
+/// The first sets of such a text, and how many more there are.
+pub fn first(text: &str) -> String {
+    let line = in_one_line(text);
+    let sets: Vec<&str> = line.split(';').map(str::trim).collect();
+    match sets.len() {
+        0..=16 => sets.join("; "),
+        n => format!("{}; and {} more", sets[..12].join("; "), n - 12),
     }
 }
 

@@ -24,6 +24,12 @@ impl Table {
         self.row(&self.columns.iter().map(|column| column.title).collect::<Vec<_>>())
     }
 
+    /// Makes a column at least so wide.
+    pub fn widen(&mut self, column: usize, width: usize) {
+        let column = &mut self.columns[column];
+        column.width = column.width.max(width);
+    }
+
     /// One line; there may be fewer cells than columns.
     pub fn row(&self, cells: &[&str]) -> String {
         let mut line = String::new();

@@ -20,7 +20,7 @@ pub static COMMAND: Command = Command {
     call: "FILE --to OUT [--over] [--json] [--names FILE | --no-names]",
     options: &[
         with("--to", "OUT", "the file to write, or -o OUT: where it is not there or empty, or has these very bytes"),
-        flag("--over", "write over a good block that is there, and over a names file beside it that has other names"),
+        flag("--over", "write over a good block of edition 1 that is there, and over a names file beside it that has other names"),
         flag("--json", "an object"),
         names::OPTION,
         names::NO_OPTION,

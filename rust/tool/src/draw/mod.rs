@@ -1,6 +1,7 @@
 //! Pictures as SVG that stands alone: texts of known width, outlines, arrows, and a layout in layers. What a picture shows is its user's to say.
 
 pub mod chart;
+pub mod heads;
 pub mod layers;
 pub mod style;
 pub mod text;

@@ -22,6 +22,24 @@ impl Words {
         let all: u32 = self.text.chars().map(|c| of(widths, c)).sum();
         f64::from(all) * self.size / 1000.0
     }
+
+    /// The same on as many lines as they need, each no wider than this but where one word is.
+    pub fn wrapped(&self, width: f64) -> Vec<Words> {
+        let mut lines: Vec<Words> = Vec::new();
+        for word in self.text.split(' ') {
+            let longer = lines.last().map(|line| Words { text: format!("{} {}", line.text, word), ..*self }).filter(|line| line.width() <= width);
+            match (longer, lines.last_mut()) {
+                (Some(longer), Some(last)) => *last = longer,
+                _ => lines.push(Words { text: word.to_string(), ..*self }),
+            }
+        }
+        lines
+    }
+}
+
+/// The widest of some lines, and no less than this.
+pub fn widest<'a>(lines: impl IntoIterator<Item = &'a Words>, least: f64) -> f64 {
+    lines.into_iter().map(Words::width).fold(least, f64::max)
 }
 
 /// In thousandths of the size; a letter that is not in the list counts as the widest capital.
@@ -53,5 +71,14 @@ mod tests {
         assert_eq!(Words::new("A ~", 10.0).width(), 6.67 + 2.78 + 5.84);
         assert!(Words::bold("RUN", 10.0).width() >= Words::new("RUN", 10.0).width());
         assert_eq!(Words::new("ä", 10.0).width(), 9.44);
+    }
+
+    #[test]
+    fn lines_are_no_wider_and_lose_no_word() {
+        let words = Words::new("a heading that is longer than its picture is wide", 10.0);
+        let lines = words.wrapped(60.0);
+        assert!(lines.len() > 2 && widest(&lines, 0.0) <= 60.0);
+        assert_eq!(lines.iter().map(|line| line.text.as_str()).collect::<Vec<_>>().join(" "), words.text);
+        assert_eq!([words.wrapped(1000.0).len(), Words::new("longest", 10.0).wrapped(1.0).len()], [1, 1]);
     }
 }

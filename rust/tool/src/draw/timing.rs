@@ -1,9 +1,11 @@
 //! A timing diagram: rows of levels or words over columns of instants, in bands one below the other where there are many. What is not known is neither high
 //! nor low but a hatched box.
 
+use super::heads::{Lines, LEAST};
 use super::style;
-use super::text::Words;
+use super::text::{widest, Words};
 use super::{at, n, side_by_side, Area, Picture, Point};
+use crate::sets::UNKNOWN;
 use crate::walk::grouped;
 
 #[derive(Clone, Copy, PartialEq, Eq, Debug)]
@@ -85,6 +87,8 @@ pub struct Timing {
     pub groups: Vec<Group>,
     /// A column that is framed, and what is said of it.
     pub mark: Option<(usize, String)>,
+    /// What else is said, under the diagram.
+    pub notes: Vec<String>,
 }
 
 const MARGIN: f64 = 20.0;
@@ -98,8 +102,9 @@ const LOW: f64 = 20.0;
 const GAP: f64 = 7.0;
 /// Between two bands.
 const APART: f64 = 22.0;
-/// No picture is narrower, for its key, and no band wider where it can be parted.
-const LEAST: f64 = 420.0;
+/// On a page there is so much room for the key at least.
+const ON_PAGE: f64 = 640.0;
+/// No band is wider where it can be parted.
 const MOST: f64 = 1000.0;
 
 /// The widths of a diagram: of its names and of a column, and how many columns stand side by side.
@@ -112,12 +117,17 @@ struct Sizes {
 impl Timing {
     /// A file of its own.
     pub fn file(&self) -> String {
-        self.drawn(true).file(&self.heading, &self.about.join("; "))
+        self.drawn(true).file(&self.heading, &self.in_a_line())
     }
 
     /// For a page that has the style, and the heading.
     pub fn element(&self) -> String {
-        self.drawn(false).element(&self.heading, &self.about.join("; "))
+        self.drawn(false).element(&self.heading, &self.in_a_line())
+    }
+
+    /// What is said over and under it, for who cannot see it.
+    fn in_a_line(&self) -> String {
+        self.about.iter().chain(&self.notes).map(String::as_str).collect::<Vec<_>>().join("; ")
     }
 
     fn cells(&self) -> impl Iterator<Item = &Cell> {
@@ -143,29 +153,27 @@ impl Timing {
 
     fn drawn(&self, has_heads: bool) -> Picture {
         let sizes = self.sizes();
-        let all = std::iter::once(Words::bold(self.heading.as_str(), 15.0)).chain(self.about.iter().map(|line| Words::new(line.as_str(), 12.0)));
-        let heads: Vec<Words> = all.filter(|_| has_heads).collect();
-        let said = self.mark.as_ref().map(|(_, said)| Words::bold(said.as_str(), 12.0));
         let wide = sizes.left + sizes.column * sizes.side.min(self.instants.len()) as f64;
-        let titles = self.groups.iter().map(|group| title(&group.title).width());
-        let inner = heads.iter().chain(&said).map(Words::width).chain(titles).fold(wide.max(LEAST), f64::max);
-        let top = MARGIN + 20.0 * heads.len() as f64 + if has_heads { 8.0 } else { 0.0 };
+        let least = widest(&self.groups.iter().map(|group| title(&group.title)).collect::<Vec<_>>(), wide.max(LEAST));
+        let heads = if has_heads { Lines::heading(&self.heading, &self.about, least) } else { Lines::default() };
+        let mut notes = Lines::default();
+        self.mark.iter().for_each(|(_, said)| notes.add(&Words::bold(said.as_str(), 12.0), "differs", least));
+        self.notes.iter().for_each(|note| notes.add(&Words::new(note.as_str(), 12.0), "note", least));
+        let inner = notes.width(heads.width(least));
+        let top = MARGIN + heads.height(8.0);
         let bands = self.instants.chunks(sizes.side).count() as f64;
         let foot = top + bands * (self.band_height() + APART) - if bands > 0.0 { APART } else { 0.0 } + 16.0;
-        let under = foot + if said.is_some() { 22.0 } else { 0.0 };
+        let under = foot + notes.height(2.0);
+        let inner = if has_heads { inner } else { inner.max(ON_PAGE) };
         let key = key(self, inner);
         let height = under + key.last().map_or(0.0, |item| item.at.y + 26.0) + MARGIN;
         let mut picture = Picture::new(inner + 2.0 * MARGIN, height, &style::TIMING);
-        for (k, line) in heads.iter().enumerate() {
-            picture.words_from(at(MARGIN, MARGIN + 13.0 + 20.0 * k as f64), line, if k == 0 { "heading" } else { "faint about" });
-        }
+        heads.draw(at(MARGIN, MARGIN), &mut picture);
         for band in 0..bands as usize {
             let corner = at(MARGIN, top + band as f64 * (self.band_height() + APART));
             self.band(band * sizes.side, &sizes, corner, &mut picture);
         }
-        if let Some(said) = &said {
-            picture.words_from(at(MARGIN, foot + 10.0), said, "differs");
-        }
+        notes.draw(at(MARGIN, foot - 3.0), &mut picture);
         key.iter().for_each(|item| item.draw(at(MARGIN, under), &mut picture));
         picture
     }
@@ -299,6 +307,9 @@ struct Item {
 }
 
 const SAMPLE: f64 = 40.0;
+/// The row of the codes, and what its words say.
+pub const CODE: &str = "code";
+const SAYS: [(&str, &str); 3] = [("0", "code 0: ended"), ("1", "code 1: waits"), (UNKNOWN, "no outputs")];
 
 /// What of these stands in the diagram is explained.
 fn key(timing: &Timing, width: f64) -> Vec<Item> {
@@ -307,6 +318,15 @@ fn key(timing: &Timing, width: f64) -> Vec<Item> {
     let mut all: Vec<(Cell, Words)> = levels.map(|level| (Cell::Level(level), small(level.word()))).collect();
     if timing.cells().any(|cell| matches!(cell, Cell::Flag(_))) {
         all.push((Cell::Flag("n".to_string()), small("refused with number n: it has no outputs")));
+    }
+    // The words of a row are explained where they stand in it.
+    let codes = timing.groups.iter().flat_map(|group| &group.rows).filter(|row| row.name == CODE).flat_map(|row| &row.cells);
+    let codes: Vec<&Cell> = codes.collect();
+    for (word, says) in SAYS {
+        let cell = Cell::Words(word.to_string());
+        if codes.contains(&&cell) {
+            all.push((cell, small(says)));
+        }
     }
     let needs: Vec<f64> = all.iter().map(|(_, words)| SAMPLE + words.width()).collect();
     all.into_iter().zip(side_by_side(&needs, width, 26.0)).map(|((sample, words), at)| Item { sample, words, at }).collect()
@@ -329,7 +349,7 @@ mod tests {
     fn timing(count: u64, cell: Cell) -> Timing {
         let row = Row { name: "A".to_string(), cells: (0..count).map(|_| cell.clone()).collect() };
         let group = Group { title: "inputs".to_string(), class: "inputs", rows: vec![row] };
-        Timing { heading: "H".to_string(), about: Vec::new(), instants: (1..=count).collect(), groups: vec![group], mark: None }
+        Timing { heading: "H".to_string(), about: Vec::new(), instants: (1..=count).collect(), groups: vec![group], mark: None, notes: Vec::new() }
     }
 
     #[test]

@@ -136,7 +136,7 @@ impl Asked {
     pub fn inputs_in_words(&self) -> String {
         match &self.inputs {
             Inputs::File(path) | Inputs::Beside(path) => files::shown(path),
-            Inputs::Sets(text) => files::printable(text),
+            Inputs::Sets(text) => files::printable(&sets::first(text)),
         }
     }
 

@@ -75,7 +75,8 @@ which is given the inputs that are heard, so that is a wrong call.
 A refused instant has no outputs: x stands in their place, and the state is as it was, so the next instant goes on from there.
 
 A picture has 240 instants at most, in bands one below the other: the first ones, or those that --from-instant and --to-instant name; above them it says
-which of how many they are. All sets are run in any case. Of a 13 the outputs that are known all the same are dashed; none of them is to be switched.
+which of how many they are; where the run has none of them that is a wrong call, and nothing is saved. All sets are run in any case.
+Of a 13 the outputs that are known all the same are dashed; none of them is to be switched.
 
 What is saved: the state is written beside STATE, flushed to the disk and put in its place in one step, after the last
 instant; records are flushed before that. Killed at any moment, STATE holds the old state or the new one, whole. Killed between

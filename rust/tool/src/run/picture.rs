@@ -2,19 +2,21 @@
 //! instants; which of a long run they are is asked for, and it says which they are.
 
 use super::style::{Step, Style, Tally};
-use super::words::ends;
+use super::words::{ends, why};
 use crate::block::{Block, Report};
-use crate::draw::timing::{Cell, Group, Level, Row, Timing};
+use crate::draw::timing::{Cell, Group, Level, Row, Timing, CODE};
 use crate::labels::Labels;
 use crate::output::Out;
 use crate::sets::{Given, UNKNOWN};
-use crate::trouble::Outcome;
+use crate::trouble::{Outcome, Trouble};
 use crate::walk::{counted, grouped};
 use foldheron::Instant;
 use std::ops::RangeInclusive;
 
 /// Instants that a picture has at most.
 pub const MOST: u64 = 240;
+/// Of these so many get a note at most.
+const NOTES: usize = 6;
 
 /// One instant as it is drawn.
 #[derive(Clone, Copy)]
@@ -44,30 +46,59 @@ impl<'a> Picture<'a> {
             instants: self.shown.iter().map(|shown| shown.number).collect(),
             groups: vec![given(&self.block.labels, &inputs), answered("outputs".to_string(), "outputs", &self.block.labels, &answers, true)],
             mark: None,
+            notes: self.notes(),
         }
     }
 
     /// What the run came to, and which part of it is drawn.
     fn about(&self, tally: &Tally) -> String {
-        let part = match (self.shown.first(), self.shown.last()) {
-            (Some(first), Some(last)) if (self.shown.len() as u64) < tally.instants => format!("instants {} to {} of ", grouped(first.number), grouped(last.number)),
-            (None, _) if tally.instants > 0 => format!("none of instants {} to {} is among ", grouped(*self.window.start()), grouped(*self.window.end())),
-            _ => String::new(),
-        };
+        let part = self.part(tally).map_or(String::new(), |part| format!("{} of ", part));
         let short = if tally.short > 0 { format!("; the inputs end within a set, {} left over", counted(tally.short as u64, "byte")) } else { String::new() };
         format!("{}{}{}", part, ends(tally), short)
     }
 }
 
-impl Style for Picture<'_> {
-    fn step(&mut self, step: &Step, _out: &mut Out) -> Outcome<()> {
+impl Picture<'_> {
+    /// Keeps an instant that is drawn.
+    pub fn keep(&mut self, step: &Step) {
         if self.window.contains(&step.number) {
             self.shown.push(Shown { number: step.number, inputs: step.inputs, answer: step.answer });
         }
+    }
+
+    /// The instants that are drawn, where they are not all.
+    pub fn part(&self, tally: &Tally) -> Option<String> {
+        let (first, last) = (self.shown.first()?, self.shown.last()?);
+        let is_part = (self.shown.len() as u64) < tally.instants;
+        is_part.then(|| format!("instants {} to {}", grouped(first.number), grouped(last.number)))
+    }
+
+    /// That some instant is drawn, where any was run.
+    pub fn look(&self, tally: &Tally) -> Outcome<()> {
+        if tally.instants == 0 || !self.shown.is_empty() {
+            return Ok(());
+        }
+        let asked = format!("instants {} to {} are asked for", grouped(*self.window.start()), grouped(*self.window.end()));
+        Err(Trouble::call(format!("{}, and the run has {}", asked, counted(tally.instants, "instant"))).advise("name instants of the run; nothing is drawn"))
+    }
+
+    /// What is told of instants that were refused with 11: the inputs that the block does not have, which have no row.
+    fn notes(&self) -> Vec<String> {
+        let odd: Vec<&Shown> = self.shown.iter().filter(|shown| shown.answer.number() == 11).collect();
+        let told = odd.iter().take(NOTES).map(|shown| format!("instant {}: {}", grouped(shown.number), why(&self.block.labels, shown.inputs, &shown.answer)));
+        let more = odd.len().checked_sub(NOTES).filter(|more| *more > 0).map(|more| format!("and {} that are refused with 11", counted(more as u64, "more instant")));
+        told.chain(more).collect()
+    }
+}
+
+impl Style for Picture<'_> {
+    fn step(&mut self, step: &Step, _out: &mut Out) -> Outcome<()> {
+        self.keep(step);
         Ok(())
     }
 
     fn end(&mut self, tally: &Tally, out: &mut Out) -> Outcome<()> {
+        self.look(tally)?;
         out.text(&self.timing(tally).file())
     }
 
@@ -92,7 +123,7 @@ pub fn answered(title: String, class: &'static str, labels: &Labels, answers: &[
     let words = |name: &str, cell: &dyn Fn(&Instant) -> Cell| Row { name: name.to_string(), cells: answers.iter().map(cell).collect() };
     let unknown = || Cell::Words(UNKNOWN.to_string());
     let mut rows: Vec<Row> = labels.outputs().map(|n| words(&labels.signal(n), &|answer| Cell::Level(output(answer, n)))).collect();
-    rows.push(words("code", &|answer| match answer {
+    rows.push(words(CODE, &|answer| match answer {
         Instant::Answered(r) => Cell::Words(r.code.to_string()),
         _ => unknown(),
     }));

@@ -2,6 +2,7 @@
 //! input that is not heard and every output of a refused instant, is x.
 
 use super::style::{short, Step, Style, Tally};
+use super::words::why;
 use crate::block::{Block, Report};
 use crate::output::{say, Out};
 use crate::trouble::Outcome;
@@ -100,6 +101,10 @@ impl Style for Vcd<'_> {
         let values = self.of(step);
         let before = self.values.take();
         out.line(&format!("#{}", step.number))?;
+        // The inputs that the block does not have are no variables.
+        if step.answer.number() == 11 {
+            out.line(&format!("$comment {} $end", why(&self.block.labels, step.inputs, &step.answer)))?;
+        }
         if before.is_none() {
             out.line("$dumpvars")?;
         }

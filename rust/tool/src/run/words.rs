@@ -1,5 +1,6 @@
 //! The table that a person reads: inputs and outputs by name with what changed marked, and refusals in words.
 
+use super::picture::Shown;
 use super::style::{short, Step, Style, Tally};
 use crate::block::{Block, Report};
 use crate::labels::Labels;
@@ -17,6 +18,8 @@ use std::path::Path;
 
 /// A column of signals is at most so wide, so that the table has 80 columns; a longer list pushes what is to its right.
 const WIDEST: usize = 22;
+/// The same where the instants are known beforehand.
+const FITTED: usize = 44;
 
 pub struct Table<'a> {
     labels: &'a Labels,
@@ -79,6 +82,20 @@ impl<'a> Table<'a> {
         }
     }
 
+    /// Widens the columns of signals to these instants, where they are known beforehand.
+    pub fn fit(&mut self, instants: &[Shown]) {
+        let labels = self.labels;
+        let (mut inputs, mut outputs) = (self.inputs, self.outputs);
+        for shown in instants {
+            self.table.widen(1, changed_inputs(shown.inputs, inputs, |n| labels.input(n)).len().min(FITTED));
+            inputs = Some(shown.inputs);
+            if let Instant::Answered(reaction) = &shown.answer {
+                self.table.widen(2, changed(reaction.present, outputs, |n| labels.output(n)).len().min(FITTED));
+                outputs = Some(reaction.present);
+            }
+        }
+    }
+
     /// Keeps how to ask about the first 13.
     fn ask(&mut self, step: &Step) {
         if self.asking.is_some() {
@@ -124,6 +141,17 @@ impl Style for Table<'_> {
 
     fn end(&mut self, tally: &Tally, out: &mut Out) -> Outcome<()> {
         out.line(&ends(tally))?;
+        self.key(tally, out)
+    }
+
+    fn refused(&mut self, _report: &Report, _out: &mut Out) -> Outcome<()> {
+        Ok(())
+    }
+}
+
+impl Table<'_> {
+    /// What stands under a table behind what the run came to: what its marks say, and how to ask more.
+    pub fn key(&self, tally: &Tally, out: &mut Out) -> Outcome<()> {
         match (tally.instants > 0, tally.has_unheard) {
             (true, true) => out.line("+ came, - went, ? not heard, x no outputs")?,
             (true, false) => out.line("+ came, - went, x no outputs")?,
@@ -138,10 +166,6 @@ impl Style for Table<'_> {
         if tally.short > 0 {
             out.line(&short(tally.short))?;
         }
-        Ok(())
-    }
-
-    fn refused(&mut self, _report: &Report, _out: &mut Out) -> Outcome<()> {
         Ok(())
     }
 }

@@ -115,19 +115,27 @@ fn run(words: &Words, out: &mut Out) -> Outcome<Status> {
     }
 }
 
-/// Why an instant that began in this state is refused with 13, in lines, and what waits for what as a picture for a page.
-pub fn explained(block: &Block, state: &[u8], number: u64, given: Given, out: &mut Out) -> Outcome<Option<String>> {
+/// What is told of a 13 besides its lines: what waits for what as a picture for a page, and what to do; neither where it could not be followed.
+#[derive(Default)]
+pub struct Explained {
+    pub picture: Option<String>,
+    pub advice: Option<&'static str>,
+}
+
+/// Why an instant that began in this state is refused with 13, in lines.
+pub fn explained(block: &Block, state: &[u8], number: u64, given: Given, out: &mut Out) -> Outcome<Explained> {
     let mut question = Question::of(block.clone(), state.to_vec(), &[given], Asked::Refused);
     question.number = number as usize;
     let named = match question.reason() {
         Reason::Statement(n) => n,
-        _ => return Ok(None),
+        _ => return Ok(Explained::default()),
     };
     let meaning = question.meaning();
     let reach = question.reach(&meaning);
     let waiting = Waiting::of(&reach, named, question.block.summary.inputs);
     words::told(&question, named, &reach, waiting.as_ref(), out)?;
-    Ok(waiting.map(|waiting| picture::element(&question, &waiting)))
+    let advice = waiting.as_ref().and_then(words::advice);
+    Ok(Explained { picture: waiting.map(|waiting| picture::element(&question, &waiting)), advice })
 }
 
 /// What is asked about.
@@ -203,7 +211,11 @@ impl Question {
             Some("--json") => object::told(self, n, waiting.as_ref(), out),
             Some("--svg") => picture::told(self, waiting.as_ref(), out),
             Some(_) => dot::told(self, waiting.as_ref(), out),
-            None => words::told(self, n, &reach, waiting.as_ref(), out),
+            None => {
+                words::told(self, n, &reach, waiting.as_ref(), out)?;
+                let advice = waiting.as_ref().and_then(words::advice);
+                advice.map_or(Ok(()), |advice| out.line(&format!("what to do: {}", advice))).map(|_| Status::Good)
+            }
         }
     }
 

@@ -5,6 +5,7 @@ use super::route::{Arrow, Waiting};
 use super::words::{inputs, title};
 use super::Question;
 use crate::draw::layers::{lay, Laid};
+use crate::draw::heads::{Lines, LEAST};
 use crate::draw::text::Words;
 use crate::draw::{at, side_by_side, style, Area, Outline, Picture, Point, Tip, POINT};
 use crate::output::Out;
@@ -13,6 +14,7 @@ use crate::trouble::{Outcome, Trouble};
 
 const MARGIN: f64 = 20.0;
 const LINE: f64 = 15.0;
+const DOTTED: &str = "The box with a dotted line is a test of an input that is not heard.";
 const PROVED: &str = "That the test with the thick line is undecided is proved; what it waits for is followed in the block, not proved.";
 
 /// A test by its place in the list, or an emit by its statement.
@@ -42,15 +44,14 @@ pub fn told(question: &Question, waiting: Option<&Waiting>, out: &mut Out) -> Ou
     let unfollowed = || Trouble::new(Status::Refused, "what it waits for could not be followed");
     let drawing = waiting.map(|waiting| Drawing::of(question, waiting)).ok_or_else(unfollowed)?;
     let heading = drawing.heading();
-    let heads = [Words::bold(heading.as_str(), 15.0), Words::new(drawing.about(), 12.0)];
-    out.text(&drawing.drawn(&heads).file(&heading, &drawing.about()))?;
+    out.text(&drawing.drawn(true).file(&heading, &drawing.about()))?;
     Ok(Status::Good)
 }
 
 /// For a page that has the style, and the heading.
 pub fn element(question: &Question, waiting: &Waiting) -> String {
     let drawing = Drawing::of(question, waiting);
-    drawing.drawn(&[]).element(&drawing.heading(), &drawing.about())
+    drawing.drawn(false).element(&drawing.heading(), &drawing.about())
 }
 
 impl<'a> Drawing<'a> {
@@ -121,22 +122,26 @@ impl<'a> Drawing<'a> {
         }
     }
 
-    fn drawn(&self, heads: &[Words]) -> Picture {
+    fn drawn(&self, has_heads: bool) -> Picture {
         let labels: Vec<Vec<Words>> = self.nodes.iter().map(|node| self.label(*node)).collect();
         let wide = |lines: &[Words]| lines.iter().map(Words::width).fold(60.0, f64::max) + 2.0 * (POINT + 8.0);
         let sizes: Vec<(f64, f64)> = labels.iter().map(|lines| (wide(lines), 14.0 + LINE * lines.len() as f64)).collect();
         let arrows: Vec<(usize, usize)> = self.links.iter().map(|(from, to, _)| (*from, *to)).collect();
         let laid = lay(&sizes, &arrows, |n| n == 0);
-        let foot = Words::new(PROVED, 11.0);
-        let inner = heads.iter().chain(Some(&foot)).map(Words::width).fold(laid.width, f64::max);
-        let top = MARGIN + 26.0 * heads.len() as f64;
+        let least = laid.width.max(LEAST);
+        let heads = if has_heads { Lines::heading(&self.heading(), &[self.about()], least) } else { Lines::default() };
+        let mut foot = Lines::default();
+        if self.nodes.iter().any(|node| self.is_input(*node)) {
+            foot.add(&Words::new(DOTTED, 11.0), "faint", least);
+        }
+        foot.add(&Words::new(PROVED, 11.0), "faint", least);
+        let inner = foot.width(heads.width(least));
+        let top = MARGIN + heads.height(12.0);
         let key = self.key(inner);
         let under = top + laid.height + 28.0;
         let last = key.last().map_or(0.0, |item| item.2.y + 34.0);
-        let mut picture = Picture::new(inner + 2.0 * MARGIN, under + last + 14.0 + MARGIN, &style::WAITS);
-        for (k, line) in heads.iter().enumerate() {
-            picture.words_from(at(MARGIN, MARGIN + 13.0 + 20.0 * k as f64), line, if k == 0 { "heading" } else { "faint about" });
-        }
+        let mut picture = Picture::new(inner + 2.0 * MARGIN, under + last + foot.height(0.0) - 6.0 + MARGIN, &style::WAITS);
+        heads.draw(at(MARGIN, MARGIN), &mut picture);
         self.place(&laid, &labels, at(MARGIN + (inner - laid.width) / 2.0, top), &mut picture);
         for (link, words, place) in &key {
             let (x, y) = (MARGIN + place.x + 6.0, under + place.y);
@@ -144,7 +149,7 @@ impl<'a> Drawing<'a> {
             picture.arrow(&[at(x, y), at(x, y + 26.0)], tip, &[("class", &format!("key {}", class))]);
             picture.words_from(at(MARGIN + place.x + 18.0, y + 17.0), words, "faint");
         }
-        picture.words_from(at(MARGIN, under + last + 10.0), &foot, "faint");
+        foot.draw(at(MARGIN, under + last - 3.0), &mut picture);
         picture
     }
 

@@ -7,14 +7,13 @@ use super::{so, Question};
 use crate::output::Out;
 use crate::refusal;
 use crate::sets::{changed_inputs, listed};
-use crate::status;
 use crate::tree;
 use crate::trouble::Outcome;
 use crate::walk::Statement;
 use foldheron::Asked;
 use std::collections::BTreeSet;
 
-pub fn told(question: &Question, n: usize, reach: &Reach, waiting: Option<&Waiting>, out: &mut Out) -> Outcome<status::Status> {
+pub fn told(question: &Question, n: usize, reach: &Reach, waiting: Option<&Waiting>, out: &mut Out) -> Outcome<()> {
     let (what, named) = match question.asked {
         Asked::Refused => (format!("refused with {}", refusal::title(13)), "the lowest test that is reached with its signal undecided".to_string()),
         Asked::Present(signal) => (format!("answered, and {} is present", question.labels().signal(signal)), "the lowest emit of it that was executed".to_string()),
@@ -39,7 +38,7 @@ pub fn told(question: &Question, n: usize, reach: &Reach, waiting: Option<&Waiti
         None if question.asked == Asked::Refused => out.line("what it waits for could not be followed")?,
         None => {}
     }
-    Ok(status::Status::Good)
+    Ok(())
 }
 
 /// Which instants before the one asked about were refused.
@@ -145,8 +144,16 @@ fn waits(question: &Question, waiting: &Waiting, out: &mut Out) -> Outcome<()> {
     others(question, waiting, out)?;
     match (&cycle, &chain) {
         (None, None) => out.line("what it waits for could not be followed"),
-        (Some(_), None) => out.line(&format!("what to do: {}", refusal::advice(13))),
-        _ => out.line("what to do: run it again when more is heard; foldheron run --waits tries which input would settle it"),
+        _ => Ok(()),
+    }
+}
+
+/// What to do about a 13: where an input that is not heard may settle it, not yet what a cycle asks for.
+pub fn advice(waiting: &Waiting) -> Option<&'static str> {
+    match (waiting.cycle(), waiting.chain()) {
+        (None, None) => None,
+        (Some(_), None) => Some(refusal::advice(13)),
+        _ => Some("run it again when more is heard; foldheron run --waits tries which input would settle it"),
     }
 }
 

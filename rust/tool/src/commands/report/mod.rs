@@ -81,6 +81,7 @@ fn run(words: &Words, out: &mut Out) -> Outcome<Status> {
         Err(down) => return keep::not_taken(asked.from.as_deref().unwrap_or_else(|| Path::new("")), &down, false, out),
     };
     let report = Report::of(&asked, &block, &mut source, state)?;
+    report.picture.look(&report.tally)?;
     let page = page::told(&report)?;
     match &to {
         Some(to) => {
@@ -104,9 +105,6 @@ fn may_be_written(to: &Path) -> Outcome<()> {
 impl<'a> Report<'a> {
     /// Runs every set, and keeps what the page tells of it.
     fn of(asked: &Asked, block: &'a Block, source: &mut Source, mut state: Vec<u8>) -> Outcome<Report<'a>> {
-        let mut kept = Out::keeping();
-        let mut table = Table::new(block, asked.from.is_none());
-        table.begin(&mut kept)?;
         let from = (asked.inputs_in_words(), asked.from.as_deref().map_or("afresh".to_string(), |path| format!("from the state in {}", files::shown(path))));
         let mut report = Report { block, picture: Picture::new(block, asked.window.clone()), table: String::new(), tally: Tally::default(), refused: Vec::new(), more: 0, from };
         loop {
@@ -121,16 +119,25 @@ impl<'a> Report<'a> {
             let answer = keep::one(block, &mut state, inputs);
             let step = Step { number: report.tally.instants + 1, inputs, answer, waits: None };
             report.tally.count(&step);
-            if asked.window.contains(&step.number) {
-                table.step(&step, &mut kept)?;
-            }
-            report.picture.step(&step, &mut kept)?;
+            report.picture.keep(&step);
             report.keep(&step, &state);
         }
         report.tally.state = state;
-        table.end(&report.tally, &mut kept)?;
-        report.table = kept.kept();
+        report.table = report.tabled(asked)?;
         Ok(report)
+    }
+
+    /// The table of the instants that are drawn. Of what was before it knows where it begins with the first instant of a run from fresh.
+    fn tabled(&self, asked: &Asked) -> Outcome<String> {
+        let mut kept = Out::keeping();
+        let mut table = Table::new(self.block, asked.from.is_none() && *asked.window.start() == 1);
+        table.fit(&self.picture.shown);
+        table.begin(&mut kept)?;
+        for shown in &self.picture.shown {
+            table.step(&Step { number: shown.number, inputs: shown.inputs, answer: shown.answer, waits: None }, &mut kept)?;
+        }
+        table.key(&self.tally, &mut kept)?;
+        Ok(kept.kept())
     }
 
     /// Keeps a refused instant, with those that are like it. It left the state as it was.

@@ -10,7 +10,7 @@ use crate::hash::sha256;
 use crate::output::Out;
 use crate::refusal;
 use crate::run::words::{ends, why};
-use crate::sets::{changed_inputs, listed};
+use crate::sets::{changed_inputs, few};
 use crate::trouble::Outcome;
 use crate::walk::{counted, grouped};
 use crate::why;
@@ -47,8 +47,19 @@ fn figure(svg: &str) -> String {
     format!("<div class=\"wide\">\n{}</div>\n", svg)
 }
 
+/// A line that is longer is wrapped further in than it begins.
+const LONG: usize = 96;
+
 fn lines(text: &str) -> String {
-    format!("<pre>{}</pre>\n", escaped(text))
+    let lines: Vec<String> = text.split('\n').map(line).collect();
+    format!("<pre>{}</pre>\n", lines.join("\n"))
+}
+
+fn line(text: &str) -> String {
+    match text.chars().count() > LONG {
+        true => format!("<span class=\"long\" style=\"--in:{}ch\">{}</span>", text.len() - text.trim_start().len() + 2, escaped(text)),
+        false => escaped(text),
+    }
 }
 
 fn folded(title: &str, body: &str) -> String {
@@ -78,7 +89,8 @@ fn facts(report: &Report) -> String {
 
 fn run(report: &Report) -> String {
     let timing = report.picture.timing(&report.tally);
-    let about = paragraph(&format!("{}.", timing.about.join("; ")));
+    // What the run came to stands above, once.
+    let about = report.picture.part(&report.tally).map_or(String::new(), |part| paragraph(&format!("The diagram and the table have {}.", part)));
     section("run", "The run", &format!("{}{}{}", about, figure(&timing.element()), folded("The run as a table", &lines(&report.table))))
 }
 
@@ -99,11 +111,7 @@ fn refusals(report: &Report) -> Outcome<String> {
 /// Numbers in a heading, a few of them.
 fn named(numbers: &[u64]) -> String {
     let words: Vec<String> = numbers.iter().map(|number| grouped(*number)).collect();
-    match words.len() {
-        1 => format!("Instant {}", words[0]),
-        2..=8 => format!("Instants {}", listed(&words)),
-        n => format!("Instants {} and {} more", words[..4].join(", "), n - 4),
-    }
+    format!("Instant{} {}", if words.len() == 1 { "" } else { "s" }, few(&words))
 }
 
 fn explained(report: &Report, refused: &Refused) -> Outcome<String> {
@@ -111,13 +119,15 @@ fn explained(report: &Report, refused: &Refused) -> Outcome<String> {
     let title = format!("<h3>{}: refused with {}</h3>\n", escaped(&named(&refused.numbers)), escaped(&refusal::title(number)));
     let given = format!("inputs {}", changed_inputs(refused.given, None, |n| labels.input(n)));
     let mut body = paragraph(&format!("With {}: {}. It has no outputs, and the state stayed as it was.", given, why(labels, refused.given, &refused.answer)));
+    let mut advice = refusal::advice(number);
     if number == 13 {
         let mut kept = Out::keeping();
-        let picture = why::explained(report.block, &refused.state, refused.numbers[0], refused.given, &mut kept)?;
-        body.push_str(&picture.map_or(String::new(), |svg| figure(&svg)));
+        let explained = why::explained(report.block, &refused.state, refused.numbers[0], refused.given, &mut kept)?;
+        body.push_str(&explained.picture.map_or(String::new(), |svg| figure(&svg)));
         body.push_str(&folded("In words", &lines(&kept.kept())));
+        advice = explained.advice.unwrap_or(advice);
     }
-    body.push_str(&paragraph(&format!("What to do: {}.", refusal::advice(number))));
+    body.push_str(&paragraph(&format!("What to do: {}.", advice)));
     Ok(format!("<div class=\"refusal\">\n{}{}</div>\n", title, body))
 }
 

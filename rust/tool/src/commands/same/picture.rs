@@ -1,7 +1,7 @@
 //! The answer as a picture: the run that tells the two apart as a timing diagram, the inputs, the old block and the new one, with the first difference framed.
 
 use super::search::{Found, Step};
-use super::words::{difference, turned_down, verdict, versions};
+use super::words::{difference, turned_down, two_names, verdict, versions};
 use super::{Pair, SIDES};
 use crate::draw::timing::{Group, Timing};
 use crate::files;
@@ -23,6 +23,7 @@ pub fn tell(pair: &Pair, found: &Found, out: &mut Out) -> Outcome<()> {
         instants: (1..=steps.len() as u64).collect(),
         groups: if steps.is_empty() { Vec::new() } else { groups(pair, steps) },
         mark: steps.last().map(|last| (steps.len() - 1, format!("instant {}: {}", steps.len(), difference(last, &pair.labels)))),
+        notes: two_names(pair).into_iter().collect(),
     };
     out.text(&timing.file())
 }
@@ -39,6 +40,11 @@ fn groups(pair: &Pair, steps: &[Step]) -> Vec<Group> {
     for k in 0..SIDES.len() {
         let answers: Vec<Instant> = steps.iter().map(|step| step.answers[k]).collect();
         groups.push(answered(SIDES[k].to_string(), SIDES[k], &pair.labels, &answers, false));
+    }
+    for row in groups.iter_mut().flat_map(|group| &mut group.rows) {
+        if let Some(two) = pair.renamed.iter().find(|two| pair.labels.signal(two.signal) == row.name) {
+            row.name = format!("{} / {}", two.old, two.new);
+        }
     }
     groups
 }

@@ -29,8 +29,8 @@ pub fn tell(pair: &Pair, found: &Found, to: Option<&To>, out: &mut Out) -> Outco
         out.line(&format!("  {}: {}: {}", side, files::shown(&block.path), counts(&block.summary, block.bytes.len())))?;
     }
     out.line(&format!("  {}", versions(pair, found)))?;
-    if !pair.renamed.is_empty() {
-        out.line(&format!("  two names for one signal: {}; a panel that is wired by names gets other signals", super::in_words(&pair.renamed)))?;
+    if let Some(said) = two_names(pair) {
+        out.line(&format!("  {}", said))?;
     }
     match found {
         Found::Alike => out.line(&format!("  {}", states(pair))),
@@ -50,6 +50,12 @@ pub fn tell(pair: &Pair, found: &Found, to: Option<&To>, out: &mut Out) -> Outco
         (Some(to), _) => out.line(&format!("{}: nothing is written, for there is no run to write", files::shown(&to.path))),
         (None, _) => Ok(()),
     }
+}
+
+/// What is said where the two names files call one signal by two names.
+pub fn two_names(pair: &Pair) -> Option<String> {
+    let said = || format!("two names for one signal: {}; a panel that is wired by names gets other signals", super::in_words(&pair.renamed));
+    (!pair.renamed.is_empty()).then(said)
 }
 
 /// The answer in a line.

@@ -11,13 +11,12 @@ use crate::files;
 use crate::labels::Labels;
 use crate::layout::State;
 use crate::names;
-use crate::output::{warn, Out};
+use crate::output::Out;
 use crate::refusal::is_conversions;
 use crate::run::keep;
 use crate::saved::in_words;
 use crate::status::Status;
-use crate::text;
-use crate::text::written::{replaced, with_labels};
+use crate::text::{self, written::with_labels};
 use crate::tree;
 use crate::trouble::{Outcome, Trouble};
 use crate::walk::{walk, Statement};
@@ -108,13 +107,7 @@ fn run(words: &Words, out: &mut Out) -> Outcome<Status> {
 /// The text of a good block, with its signals' names.
 fn in_text(block: &Block) -> String {
     let text = text::write(&block.bytes).expect("a good block has a text");
-    let text = with_labels(&text, &block.bytes, &block.labels);
-    let others: Vec<String> = replaced(&text, &block.labels).iter().map(|(name, here)| format!("{} for {}", here, name)).collect();
-    if !others.is_empty() {
-        let said = format!("names that cannot stand in this text are replaced in it: {}", crate::sets::listed(&others));
-        warn(said, "a name in a text has 1 to 16 letters and digits, a letter first, is no keyword, and is declared once");
-    }
-    String::from_utf8_lossy(&text).into_owned()
+    String::from_utf8_lossy(&with_labels(&text, &block.bytes, &block.labels)).into_owned()
 }
 
 /// The tree in lines.

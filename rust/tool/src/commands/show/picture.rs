@@ -2,24 +2,23 @@
 
 use super::Shown;
 use crate::draw::chart::{Frame, Stands, Told};
+use crate::draw::heads::{Lines, LEAST};
 use crate::draw::text::Words;
 use crate::draw::{at, style, Area, Picture};
 use crate::saved::in_words;
 use crate::tree;
 
 const MARGIN: f64 = 20.0;
-const KEY: &str = "One below the other: in sequence. With a double line between: in parallel. Small numbers are the statements'.";
+const KEY: &str = "One below the other: in sequence. With a double line between: in parallel. Sequences and parallels have no box of their own. Small numbers are the statements'.";
 
 /// A file of its own.
 pub fn file(shown: &Shown) -> String {
-    let mut heads = vec![Words::bold(heading(shown), 15.0), Words::new(shown.block.counts(), 12.0)];
-    heads.extend(state(shown).map(|said| Words::new(said, 12.0)));
-    drawn(shown, &heads).file(&heading(shown), &about(shown))
+    drawn(shown, true).file(&heading(shown), &about(shown))
 }
 
 /// For a page that has the style, and the heading.
 pub fn element(shown: &Shown) -> String {
-    drawn(shown, &[]).element(&heading(shown), &about(shown))
+    drawn(shown, false).element(&heading(shown), &about(shown))
 }
 
 fn heading(shown: &Shown) -> String {
@@ -34,23 +33,25 @@ fn about(shown: &Shown) -> String {
 /// What the state says, and how it is marked.
 fn state(shown: &Shown) -> Option<String> {
     shown.state.map(|state| match state.phase_name() {
+        Some("running") if state.pauses().len() == 1 => format!("{}: it is marked, and frames round it have thick lines", in_words(&state)),
         Some("running") => format!("{}: these are marked, and frames round them have thick lines", in_words(&state)),
         _ => format!("its state: {}", in_words(&state)),
     })
 }
 
-fn drawn(shown: &Shown, heads: &[Words]) -> Picture {
+fn drawn(shown: &Shown, has_heads: bool) -> Picture {
     let (root, _) = part(shown, 0);
     let (width, height) = root.size();
-    let key = Words::new(KEY, 11.0);
-    let inner = heads.iter().chain(Some(&key)).map(Words::width).fold(width, f64::max);
-    let top = MARGIN + 20.0 * heads.len() as f64 + if heads.is_empty() { 0.0 } else { 8.0 };
-    let mut picture = Picture::new(inner + 2.0 * MARGIN, top + height + 24.0 + MARGIN, &style::CHART);
-    for (k, line) in heads.iter().enumerate() {
-        picture.words_from(at(MARGIN, MARGIN + 13.0 + 20.0 * k as f64), line, if k == 0 { "heading" } else { "faint about" });
-    }
+    let least = width.max(LEAST);
+    let about: Vec<String> = std::iter::once(shown.block.counts()).chain(state(shown)).collect();
+    let heads = if has_heads { Lines::heading(&heading(shown), &about, least) } else { Lines::default() };
+    let mut key = Lines::default();
+    key.add(&Words::new(KEY, 11.0), "faint key", least);
+    let top = MARGIN + heads.height(8.0);
+    let mut picture = Picture::new(key.width(heads.width(least)) + 2.0 * MARGIN, top + height + 6.0 + key.height(0.0) + MARGIN, &style::CHART);
+    heads.draw(at(MARGIN, MARGIN), &mut picture);
     root.draw(Area::of(MARGIN, top, width, height), &mut picture);
-    picture.words_from(at(MARGIN, top + height + 20.0), &key, "faint key");
+    key.draw(at(MARGIN, top + height + 7.0), &mut picture);
     picture
 }
 
