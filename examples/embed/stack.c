@@ -112,7 +112,7 @@ static void run(void)
 /* Runs a call and counts the bytes from its caller's answer down to the lowest that is no longer painted. */
 static uint16_t measure(int which)
 {
-    size_t low = 0, limit = which == ALIKE ? FOLDHERON_ALIKE_STACK_MOST : which == READ_TEXT ? FOLDHERON_READ_TEXT_STACK_MOST : FOLDHERON_STACK_MOST;
+    size_t low = 0, limit = which == ALIKE ? FOLDHERON_ALIKE_STACK_MOST : FOLDHERON_STACK_MOST;
     call = which;
     memset(painted, PAINT, sizeof painted);
     getcontext(&inside);
@@ -238,7 +238,6 @@ int main(int count, char **words)
         printf("%s: %lu bytes\n", names[n], (unsigned long)most[n]);
     if (count > 1)
         printf("%u instants answered, %u mazes\n", answered, mazes);
-    printf("stack: %d calls over %d bytes, or %d where two blocks are compared, or %d where a text is read\n", over, FOLDHERON_STACK_MOST,
-           FOLDHERON_ALIKE_STACK_MOST, FOLDHERON_READ_TEXT_STACK_MOST);
+    printf("stack: %d calls over %d bytes, or %d where two blocks are compared\n", over, FOLDHERON_STACK_MOST, FOLDHERON_ALIKE_STACK_MOST);
     return over != 0;
 }

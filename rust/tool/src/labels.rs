@@ -30,12 +30,23 @@ pub struct Labels {
     names: Vec<Option<String>>,
     /// The lines of the text on which the statements stand, by their numbers, as far as they are known.
     lines: Vec<Option<usize>>,
+    /// The text that they are of.
+    pub text: Option<Text>,
+    /// Why the lines of the text are left out, where they are.
+    pub stale: Option<String>,
+}
+
+/// A text as a names file names it: the SHA-256 of its bytes, and its path from the folder of that file.
+#[derive(Clone, PartialEq, Eq, Debug)]
+pub struct Text {
+    pub sha256: String,
+    pub path: String,
 }
 
 impl Labels {
     pub fn numbered(summary: &Summary) -> Labels {
         let (inputs, outputs, locals) = (summary.inputs.into(), summary.outputs.into(), summary.locals.into());
-        Labels { inputs, outputs, locals, names: vec![None; inputs + outputs + locals], lines: vec![None; summary.statements.into()] }
+        Labels { inputs, outputs, locals, names: vec![None; inputs + outputs + locals], lines: vec![None; summary.statements.into()], text: None, stale: None }
     }
 
     /// Puts a statement on a line of the text; answers why it cannot be there.
@@ -53,6 +64,13 @@ impl Labels {
     /// The line of a statement, where it is known.
     pub fn line(&self, statement: usize) -> Option<usize> {
         self.lines.get(statement).copied().flatten()
+    }
+
+    /// The same without the lines, for a reason.
+    pub fn without_lines(mut self, why: String) -> Labels {
+        self.lines.iter_mut().for_each(|line| *line = None);
+        self.stale = Some(why);
+        self
     }
 
     pub fn has_lines(&self) -> bool {

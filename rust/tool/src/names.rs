@@ -17,6 +17,10 @@ use std::sync::Once;
 pub const FIRST: &str = "foldheron names 1";
 /// What begins the line on a statement's place in the text.
 const LINE: &str = "line";
+/// What begins the line on the text, with its hash and its path from the folder of the names file.
+const TEXT: &str = "text ";
+/// What a names file that was made from a text has in its second line, before the text's name.
+pub const FROM: &str = "# from ";
 /// A names file is read up to here; 64 names and the lines of 512 statements take less.
 pub const MOST: usize = 1 << 14;
 
@@ -91,6 +95,15 @@ fn settle(wanted: &mut Vec<(&'static str, String)>, key: &str, value: &str) -> R
         "statements" => format!("it is for another block: it has {} statements, and this block has {}", value, ours),
         _ => format!("it is for another block: its {} is {}, and this block's is {}", key, value, ours),
     })
+}
+
+fn text_of(labels: &mut Labels, rest: &str) -> Result<(), String> {
+    match rest.split_once(' ') {
+        Some((sha256, path)) if labels.text.is_none() => labels.text = Some(Text { sha256: sha256.to_string(), path: path.to_string() }),
+        Some(_) => return Err("a text is named twice".to_string()),
+        None => return Err(format!("'{}' is no SHA-256 and a text's file", rest)),
+    }
+    Ok(())
 }
 
 fn line_of(labels: &mut Labels, statement: &str, line: &str) -> Result<(), String> {

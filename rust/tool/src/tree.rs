@@ -5,8 +5,9 @@ use crate::layout::Operand;
 use crate::names::tell_stale;
 use crate::walk::Statement;
 
-/// The line above the tree; with the lines of the text where these are known.
+/// The line above the tree; with the lines of the text where these are known. Where they are left out that is told.
 pub fn head(labels: &Labels) -> String {
+    tell_stale(labels);
     format!(" no.  offset  {}statement", if labels.has_lines() { "line  " } else { "" })
 }
 

@@ -44,7 +44,10 @@ fn one(path: &Path, is_checked: bool, out: &mut Out) -> Outcome<Status> {
     };
     match (laid == text, path == Path::new(files::STDIN)) {
         (true, _) if is_checked => Ok(Status::Good),
-        (false, _) if is_checked => out.line(&format!("{}: not laid out so", files::shown(path))).map(|_| Status::NotExpected),
+        (false, _) if is_checked => {
+            let word = files::printable(&path.to_string_lossy());
+            out.line(&format!("{}: laid out otherwise: foldheron fmt {} lays it out", files::shown(path), word)).map(|_| Status::NotExpected)
+        }
         (_, true) => out.text(&String::from_utf8_lossy(&laid)).map(|_| Status::Good),
         (true, _) => Ok(Status::Good),
         _ => {

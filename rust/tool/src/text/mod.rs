@@ -2,6 +2,7 @@
 //! the maker's names.
 
 pub mod fault;
+mod hint;
 pub mod place;
 pub mod refused;
 pub mod source;

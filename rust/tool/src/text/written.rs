@@ -61,11 +61,22 @@ fn is_made(name: &str) -> bool {
     name.starts_with(|first| "IOST".contains(first)) && name[1..].bytes().all(|byte| byte.is_ascii_digit())
 }
 
-/// What the maker called a signal, where that may be a name in a text.
-fn makers_name(labels: &Labels, signal: usize) -> Option<String> {
+/// What the maker called a signal, without the number that `keep` puts behind it.
+fn given_name(labels: &Labels, signal: usize) -> Option<&str> {
     let name = labels.name(signal)?;
-    let plain = name.strip_suffix(&format!("_{}", signal)).unwrap_or(name);
-    Some(plain.to_string()).filter(|name| may_be_name(name))
+    Some(name.strip_suffix(&format!("_{}", signal)).unwrap_or(name))
+}
+
+/// The same, where that may be a name in a text.
+fn makers_name(labels: &Labels, signal: usize) -> Option<String> {
+    given_name(labels, signal).filter(|name| may_be_name(name)).map(str::to_string)
+}
+
+/// The names that a text of a block has not, each with what stands there in its place.
+pub fn replaced(text: &[u8], labels: &Labels) -> Vec<(String, String)> {
+    let here = Source::of(text).signals.into_iter().map(|declared| String::from_utf8_lossy(declared.name).into_owned());
+    let pairs = here.enumerate().filter_map(|(signal, here)| given_name(labels, signal).map(|name| (name.to_string(), here)));
+    pairs.filter(|(name, here)| name != here).collect()
 }
 
 /// Gives the statements the lines of a text, and the signals its names. One that another signal has, or that reads as another's number, gets its own number behind it: these are given back.
@@ -110,6 +121,8 @@ mod tests {
     #[test]
     fn names_that_are_given() {
         assert_eq!(shown(["", "", "", ""]), names_of(TEXT));
+        let pair = |name: &str, here: &str| (name.to_string(), here.to_string());
+        assert_eq!(replaced(TEXT, &labels(["I0", "O_UT", "", "B_3"])), [pair("O_UT", "O1"), pair("B", "S3")]);
         assert_eq!(shown(["IN", "OUT", "A", "B"]).join(" "), "IN OUT A A B IN T0 T0 OUT");
         // Two locals side by side may have one name; one name with an underscore is none in a text.
         assert_eq!(shown(["IN", "O_UT", "A", "A_3"]).join(" "), "IN O1 A A A IN T0 T0 O1");

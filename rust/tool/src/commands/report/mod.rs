@@ -37,7 +37,7 @@ pub static COMMAND: Command = Command {
         names::OPTION,
         names::NO_OPTION,
     ],
-    more: "One page, for a browser or for print: the block as a chart and as a tree, the run as a timing diagram and as a table, each refused instant\n\
+    more: "One page, for a browser or for print: the block as a chart, as text and as a tree, the run as a timing diagram and as a table, each refused instant\n\
            with its reason, of a 13 with a picture of what waits for what, the counts, and the versions of the block and of this program. It loads nothing.\n\
            All sets are run; the table has as many instants as the diagram, and of refused instants that are alike (the same state, the same inputs) one\n\
            is explained, 24 at most. No state and no log is written. It ends with the statuses of run.\n",

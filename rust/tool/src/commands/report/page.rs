@@ -137,5 +137,9 @@ fn block(report: &Report) -> Outcome<String> {
     let mut kept = Out::keeping();
     show::told(&shown, &mut kept)?;
     let about = paragraph("Boxes within boxes; what is active after the run is marked.");
-    Ok(section("block", "The block", &format!("{}{}{}", about, figure(&show::picture::element(&shown)), folded("The block as a tree", &lines(&kept.kept())))))
+    let text = show::text_of(report.block);
+    let note = show::names_replaced(report.block, &text).map_or(String::new(), |said| paragraph(&format!("Mind: {}.", said)));
+    let text = lines(String::from_utf8_lossy(&text).trim_end()) + &note;
+    let parts = [about, figure(&show::picture::element(&shown)), folded("The block as text", &text), folded("The block as a tree", &lines(&kept.kept()))];
+    Ok(section("block", "The block", &parts.concat()))
 }

@@ -11,12 +11,13 @@ use crate::files;
 use crate::labels::Labels;
 use crate::layout::State;
 use crate::names;
-use crate::output::Out;
+use crate::output::{warn, Out};
 use crate::refusal::is_conversions;
 use crate::run::keep;
 use crate::saved::in_words;
 use crate::status::Status;
-use crate::text::{self, written::with_labels};
+use crate::text;
+use crate::text::written::{replaced, with_labels};
 use crate::tree;
 use crate::trouble::{Outcome, Trouble};
 use crate::walk::{walk, Statement};
@@ -104,10 +105,25 @@ fn run(words: &Words, out: &mut Out) -> Outcome<Status> {
     Ok(Status::Good)
 }
 
-/// The text of a good block, with its signals' names.
-fn in_text(block: &Block) -> String {
+/// The text of a good block, with its signals' names as far as they may stand in a text.
+pub fn text_of(block: &Block) -> Vec<u8> {
     let text = text::write(&block.bytes).expect("a good block has a text");
-    String::from_utf8_lossy(&with_labels(&text, &block.bytes, &block.labels)).into_owned()
+    with_labels(&text, &block.bytes, &block.labels)
+}
+
+/// What is to be said where names could not stand in that text.
+pub fn names_replaced(block: &Block, text: &[u8]) -> Option<String> {
+    let others: Vec<String> = replaced(text, &block.labels).iter().map(|(name, here)| format!("{} for {}", here, name)).collect();
+    (!others.is_empty()).then(|| format!("names that cannot stand in this text are replaced in it: {}", crate::sets::listed(&others)))
+}
+
+/// The same, and a warning where names could not stand in it.
+fn in_text(block: &Block) -> String {
+    let text = text_of(block);
+    if let Some(said) = names_replaced(block, &text) {
+        warn(said, "a name in a text has 1 to 16 letters and digits, a letter first, is no keyword, and is declared once");
+    }
+    String::from_utf8_lossy(&text).into_owned()
 }
 
 /// The tree in lines.
