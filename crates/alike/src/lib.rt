@@ -1,5 +1,7 @@
 // Whether two blocks are told alike under every input run, or a first shortest run that tells them apart. The pairs of states that runs
 // reach are searched in the call's own frame; nothing is lent but the run.
+#![tactic(auto)]
+
 mod search;
 mod written;
 

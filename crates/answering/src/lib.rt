@@ -1,5 +1,7 @@
 // The public calls, each answered with a line on standard output: the name of the call, every number of its answer, and every byte that was lent to be
 // written, as it is after the call; of a part that comes back its bytes. reference/README.md says how the lines are written.
+#![tactic(auto)]
+
 use block_lines::{blocks, shelves};
 use printing::put;
 use state_lines::{check, excerpt, fresh, heard, heard_logged, instant, logged, reason};

@@ -1,5 +1,7 @@
 // The answers of the calls on no shelf as numbers, in the order of a line of the comparison: a refusal's number comes first, 0 where there is none, and what is
 // not named is 0.
+#![tactic(auto)]
+
 pub mod blocks;
 
 use foldheron::{Asked, Begun, Checked, Doubt, Instant, Reaction, Reason, Summary, number_of};

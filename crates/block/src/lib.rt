@@ -1,4 +1,6 @@
 // The reading of a block: its records, which fill its table, and the whole of it with the check of its loops.
+#![tactic(auto)]
+
 pub mod faults;
 pub mod reader;
 pub mod records;
@@ -6,7 +8,7 @@ pub mod steps;
 pub mod whole;
 
 // What the header declares.
-#[derive(Drop)]
+#[derive(Clone, Copy)]
 pub struct Declared {
     pub version: u16,
     pub inputs: u16,
@@ -15,7 +17,7 @@ pub struct Declared {
 }
 
 // What has been read: the first byte not read yet, and how many statements, pauses and locals there were.
-#[derive(Drop)]
+#[derive(Clone, Copy)]
 pub struct Cursor {
     pub at: usize,
     pub statements: usize,
@@ -24,7 +26,7 @@ pub struct Cursor {
 }
 
 // What stands around a statement: traps, locals, these locals as bits, and how many statements may still stand on the path.
-#[derive(Drop)]
+#[derive(Clone, Copy)]
 pub struct Context {
     pub traps: u16,
     pub nested: u16,

@@ -16,7 +16,7 @@ use tables::kinds::record_length;
 use tables::loops::lowest_endless;
 
 // What a good block declares, and how many statements and pauses it has.
-#[derive(Drop)]
+#[derive(Clone, Copy)]
 pub struct Summary {
     pub version: u16,
     pub inputs: u16,

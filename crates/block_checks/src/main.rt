@@ -4,6 +4,8 @@
 // The cases stand in the file stdin. The line of a case is its name, a bar, and numbers: 12 a maze, 13 two blocks, 14 a block doubled, 15 a corridor, 17 a block converted; the number and the place
 // expected; and what the call's own file here says. The lines after it are its first block, of 13 the second, and of 13, 14 and 17 the bytes expected in what is lent, each made
 // as checking::pages::block says.
+#![tactic(auto)]
+
 mod corridors;
 mod mazes;
 mod written;

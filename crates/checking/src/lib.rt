@@ -1,4 +1,6 @@
 // What the programs of checks share: the numbers of the refusals written by hand, the lines that say whether what came was expected, and blocks made for the cases.
+#![tactic(auto)]
+
 pub mod lines;
 pub mod pages;
 

@@ -1,6 +1,8 @@
 // Checks blocks, fresh states, states of other blocks, inputs, logs and excerpts at the boundaries of each refusal, with the numbers written by hand, and says of each
 // case what came and whether it is what was expected. The blocks stand in the file stdin, a line for each: the name of the case, a
 // bar, the number and the place expected, and how the block is made (see checking::pages::block).
+#![tactic(auto)]
+
 use checking::lines::{bar_after, between, numbers, part, word};
 use checking::pages::{block, state_of, tested};
 use checking::{byte, changed, number, say};

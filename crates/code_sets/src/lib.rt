@@ -1,4 +1,6 @@
 // Sets of completion codes as words, and what the rules do to them.
+#![tactic(auto)]
+
 ghost use Rattle.std.specs.Prelude.{◌≡◌, ◌<◌};
 ghost use Rattle.sets.specs.Numbers.{union, without, only_if, maxima, downs};
 ghost use Rattle.sets.specs.Words.{bits};

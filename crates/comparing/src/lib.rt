@@ -2,6 +2,8 @@
 //
 // Memory is constant: one case is held at a time, with a block and a shelf or second block of at most 131,072 bytes each, a state of at most 64 and a log of at
 // most 512. A file that ends within a case, or holds a longer one, gets the line `cut`, and nothing after that is read.
+#![tactic(auto)]
+
 mod head;
 
 ghost use Rattle.std.specs.Prelude.{◌≡◌, length};

@@ -1,4 +1,6 @@
 // A block of edition 2 written in edition 1: the forms of halt, sustain, await and abort, record by record, and the call.
+#![tactic(auto)]
+
 pub mod exits;
 pub mod scan;
 mod walk;

@@ -15,7 +15,7 @@ use tables::kinds::{Wire, wide_shape_of};
 use tables::loops::lower;
 
 // What the conversion of a statement takes: statements, pauses, the longest path, nested traps and locals, and the bytes of its records.
-#[derive(Drop)]
+#[derive(Clone, Copy)]
 pub struct Sizes {
     pub statements: usize,
     pub pauses: usize,

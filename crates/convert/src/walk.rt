@@ -22,7 +22,7 @@ pub struct Head {
 }
 
 // The traps (1) and aborts (0) around a statement, the innermost at bit 0, and how many they are.
-#[derive(Drop)]
+#[derive(Clone, Copy)]
 pub struct Marks {
     pub word: u64,
     pub count: u16,

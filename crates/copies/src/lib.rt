@@ -1,4 +1,6 @@
 // The block with each loop body in sequence with itself, written into lent bytes.
+#![tactic(auto)]
+
 mod copying;
 mod nodes;
 mod sizes;

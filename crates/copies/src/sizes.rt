@@ -9,7 +9,7 @@ use crate::nodes::{Node, node_at};
 
 // Statements, pauses, locals, the longest path and bytes, each at most 4,000: loops nested in each other double them at each level,
 // and no sum may wrap.
-#[derive(Drop)]
+#[derive(Clone, Copy)]
 pub struct Size {
     pub statements: u16,
     pub pauses: u16,

@@ -23,7 +23,7 @@ use words::given::{Mark, MustCan};
 use words::pauses::{Kept, members_of, pause_count};
 
 // A state's phase; the active set stands beside it.
-#[derive(Drop)]
+#[derive(Clone, Copy)]
 pub enum Phase {
     Fresh,
     Running,
@@ -38,7 +38,7 @@ pub struct Ended {
 }
 
 // The answer to an instant.
-#[derive(Drop)]
+#[derive(Clone, Copy)]
 pub struct Reacted {
     pub known: bool,
     pub present: u64,

@@ -1,6 +1,8 @@
 // The library's calls under C names; include/foldheron.h documents each. A call gives back the refusal's number, 0 for none, and writes the values
 // of its whole answer, 8 bytes each, into the bytes that are lent for it. Their length is fixed for each call: with any other, a call gives back 64,
 // ANSWER, and writes nothing anywhere.
+#![tactic(auto)]
+
 mod layout;
 
 ghost use Rattle.std.specs.Prelude.{◌≡◌};

@@ -1,6 +1,8 @@
 // What users call: the check of a block, a fresh state for it, one instant, one with a log record, an excerpt of a block, the reason of an
 // instant, the calls on a shelf of blocks: install, fetch and withdraw; whether two blocks are alike, a block with its loop bodies doubled, the maze
 // of a block with its corridors, blocks as text, and blocks of edition 2 written in edition 1.
+#![tactic(auto)]
+
 pub mod say_why;
 
 ghost use Rattle.std.specs.Prelude.{◌≡◌, false, ◌+◌, ◌≤◌, ◌<◌, length, get_or};

@@ -8,7 +8,7 @@ use tables::loops::second_at;
 
 // How a statement is taken: started, resumed, held as it is (a suspended body), or not at all (an arm of a parallel without an
 // active pause, a finished block).
-#[derive(Drop)]
+#[derive(Clone, Copy)]
 pub enum Going {
     Started,
     Resumed,
@@ -17,14 +17,14 @@ pub enum Going {
 }
 
 // What there is to do of a statement: its number, and how it is taken.
-#[derive(Drop)]
+#[derive(Clone, Copy)]
 pub struct Task {
     pub at: usize,
     pub going: Going,
 }
 
 // The things that there are to do, with the tasks that they leave.
-#[derive(Drop)]
+#[derive(Clone, Copy)]
 pub enum Form {
     Done,
     Stay(u16),

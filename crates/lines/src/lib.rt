@@ -1,4 +1,6 @@
 // The lines of a run as text, put into a buffer that is lent. Each `put` starts at `at` and answers where the text then ends.
+#![tactic(auto)]
+
 ghost use Rattle.std.specs.Prelude.{◌+◌, ◌≤◌, length};
 ghost use Rattle.io.specs.Counts.{IsPrefixLen};
 

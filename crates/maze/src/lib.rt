@@ -1,4 +1,6 @@
 // The maze of a block's first instant: which rooms win, lose and draw, and its corridors one by one.
+#![tactic(auto)]
+
 pub mod corridors;
 pub mod form;
 pub mod view;

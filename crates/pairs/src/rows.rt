@@ -3,7 +3,7 @@ ghost use Rattle.std.specs.Prelude.{◌≡◌, true, false, ◌≤◌, ◌<◌, 
 ghost use Rattle.pairs.specs.Rows.{rows_of, row_at, row_of, Finds, Full, Added};
 
 // The states of both blocks: their phase, and the active pauses of each.
-#[derive(Drop)]
+#[derive(Clone, Copy)]
 pub struct Pair {
     pub phase: u8,
     pub first: [u64; 2],

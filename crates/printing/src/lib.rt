@@ -1,4 +1,6 @@
 // The text of a line, written to standard output as it comes. Where standard output fails, it fails for the line's end too, which alone is looked at.
+#![tactic(auto)]
+
 ghost use Rattle.std.specs.Prelude.{◌≤◌, ◌<◌};
 ghost use Rattle.io.specs.Counts.{IsPrefixLen};
 

@@ -1,4 +1,6 @@
 // One instant on the caller's bytes: the tests in their written order, then the reaction by the rules. Nothing is written here.
+#![tactic(auto)]
+
 pub mod tests;
 
 ghost use Rattle.std.specs.Prelude.{◌≡◌, ◌≤◌};
@@ -23,7 +25,7 @@ use tables::kinds::Code;
 use words::events::Heard;
 
 // An answered instant: the present outputs as bits by signal number, the code, the rounds, how many pauses are active afterwards.
-#[derive(Drop)]
+#[derive(Clone, Copy)]
 pub struct Reaction {
     pub present: u64,
     pub code: Code,
@@ -50,7 +52,7 @@ pub enum Instant {
 }
 
 // The inputs of an instant: a set, with every other input absent; or the inputs present and the inputs absent, with the rest unknown.
-#[derive(Drop)]
+#[derive(Clone, Copy)]
 pub enum Given {
     All(u64),
     Two(u64, u64),

@@ -4,7 +4,7 @@ ghost use Rattle.read_steps.specs.Levels.{level_in, Roomy, Stored};
 
 // A place where statements are open: what closes it and what it declares, in one number; how many brackets opened at it besides; where its
 // name stands and its signal's number; and where in the block it begins, its last arm begins, and its last basic statement begins.
-#[derive(Drop)]
+#[derive(Clone, Copy)]
 pub struct Level {
     pub kind: u16,
     pub start: u16,

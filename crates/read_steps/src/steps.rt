@@ -11,7 +11,7 @@ use crate::levels::{Level, level_at, put_level};
 
 // What may stand next; whether nothing stands yet where the innermost level begins; how many bytes of records there are, how many levels
 // around the innermost, which number the next local has; and the innermost level.
-#[derive(Drop)]
+#[derive(Clone, Copy)]
 pub struct Stage {
     pub mode: u16,
     pub fresh: bool,

@@ -11,7 +11,7 @@ use text::tokens::Token;
 
 // What the header awaits, 0 in the statement; the version; how many inputs there are, and how many names in all; where the header's names
 // end; and the state of the statement.
-#[derive(Drop)]
+#[derive(Clone, Copy)]
 pub struct Reader {
     pub awaits: u16,
     pub version: u64,

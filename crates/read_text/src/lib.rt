@@ -1,4 +1,6 @@
 // Blocks read from kernel text: the header and the statement, one token a step, then the end.
+#![tactic(auto)]
+
 mod ending;
 mod heading;
 mod reading;

@@ -1,5 +1,7 @@
 // Checks the call that says why at the boundary of each refusal, with the numbers of the request written by hand, and says of each case what came and whether it is
 // what was expected: a number and its place, or 0 and the statement.
+#![tactic(auto)]
+
 use checking::pages::{state_of, tested};
 use checking::{number, say};
 use foldheron::{Asked, Reason};

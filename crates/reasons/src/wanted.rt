@@ -8,7 +8,7 @@ use forms::form::{Form, Going};
 use words::events::{Heard, Seen, status_at};
 
 // Every one, the emits of a signal, or the tests whose signal is undecided there.
-#[derive(Drop)]
+#[derive(Clone, Copy)]
 pub enum Wanted {
     Every,
     EmitOf(u16),

@@ -1,4 +1,6 @@
 // The records of document 01: the state record, the log record and the input set.
+#![tactic(auto)]
+
 pub mod bits;
 pub mod clash;
 pub mod fields;

@@ -1,4 +1,6 @@
 // Why a call is turned down: the refusals by name, and their numbers.
+#![tactic(auto)]
+
 ghost use Rattle.std.specs.Prelude.{◌≡◌};
 ghost use Rattle.refusals.specs.Refusals.{number, why_of};
 

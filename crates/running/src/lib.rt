@@ -5,6 +5,8 @@
 // A file that is missing is empty. A file that is there and cannot be opened or read, and output that cannot be written, end
 // the run: standard error says which and why, and nothing more is written, no `short` either. The lines of the input sets
 // that were read in full buffers before stay. (Standard output and standard error are all that a program can answer with.)
+#![tactic(auto)]
+
 mod file;
 mod line;
 mod sets;

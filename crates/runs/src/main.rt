@@ -1,5 +1,7 @@
 // Runs each folder of a list, one name to a line in the file `folders`: a heading, and then what the run prints. A folder, or
 // one of its two files, may be missing.
+#![tactic(auto)]
+
 ghost use Rattle.std.specs.Prelude.{◌≤◌, length};
 ghost use Rattle.io.specs.Counts.{IsPrefixLen};
 

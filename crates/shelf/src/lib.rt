@@ -1,5 +1,7 @@
 // One shelf of 65,536 lent bytes on which two parties keep blocks: install, fetch and withdraw. What one party is told depends on its own calls
 // alone; no offset in the shelf is ever told.
+#![tactic(auto)]
+
 mod places;
 mod walk;
 mod write;

@@ -2,6 +2,8 @@
 // was expected. The cases stand in the file stdin, one after the other on one shelf of 65,536 bytes. A line is a name, a bar, and numbers. The first is what is done: 9 install,
 // 10 fetch, 11 withdraw, 1 a byte made another, 2 a byte looked at, 3 installs under the names from 0 on. Then come the number expected, or the byte, or how many installs go; the place
 // expected, or the size of what is fetched; and the party and the name, or the byte's place, or how many names. After 9 and 3 comes a line with the block.
+#![tactic(auto)]
+
 use checking::lines::{bar_after, between, numbers, part, word};
 use checking::pages::{made, tested};
 use checking::{byte, changed, number, say};

@@ -1,4 +1,6 @@
 // The lines of the calls on one block, with or without a state and a log.
+#![tactic(auto)]
+
 use printing::{put, put_bytes, put_numbers};
 
 pub fn check(block: &[u8]) {

@@ -6,11 +6,11 @@ ghost use Rattle.tables.specs.Kinds.{shape, wide_shape, short, long, length_of};
 ghost use Rattle.tables.specs.Kinds.{wire_of};
 
 // An exit's depth: the traps passed over before its own.
-#[derive(Drop)]
+#[derive(Clone, Copy)]
 pub struct Depth(pub u16);
 
 // A completion code.
-#[derive(Drop)]
+#[derive(Clone, Copy)]
 pub struct Code(pub u32);
 
 // The one conversion.

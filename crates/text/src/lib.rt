@@ -1,3 +1,5 @@
 // Blocks as text: the tokens of a text, its reading and its writing.
+#![tactic(auto)]
+
 pub mod bytes;
 pub mod tokens;

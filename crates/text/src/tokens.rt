@@ -8,7 +8,7 @@ use records::numerals::number_at;
 
 // A token: a keyword or a mark by its number, 17 for a name, 18 for a number, 19 for no token and 20 for the end of the text; its first
 // byte, the first behind it, and what a number stands for.
-#[derive(Drop)]
+#[derive(Clone, Copy)]
 pub struct Token {
     pub kind: u16,
     pub start: usize,

@@ -3,6 +3,8 @@
 // The cases stand in the file stdin. The line of a case is its name, a bar, and numbers: 15, a text read, or 16, a block written; the number and the place expected; and how many bytes
 // are lent, which hold 165 before. The line after it is the block, made as checking::pages::block says; of a text that is refused it has no bytes. Then stands the text, up to the byte '#'.
 // Bytes past what is expected have to stay, and past what is lent.
+#![tactic(auto)]
+
 ghost use Rattle.std.specs.Prelude.{◌≤◌, length};
 
 use checking::lines::{bar_after, between, numbers, part, word};

@@ -1,5 +1,7 @@
 // The only crate that names the library for callers in C: each of its answers as plain numbers, in the order of the answer's layout. What an answer does
 // not name is 0.
+#![tactic(auto)]
+
 pub mod whole;
 
 ghost use Rattle.std.specs.Prelude.{◌≡◌, length};

@@ -1,4 +1,6 @@
 // Must and can of a statement at an event, in one walk that keeps what it finds.
+#![tactic(auto)]
+
 pub mod memo;
 
 ghost use Rattle.std.specs.Prelude.{◌≡◌, ◌<◌};

@@ -13,14 +13,14 @@ use words::events::{Heard, Seen};
 use words::given::{GivenWords, Mark, MustCan, settled_for};
 
 // What must and can gave, and the signals whose statuses were asked for on the way; under open mark only can is meant.
-#[derive(Drop)]
+#[derive(Clone, Copy)]
 pub struct Found {
     pub said: MustCan,
     pub reads: u64,
 }
 
 // What was found of a task at an event. The tag says which task and mark; 0 is nobody's.
-#[derive(Drop)]
+#[derive(Clone, Copy)]
 pub struct Entry {
     pub tag: u64,
     pub event: Heard,

@@ -6,14 +6,14 @@ ghost use Rattle.rules.specs.Events.{giving};
 ghost use Rattle.words.specs.Words.{event_of, seen_as};
 
 // An event: the bit of a present signal and the bit of an absent one; neither is unknown.
-#[derive(Drop)]
+#[derive(Clone, Copy)]
 pub struct Heard {
     pub present: u64,
     pub absent: u64,
 }
 
 // A status.
-#[derive(Drop)]
+#[derive(Clone, Copy)]
 pub enum Seen {
     Present,
     Absent,

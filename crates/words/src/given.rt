@@ -12,21 +12,21 @@ use tables::codes::code_bit;
 use tables::kinds::Code;
 
 // What must, or can with a mark, gives.
-#[derive(Drop)]
+#[derive(Clone, Copy)]
 pub struct GivenWords {
     pub signals: u64,
     pub codes: u32,
 }
 
 // What must and can give; under open mark only can is meant.
-#[derive(Drop)]
+#[derive(Clone, Copy)]
 pub struct MustCan {
     pub must: GivenWords,
     pub can: GivenWords,
 }
 
 // Can's mark: plus (surely executed) or open.
-#[derive(Drop)]
+#[derive(Clone, Copy)]
 pub enum Mark {
     Plus,
     Open,

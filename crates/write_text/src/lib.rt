@@ -1,4 +1,6 @@
 // The text of a block, written into lent bytes.
+#![tactic(auto)]
+
 mod bytes;
 mod header;
 mod names;

@@ -12,7 +12,7 @@ use tables::loops::second_at;
 
 // Where a statement is put: the place of its first byte; 0 where a basic statement is due, 1 for a sequence, 2 for a whole statement; how
 // many constructs are open and how many traps stand around it; and the block's inputs and outputs.
-#[derive(Drop)]
+#[derive(Clone, Copy)]
 pub struct Spot {
     pub to: usize,
     pub level: u16,
