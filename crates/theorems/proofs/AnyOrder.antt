@@ -131,7 +131,7 @@ module _ (b : Block) (p : Step) (heard : Hearing) where
       go (inr f) = inr (λ i v j. f i (justified_round j).0 v j)
 
   -- With a step for each undecided output an order comes to its end.
-  one_before : {vs ws : List Status} {n i : ℕ} {v : Status} → Justifies b p heard vs i v → Order b p heard (set vs i v) n ws → Order b p heard vs (suc n) ws
+  one_before : {vs : List Status} {i : ℕ} {v : Status} {ws : List Status} {n : ℕ} → Justifies b p heard vs i v → Order b p heard (set vs i v) n ws → Order b p heard vs (suc n) ws
   one_before j none_yet = one_more none_yet j
   one_before j (one_more o k) = one_more (one_before j o) k
 

@@ -16,7 +16,6 @@ returns-in-26 c = c.local_wrong.ensures ∙ sym (signal_local _ _ _ _ _ c.in-26.
 
 pub returns-in-19-to-20 : goal.returns-in-19-to-20
 returns-in-19-to-20 c =
-    let args = c.args in
     ap not c.declared_here.ensures ∙ sym (signal_test _ _ _ _ _ (nineteen_or_twenty {k = c.args.kind} (omega arith) (omega arith)))
 
 pub returns-in_default : goal.returns-in_default

@@ -114,7 +114,6 @@ inner-around-requires t c =
     let by_its_own : Passes c.args.c.room (length c.args.b.now) (header_of c.args.d) (around_of c.args.c) (sofar_of c.args.r)
     c.two_bytes-kind.result c.two_bytes-operand.result = passes_at _ _ _ _ _ _ c.two_bytes-kind.ensures c.two_bytes-operand.ensures (no_fault) in
     let g = by_its_own in
-    let y = c.requires.0 in
     (omega (arith, pos_of_ne-zero g.roomy), omega (arith, c.requires.0.few_traps), omega (arith, c.requires.0.few_nested), λ e. omega (arith, (g.declaring e).0, (g.declaring e).1, c.requires.0.signals))
 
 pub offset_bounds-sizes-n : goal.offset_bounds-sizes-n
@@ -142,8 +141,7 @@ passed-requires t c =
     (around_of c.args.c) (sofar_of c.args.r)
     (kind_at c.args.b.now c.args.r.at)
     (operand_at c.args.b.now c.args.r.at) = passes_at _ _ _ _ _ _ refl refl (no_fault) in
-    let its_shape : Shaped c.two_bytes-kind.result c.in-Allowed.s = shaped _ (sym c.shape_of-shape.ensures ∙ c.in-Allowed.is) in
-    let y = c.requires.0 in (
+    let its_shape : Shaped c.two_bytes-kind.result c.in-Allowed.s = shaped _ (sym c.shape_of-shape.ensures ∙ c.in-Allowed.is) in (
       (its_shape).its_length,
       omega (arith, (passed_test).ends, c.requires.0.fits),
       omega
@@ -175,8 +173,7 @@ passed-next-requires t c =
     (around_of c.args.c) (sofar_of c.args.r)
     (kind_at c.args.b.now c.args.r.at)
     (operand_at c.args.b.now c.args.r.at) = passes_at _ _ _ _ _ _ refl refl (no_fault) in
-    let its_shape : Shaped c.two_bytes-kind.result c.in-Allowed.s = shaped _ (sym c.shape_of-shape.ensures ∙ c.in-Allowed.is) in
-    let y = c.requires.0 in (
+    let its_shape : Shaped c.two_bytes-kind.result c.in-Allowed.s = shaped _ (sym c.shape_of-shape.ensures ∙ c.in-Allowed.is) in (
       (its_shape).its_length,
       omega (arith, (passed_test).ends, c.requires.0.fits),
       omega
@@ -215,9 +212,7 @@ overflow_sub-sizes t c =
       room = c.inner-around.ensures.1;
       next = e;
     } in
-    let first_sized : let r = c.in-Got.one in (c.args.r.statements ≤ c.in-Got.one.statements) × (c.in-Got.one.statements ≤ 512) = let w = hand _ c.passed-next.ensures in
-    let full = c.requires.1 in
-    let kept = c.kept.ensures in
+    let first_sized : (c.args.r.statements ≤ c.in-Got.one.statements) × (c.in-Got.one.statements ≤ 512) = let w = hand _ c.passed-next.ensures in
     (omega (arith, size₁ w c.requires.1 c.kept.ensures c.read_at-first.ensures c.in-Got.is), few₁ w c.requires.1 c.kept.ensures c.read_at-first.ensures c.in-Got.is) in
     (first_sized).0
 
@@ -234,9 +229,7 @@ overflow_cast-sizes t c =
       room = c.inner-around.ensures.1;
       next = e;
     } in
-    let first_sized : let r = c.in-Got.one in (c.args.r.statements ≤ c.in-Got.one.statements) × (c.in-Got.one.statements ≤ 512) = let w = hand _ c.passed-next.ensures in
-    let full = c.requires.1 in
-    let kept = c.kept.ensures in
+    let first_sized : (c.args.r.statements ≤ c.in-Got.one.statements) × (c.in-Got.one.statements ≤ 512) = let w = hand _ c.passed-next.ensures in
     (omega (arith, size₁ w c.requires.1 c.kept.ensures c.read_at-first.ensures c.in-Got.is), few₁ w c.requires.1 c.kept.ensures c.read_at-first.ensures c.in-Got.is) in
     let few = (first_sized).1 in omega arith
 
@@ -309,9 +302,7 @@ overflow_sub-sizes-in-Got-second t c =
       room = c.inner-around.ensures.1;
       next = e;
     } in
-    let second_sized : let r = c.in-Got-second.two in (c.args.r.statements ≤ c.in-Got-second.two.statements) × (c.in-Got-second.two.statements ≤ 512) = let w = hand _ c.passed-next.ensures in
-    let full = c.requires.1 in
-    let kept = c.kept.ensures in
+    let second_sized : (c.args.r.statements ≤ c.in-Got-second.two.statements) × (c.in-Got-second.two.statements ≤ 512) = let w = hand _ c.passed-next.ensures in
     let children = (its_shape).its_children in
     let no₀ : (children_of c.two_bytes-kind.result ≡ 0 → ⊥) = λ e. c.if-children-eq0.false (children ∙ e) in
     let no₁ : (children_of c.two_bytes-kind.result ≡ 1 → ⊥) = λ e. c.if-children-eq1.false (children ∙ e) in (
@@ -334,9 +325,7 @@ overflow_cast-sizes-in-Got-second t c =
       room = c.inner-around.ensures.1;
       next = e;
     } in
-    let second_sized : let r = c.in-Got-second.two in (c.args.r.statements ≤ c.in-Got-second.two.statements) × (c.in-Got-second.two.statements ≤ 512) = let w = hand _ c.passed-next.ensures in
-    let full = c.requires.1 in
-    let kept = c.kept.ensures in
+    let second_sized : (c.args.r.statements ≤ c.in-Got-second.two.statements) × (c.in-Got-second.two.statements ≤ 512) = let w = hand _ c.passed-next.ensures in
     let children = (its_shape).its_children in
     let no₀ : (children_of c.two_bytes-kind.result ≡ 0 → ⊥) = λ e. c.if-children-eq0.false (children ∙ e) in
     let no₁ : (children_of c.two_bytes-kind.result ≡ 1 → ⊥) = λ e. c.if-children-eq1.false (children ∙ e) in (

@@ -14,12 +14,11 @@ overflow_add-result-2 c = omega (arith, c.one_if-2.ensures.1)
 
 pub returns : goal.returns
 unfolding inside
-returns c =
-    let args = c.args in (
-      λ i. record {
-        traps = c.args.c.traps + c.one_if.ensures.0 i;
-        nested = c.args.c.nested + c.one_if-2.ensures.0 i;
-        scope = c.with_local.ensures i;
-      },
-      omega arith,
-    )
+returns c = (
+  λ i. record {
+    traps = c.args.c.traps + c.one_if.ensures.0 i;
+    nested = c.args.c.nested + c.one_if-2.ensures.0 i;
+    scope = c.with_local.ensures i;
+  },
+  omega arith,
+)

@@ -45,6 +45,5 @@ pub returns-in_default : goal.returns-in_default
 unfolding codes_for
 returns-in_default c =
     λ h.
-    let m = c.in_default.in_default-own.rest in
     is_set (is_single 0) ∙ code_zero c.args.kind c.args.operand (bits c.args.first) (bits c.args.second) c.in_default.in_default-own.rest.0.0.0.0.0.0.0.1
     c.in_default.in_default-own.rest.0.0.0.0.0.0.1 c.in_default.in_default-own.rest.0.0.0.0.0.1 c.in_default.in_default-own.rest.0.0.0.0.1 c.in_default.in_default-own.rest.0.0.0.1 c.in_default.in_default-own.rest.0.0.1 c.in_default.in_default-own.rest.0.1 c.in_default.in_default-own.rest.1

@@ -1,0 +1,27 @@
+-- `clash::pauses_before`: the counter is the count of pauses before the place, and is kept at each. Assumes nothing.
+use borrow.Author.Rules.{rules}
+use mathlib.Core.Path.{◌≡◌, refl, ◌∙◌}
+use Prim.Native.Nat.{ℕ, ◌-◌, ◌≤◌, ◌<◌}
+use native.Mathlib.Omega.{arith}
+use lib.ListN.{length, get_or, length-set}
+use Rattle.records.specs.Clashing.{before}
+use Rattle.records.proofs.Steps.{count_more, count_same, filled_more}
+use Rattle.records.proofs.clash.pauses_before.Goals as goal
+use Rattle.records.proofs.clash.pauses_before.Goals.{then-kinds-i-eq17, else-kinds-i-eq17}
+
+pub loop-i-init : goal.loop-i-init
+unfolding before
+loop-i-init c = (search rules, refl, search rules, refl, λ j h. absurd (omega arith))
+
+pub loop-i-preserved : goal.loop-i-preserved
+loop-i-preserved c =
+    let e : c.loop-i.n ≡ before c.args.kinds.now c.loop-i.i = c.loop-i.invariant.3 in (
+      search rules,
+      length-set c.loop-i.firsts c.loop-i.i c.loop-i.n ∙ c.loop-i.invariant.1,
+      elim c.if-kinds-i-eq17.branch [ then-kinds-i-eq17 w ↦ omega arith | else-kinds-i-eq17 w ↦ omega arith ],
+      elim c.if-kinds-i-eq17.branch [ then-kinds-i-eq17 w ↦ w.n-is ∙ count_more c.args.kinds.now c.loop-i.i e w.if-kinds-i-eq17.true | else-kinds-i-eq17 w ↦ w.n-is ∙ count_same c.args.kinds.now c.loop-i.i e w.if-kinds-i-eq17.false ],
+      filled_more c.args.kinds.now c.loop-i.firsts c.loop-i.i c.loop-i.n (omega arith) e c.loop-i.invariant.4,
+    )
+
+pub returns : goal.returns
+returns c = record { first = λ i h. c.loop-i.invariant.4 i (omega arith) }

@@ -1,0 +1,16 @@
+-- `clash::pauses_before`: the counter is the count of pauses before the place, and is kept at each. Assumes nothing.
+use borrow.Author.Rules.{rules}
+use mathlib.Core.Path.{◌≡◌, refl, ◌∙◌}
+use mathlib.Core.Logic.{⊎_elim}
+use Prim.Native.Nat.{ℕ, ◌-◌, ◌≤◌, ◌<◌}
+use native.Mathlib.Omega.{arith}
+use lib.ListN.{length, get_or, length-set}
+use Rattle.records.specs.Clashing.{before}
+use Rattle.records.proofs.Steps.{count_more, count_same, filled_more}
+use Rattle.records.proofs.clash.pauses_before.Given as goal
+
+abbrev pub invariant-loop-i : goal.invariant-loop-i
+invariant-loop-i l = (l.i ≤ l.count) × (length l.firsts ≡ 512) × (l.n ≤ l.i) × (l.n ≡ before l.kinds l.i) × ((j : ℕ) → j < l.i → get_or l.firsts j 0 ≡ before l.kinds j)
+
+abbrev pub decreases-loop-i : goal.decreases-loop-i
+decreases-loop-i l = l.count - l.i

@@ -1,0 +1,9 @@
+-- `log::no_room`: the definition's two tests, the difference taken only where it is one. Assumes nothing.
+use Rattle.records.proofs.Writing.{beyond_log, within_log}
+use Rattle.records.proofs.log.no_room.Goals as goal
+
+pub returns-then-len-end : goal.returns-then-len-end
+returns-then-len-end c = λ log e. beyond_log log c.args.end e c.if-len-end.true
+
+pub returns-else-len-end : goal.returns-else-len-end
+returns-else-len-end c = λ log e. within_log log c.args.end e c.if-len-end.false
