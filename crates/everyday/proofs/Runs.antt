@@ -132,7 +132,9 @@ module _ (b : Block₂) where
       → SameRun (run₂ b st givens) (run conversion st' (map (heard_there (interface b) (converted b.body)) givens))
   unfolding run₂ run
   run_same ph [] = at_end
-  run_same ph (given ∷ givens) = let a = instant_alike ph given.heard in and_then a.same_answer (run_same a.same_after givens)
+  run_same {st = st} {st' = st'} ph (given ∷ givens) =
+      let a = instant_alike ph given.heard in
+      and_then a.same_answer (run_same {st = after st (react₂ b st given.heard)} {st' = after st' (react conversion st' given.heard)} a.same_after givens)
 
   -- From fresh, any run is the same by the direct meaning and by the conversion.
   pub the_conversion_agrees : (givens : List (InputSet (interface b)))

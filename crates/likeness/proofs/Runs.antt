@@ -124,7 +124,9 @@ module _ (b : Block) (t : Stmt) where
     pub run_same : {st st' : State} → SamePhase R st st' → Legal t st' → (givens : List (InputSet b)) → SameRun (run b st givens) (run b' st' (map heard_there givens))
     unfolding run
     run_same ph l [] = at_end
-    run_same ph l (given ∷ givens) = let r = instant_same ph l given.heard in and_then r.0 (run_same r.1 r.2 givens)
+    run_same {st = st} {st' = st'} ph l (given ∷ givens) =
+        let r = instant_same ph l given.heard in
+        and_then r.0 (run_same {st = after st (react b st given.heard)} {st' = after st' (react b' st' given.heard)} r.1 r.2 givens)
 
     pub fresh_run_same : (givens : List (InputSet b)) → SameRun (run b fresh givens) (run b' fresh (map heard_there givens))
     unfolding Legal
