@@ -1,0 +1,21 @@
+-- `evaluate::rounds::going_of` meets its contract: by the phase.
+-- Assumes nothing.
+use mathlib.Core.Path.{sym, ap}
+use Rattle.rules.specs.Instant.{started}
+use Rattle.rules.specs.States.{step}
+use Rattle.forms.specs.Forms.{step_of}
+use Rattle.evaluate.specs.Reacts.{state_of}
+use borrow.Author.Rules.{rules}
+use Rattle.evaluate.proofs.rounds.going_of.Goals as goal
+
+pub returns-in-Fresh : goal.returns-in-Fresh
+unfolding step_of step started
+returns-in-Fresh c = λ A t. ap (λ ph. step t (state_of ph A)) (sym c.in-Fresh.is)
+
+pub returns-in-Running : goal.returns-in-Running
+unfolding step_of step started
+returns-in-Running c = λ A t. ap (λ ph. step t (state_of ph A)) (sym c.in-Running.is)
+
+pub returns-in-Finished : goal.returns-in-Finished
+unfolding step_of step started
+returns-in-Finished c = λ A t. ap (λ ph. step t (state_of ph A)) (sym c.in-Finished.is)

@@ -1,0 +1,14 @@
+-- `walk::walk_shelf`: the entries before the place are read, and the reading goes on from there. Assumes nothing.
+use mathlib.Core.Path.{◌≡◌, sym, ◌∙◌}
+use Prim.Native.Nat.{◌-◌}
+use native.Mathlib.Omega.{arith}
+use lib.ListN.{length}
+use borrow.Author.Tests.{not-true, not-false}
+use Rattle.shelf.proofs.Walking.{Walking, walking_begin, walking_ends, walking_end, walking_more, forward, no_size, no_shelf, on_shelf}
+use Rattle.shelf.proofs.walk.walk_shelf.Given as goal
+
+abbrev pub invariant-loop-end : goal.invariant-loop-end
+invariant-loop-end l = Walking l.shelf l.at × (length l.shelf ≡ 65536)
+
+abbrev pub decreases-loop-end : goal.decreases-loop-end
+decreases-loop-end l = length l.shelf - l.at

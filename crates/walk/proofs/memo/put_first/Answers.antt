@@ -1,0 +1,13 @@
+-- `walk::memo::put_first` meets its contract: four words one after the other.
+-- Assumes nothing.
+use mathlib.Core.Path.{ap, ◌∙◌}
+use mathlib.Core.List.{List}
+use Prim.Native.Nat.{ℕ, ◌+◌}
+use lib.ListN.{set}
+use borrow.Author.Rules.{rules}
+use Rattle.walk.proofs.memo.put_first.Goals as goal
+
+pub returns : goal.returns
+returns c =
+    c.put_word-4.ensures ∙ ap (λ (l : List ℕ). set l (c.args.j + 3) c.args.d)
+    (c.put_word-3.ensures ∙ ap (λ (l : List ℕ). set l (c.args.j + 2) c.args.c) (c.put_word-2.ensures ∙ ap (λ (l : List ℕ). set l (c.args.j + 1) c.args.b) c.put_word.ensures))
