@@ -9,7 +9,7 @@ use Rattle.block.specs.Good.{Scoped, locals, Next}
 use Rattle.everyday.specs.Statements.{nothing, pause, halt, emit, sustain, await, exit, suspend_on, loop, trap, local, abort_when}
 use Rattle.everyday.specs.Statements.{present_then_else, in_sequence, in_parallel, Everyday, alone, around, between}
 use Rattle.everyday.specs.Conversion.{deeper, past_trap, pauses_made, convert}
-use Rattle.converting.specs.Legal.{Scoped₂, locals₂, Next₂}
+use Rattle.converting.specs.Legal.{scope_inside, Scoped₂, locals₂, Next₂}
 
 pub made_scoped : (i o : ℕ) (S : Numbers) (out : Depth → Depth) (j : ℕ) (p : Everyday) → Scoped₂ i o S p → Scoped i o S (convert out j p)
 unfolding Scoped₂ Scoped convert
@@ -23,7 +23,7 @@ made_scoped i o S out j (alone (exit d)) s = tt
 made_scoped i o S out j (around (suspend_on n) p) s = (s.0, made_scoped i o S out j p s.1)
 made_scoped i o S out j (around loop p) s = made_scoped i o S out j p s.1
 made_scoped i o S out j (around trap p) s = made_scoped i o S (past_trap out) j p s.1
-made_scoped i o S out j (around (local n) p) s = (s.0, made_scoped i o _ out j p s.1)
+made_scoped i o S out j (around (local n) p) s = (s.0, made_scoped i o (scope_inside (local n) S) out j p s.1)
 made_scoped i o S out j (around (abort_when n) p) s = (((s.0, made_scoped i o S (λ d. deeper (out d)) j p s.1), tt), (tt, (s.0, tt, tt)))
 made_scoped i o S out j (between (present_then_else n) p q) s = (s.0, made_scoped i o S out j p s.1, made_scoped i o S out (j + pauses_made p) q s.2)
 made_scoped i o S out j (between in_sequence p q) s = (made_scoped i o S out j p s.1, made_scoped i o S out (j + pauses_made p) q s.2)

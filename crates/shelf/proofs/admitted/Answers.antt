@@ -23,22 +23,22 @@ overflow_add-needed c =
 
 pub overflow_add-needed-2 : goal.overflow_add-needed-2
 overflow_add-needed-2 c =
-    let p = (c.requires.walks, c.requires.party_bound) in let w = walked_to _ p.0 refl in omega
-    (arith, c.held_of-held.ensures w.0 w.1.laid, quota c.args.party w.0 w.1.laid.legal, (sound c.args.block.now p.1.1.0 p.1.1.1).size)
+    let w = walked_to _ c.requires.walks refl in omega
+    (arith, c.held_of-held.ensures w.0 w.1.laid, quota c.args.party w.0 w.1.laid.legal, (sound c.args.block.now c.requires.party_bound.1.0 c.requires.party_bound.1.1).size)
 
 pub returns-then-same-end : goal.returns-then-same-end
 unfolding number
 returns-then-same-end c =
-    let p = (c.requires.walks, c.requires.party_bound) in let w = walked_to _ p.0 refl in let w = turned_down_so c.args.shelf.now
+    let w = walked_to _ c.requires.walks refl in let w = turned_down_so c.args.shelf.now
     (install c.args.party c.args.name c.args.block.now) Why.Taken
-    (name_taken w.1 c.args.party c.args.name c.args.block.now p.1.0 p.1.1.1 (c.entry_of-same.ensures w.0 w.1.laid) c.if-same-end.true) in record { result_value = w.0; shelf_after = w.1 }
+    (name_taken w.1 c.args.party c.args.name c.args.block.now c.requires.party_bound.0 c.requires.party_bound.1.1 (c.entry_of-same.ensures w.0 w.1.laid) c.if-same-end.true) in record { result_value = w.0; shelf_after = w.1 }
 
 pub returns-then-needed-gt32768 : goal.returns-then-needed-gt32768
 unfolding number
 returns-then-needed-gt32768 c =
-    let p = (c.requires.walks, c.requires.party_bound) in let w = walked_to _ p.0 refl in let w = turned_down_so c.args.shelf.now
+    let w = walked_to _ c.requires.walks refl in let w = turned_down_so c.args.shelf.now
     (install c.args.party c.args.name c.args.block.now) Why.Quota
-    (over_quota w.1 c.args.party c.args.name c.args.block.now p.1.0 p.1.1.1 (c.entry_of-same.ensures w.0 w.1.laid) c.if-same-end.false
+    (over_quota w.1 c.args.party c.args.name c.args.block.now c.requires.party_bound.0 c.requires.party_bound.1.1 (c.entry_of-same.ensures w.0 w.1.laid) c.if-same-end.false
     (c.held_of-held.ensures w.0 w.1.laid) c.if-needed-gt32768.true) in record { result_value = w.0; shelf_after = w.1 }
 
 pub slice_bounds-put_entry-count : goal.slice_bounds-put_entry-count
@@ -49,12 +49,12 @@ slice_bounds-put_entry-start c = let w = walked_to _ c.requires.walks refl in om
 
 pub put_entry-requires : goal.put_entry-requires
 put_entry-requires c =
-    let p = (c.requires.walks, c.requires.party_bound) in let w = walked_to _ p.0 refl in let r = room_for w.1 c.args.party c.args.name c.args.block.now
-    p.1.0 p.1.1.1 (c.entry_of-same.ensures w.0 w.1.laid) c.if-same-end.false (c.held_of-held.ensures w.0 w.1.laid)
+    let w = walked_to _ c.requires.walks refl in let r = room_for w.1 c.args.party c.args.name c.args.block.now
+    c.requires.party_bound.0 c.requires.party_bound.1.1 (c.entry_of-same.ensures w.0 w.1.laid) c.if-same-end.false (c.held_of-held.ensures w.0 w.1.laid)
     c.if-needed-gt32768.false (omega (arith, c.ranges)) in omega (arith, r)
 
 pub returns : goal.returns
 returns c =
-    let p = (c.requires.walks, c.requires.party_bound) in let w = walked_to _ p.0 refl in let w = entry_on w.1 c.args.party c.args.name c.args.block.now p.1.0
-    p.1.1.1 (c.entry_of-same.ensures w.0 w.1.laid) c.if-same-end.false (c.held_of-held.ensures w.0 w.1.laid) c.if-needed-gt32768.false
+    let w = walked_to _ c.requires.walks refl in let w = entry_on w.1 c.args.party c.args.name c.args.block.now c.requires.party_bound.0
+    c.requires.party_bound.1.1 (c.entry_of-same.ensures w.0 w.1.laid) c.if-same-end.false (c.held_of-held.ensures w.0 w.1.laid) c.if-needed-gt32768.false
     (omega (arith, c.ranges)) c.put_entry.ensures in record { result_value = w.0; shelf_after = w.1 }

@@ -21,24 +21,24 @@ entry_end-end-requires c = (c.loop-end.invariant.0.before, c.loop-end.invariant.
 
 pub returns-then-end-at : goal.returns-then-end-at
 returns-then-end-at c =
-    no_shelf _ (walking_ends c.loop-end.invariant.0 (sym (not-true _ c.loop-end-test.true) ∙ c.zeros_from.ensures)
+    no_shelf _ (walking_ends c.loop-end.invariant.0 (sym (c.loop-end-test.true) ∙ c.zeros_from.ensures)
     c.entry_end-end.ensures c.if-end-at.true)
 
 pub loop-end-smaller : goal.loop-end-smaller
 loop-end-smaller c =
     omega (
       arith,
-      forward c.loop-end.invariant.0 (sym (not-true _ c.loop-end-test.true) ∙ c.zeros_from.ensures)
+      forward c.loop-end.invariant.0 (sym (c.loop-end-test.true) ∙ c.zeros_from.ensures)
           c.entry_end-end.ensures c.if-end-at.false,
     )
 
 pub loop-end-preserved : goal.loop-end-preserved
 loop-end-preserved c = (
-  walking_more c.loop-end.invariant.0 (sym (not-true _ c.loop-end-test.true) ∙ c.zeros_from.ensures) c.entry_end-end.ensures
+  walking_more c.loop-end.invariant.0 (sym (c.loop-end-test.true) ∙ c.zeros_from.ensures) c.entry_end-end.ensures
       c.if-end-at.false (record { byte = λ i. (c.shared_slice_known-1.given i).fits }),
   c.loop-end.invariant.1,
 )
 
 pub returns : goal.returns
 returns c =
-    on_shelf (walking_end c.loop-end.invariant.0 c.loop-end.invariant.1 (sym (not-false _ c.loop-end-test.false) ∙ c.zeros_from.ensures))
+    on_shelf (walking_end c.loop-end.invariant.0 c.loop-end.invariant.1 (sym (c.loop-end-test.false) ∙ c.zeros_from.ensures))

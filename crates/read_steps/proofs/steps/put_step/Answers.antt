@@ -1,0 +1,14 @@
+-- `steps::put_step`: a record at the end. Assumes nothing.
+use native.Mathlib.Omega.{arith}
+use mathlib.Core.Path.{◌≡◌, refl, sym, ap, ◌∙◌}
+use borrow.Author.Rules.{rules}
+use Prim.Native.Nat.{ℕ, suc, ◌+◌, ◌-◌}
+use Rattle.read_steps.specs.Moves.{made}
+use Rattle.read_steps.specs.Holding.{state_of}
+use Rattle.read_steps.proofs.StepLaws.{put_held}
+use Rattle.read_steps.proofs.steps.put_step.Goals as goal
+
+pub returns : goal.returns
+unfolding made
+returns c =
+    λ names marks name. record { does = λ text at g h ok. put_held text h c.args.kind c.args.operand (c.append-size.ensures g.block h.written) }
