@@ -24,11 +24,11 @@ put_word-requires c =
     c.put_names-first.ensures.puts c.put_names-second.ensures.puts in
     body_ends c.requires.1.1 c.digits.result c.digits.ensures.result_value p (c.put_statement-done.ensures c.requires.1.0 c.requires.1.1.stands)
 
-pub shape_of-out : goal.shape_of-out
-shape_of-out c = filled_size {before = c.args.out.now} (returns c c.requires.0 c.requires.1.0 c.requires.1.1)
-
 pub returns : goal.returns
 returns c =
     let p = front_put c.args.s.version c.args.s.inputs c.args.s.outputs c.digits.result c.put_word-worded.ensures.puts c.digits.ensures.result_value c.put_word-numbered.ensures.puts c.put_word-closed.ensures.puts
     c.put_names-first.ensures.puts c.put_names-second.ensures.puts in
     λ h t d. text_filled d c.digits.result c.digits.ensures.result_value p (c.put_statement-done.ensures t d.stands) c.put_word.ensures.puts
+
+pub shape_of-out : goal.shape_of-out
+shape_of-out c = filled_size {before = c.args.out.now} (returns c c.requires.0 c.requires.1.0 c.requires.1.1)

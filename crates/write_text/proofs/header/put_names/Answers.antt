@@ -17,7 +17,7 @@ loop-s-init c = names_begun (signal_word c.args.inputs c.args.outputs) (omega (a
 
 pub put_named-at-requires-in-loop-s : goal.put_named-at-requires-in-loop-s
 put_named-at-requires-in-loop-s c =
-    omega (arith, c.loop-s.invariant.near, c.loop-s.invariant.high, c.put_named-at.ensures.upper_bound, (c.requires.to_bound, c.requires.count_bound))
+    omega (arith, c.loop-s.invariant.near, c.loop-s.invariant.high, c.put_named-at.ensures.upper_bound, c.requires.to_bound, c.requires.count_bound)
 
 pub loop-s-preserved : goal.loop-s-preserved
 loop-s-preserved c =
@@ -25,12 +25,12 @@ loop-s-preserved c =
 
 pub put_word-requires : goal.put_word-requires
 put_word-requires c =
-    omega (arith, c.loop-s.invariant.near, c.loop-s.invariant.high, c.put_named-at.ensures.upper_bound, (c.requires.to_bound, c.requires.count_bound))
-
-pub shape_of-out : goal.shape_of-out
-shape_of-out c = same_size {a = c.args.out.now} (returns_2 c).0
+    omega (arith, c.loop-s.invariant.near, c.loop-s.invariant.high, c.put_named-at.ensures.upper_bound, c.requires.to_bound, c.requires.count_bound)
 
 pub returns : goal.returns
 returns c =
     let f = signal_word c.args.inputs c.args.outputs in
-    record { puts = names_put f c.args.word c.args.start c.args.count c.if-count-eq0.false c.put_named-at.ensures.puts c.loop-s.invariant (omega (arith, c.loop-s-test.false)) c.put_word.ensures.puts; upper_bound = omega (arith, c.loop-s.invariant.near, c.loop-s.invariant.high, c.put_named-at.ensures.upper_bound, c.put_word.ensures.upper_bound, (c.requires.to_bound, c.requires.count_bound)) }
+    record { puts = names_put f c.args.word c.args.start c.args.count c.if-count-eq0.false c.put_named-at.ensures.puts c.loop-s.invariant (omega (arith, c.loop-s-test.false)) c.put_word.ensures.puts; upper_bound = omega (arith, c.loop-s.invariant.near, c.loop-s.invariant.high, c.put_named-at.ensures.upper_bound, c.put_word.ensures.upper_bound, c.requires.to_bound, c.requires.count_bound) }
+
+pub shape_of-out : goal.shape_of-out
+shape_of-out c = same_size {a = c.args.out.now} (returns c).puts

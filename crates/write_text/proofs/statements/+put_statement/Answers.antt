@@ -98,9 +98,6 @@ put_closing-requires-in-20 t c =
     let one = one_child c.requires.stands c.in-20.is in
     record { le_kind = k.0; kind_bound = k.1; to_bound = over_closes c.args.spot one c.put_opening-begun.ensures c.inside-body.ensures (c.put_statement-done-in-20.ensures one.child one.stands) c.requires.rest c.requires.short }
 
-pub shape_of-out-in-19 : goal.shape_of-out-in-19
-shape_of-out-in-19 t c = same_size {a = c.args.out.now} (put_statement_returns t c c.requires.tree c.requires.stands)
-
 pub returns-in-19 : goal.returns-in-19
 returns-in-19 t c =
     let e = same_level c.args.spot (get_or c.args.kinds.now c.args.at 0) _ c.inside-first.ensures c.first_level.ensures in
@@ -110,8 +107,8 @@ returns-in-19 t c =
     joins_put c.args.spot two c.put_opening-begun.ensures e (c.put_statement-half.ensures two.first two.first_stands) c.put_between-next.ensures g
     (c.put_statement-done.ensures two.second two.second_stands) c.put_closing.ensures
 
-pub shape_of-out-in-20 : goal.shape_of-out-in-20
-shape_of-out-in-20 t c = same_size {a = c.args.out.now} (put_statement_returns_2 t c c.requires.tree c.requires.stands)
+pub shape_of-out-in-19 : goal.shape_of-out-in-19
+shape_of-out-in-19 t c = same_size {a = c.args.out.now} (returns-in-19 t c c.requires.tree c.requires.stands)
 
 pub returns-in-20 : goal.returns-in-20
 returns-in-20 t c =
@@ -119,9 +116,12 @@ returns-in-20 t c =
     let one = one_child w c.in-20.is in
     over_put c.args.spot one c.put_opening-begun.ensures c.inside-body.ensures (c.put_statement-done-in-20.ensures one.child one.stands) c.put_closing-in-20.ensures
 
-pub shape_of-out-in_default : goal.shape_of-out-in_default
-shape_of-out-in_default t c = same_size {a = c.args.out.now} (put_statement_returns_3 t c c.requires.tree c.requires.stands)
+pub shape_of-out-in-20 : goal.shape_of-out-in-20
+shape_of-out-in-20 t c = same_size {a = c.args.out.now} (returns-in-20 t c c.requires.tree c.requires.stands)
 
 pub returns-in_default : goal.returns-in_default
 returns-in_default t c =
     λ t w. told_as (leaf_text w c.in_default.in_default-own.rest.0.1 c.in_default.in_default-own.rest.1 c.args.spot) c.put_opening-begun.ensures
+
+pub shape_of-out-in_default : goal.shape_of-out-in_default
+shape_of-out-in_default t c = same_size {a = c.args.out.now} (returns-in_default t c c.requires.tree c.requires.stands)

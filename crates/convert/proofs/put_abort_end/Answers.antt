@@ -1,0 +1,14 @@
+-- `put_abort_end`: its records, one after the other. Assumes nothing.
+use mathlib.Core.Path.{◌∙◌}
+use borrow.Author.Rules.{rules}
+use Rattle.sets.specs.Numbers.{listed}
+use Rattle.tables.specs.Kinds.{length_of}
+use Rattle.block.proofs.Views.{an_exit, leafs}
+use Rattle.convert.proofs.FormLaws.{one_stored, watch_as_stored, and_stored, put_abort_end_ends}
+use Rattle.convert.proofs.put_abort_end.Goals as goal
+
+pub returns : goal.returns
+returns c =
+    let w = and_stored (one_stored _ _ _ (leafs an_exit) c.put_record-a.ensures.value c.put_record-a.ensures.out_after)
+    (watch_as_stored _ _ _ c.put_watch.ensures.value c.put_watch.ensures.out_after) in
+    record { value = w.ends ∙ put_abort_end_ends _ _; out_after = w.stored }

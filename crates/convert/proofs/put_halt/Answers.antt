@@ -1,0 +1,14 @@
+-- `put_halt`: its records, one after the other. Assumes nothing.
+use mathlib.Core.Path.{◌∙◌}
+use borrow.Author.Rules.{rules}
+use Rattle.sets.specs.Numbers.{listed}
+use Rattle.tables.specs.Kinds.{length_of}
+use Rattle.block.proofs.Views.{a_loop, a_pause, aboves, leafs}
+use Rattle.convert.proofs.FormLaws.{one_stored, and_stored, put_halt_ends}
+use Rattle.convert.proofs.put_halt.Goals as goal
+
+pub returns : goal.returns
+returns c =
+    let w = and_stored (one_stored _ _ _ (aboves a_loop) c.put_record-a.ensures.value c.put_record-a.ensures.out_after)
+    (one_stored _ _ _ (leafs a_pause) c.put_record.ensures.value c.put_record.ensures.out_after) in
+    record { value = w.ends ∙ put_halt_ends _; out_after = w.stored }

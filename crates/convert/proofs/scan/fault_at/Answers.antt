@@ -1,0 +1,14 @@
+-- `scan::fault_at`: a record that is due is tested as its likeness. Assumes nothing.
+use mathlib.Core.Path.{sym, ap, ◌∙◌}
+use Rattle.convert.proofs.ScanTests.{due_shape, due_as}
+use Rattle.block.specs.Format.{fault_as}
+use Rattle.convert.specs.Scans.{tested_as}
+use borrow.Author.Rules.{rules}
+use Rattle.convert.proofs.scan.fault_at.Goals as goal
+
+pub returns-then-b-at : goal.returns-then-b-at
+returns-then-b-at c = sym (due_shape _ _ _ _ _ c.if-b-at.true)
+
+pub returns : goal.returns
+returns c =
+    c.fault_as.ensures ∙ ap (fault_as _ _ _ _ _) (c.tested_as.ensures ∙ ap tested_as c.two_bytes-kind.ensures) ∙ sym (due_as _ _ _ _ _ c.if-b-at.false)

@@ -1,0 +1,14 @@
+-- `maze::corridors::is_given` meets its contract: the code reads the bit.
+-- Assumes nothing.
+use mathlib.Core.Path.{refl, sym}
+use Rattle.sets.specs.Words.{bits}
+use Rattle.sets.proofs.Words.{bits_high}
+use borrow.Author.Rules.{rules}
+use Rattle.maze.proofs.corridors.is_given.Goals as goal
+
+pub returns-then-s-lt64 : goal.returns-then-s-lt64
+unfolding bits
+returns-then-s-lt64 c = refl
+
+pub returns-else-s-lt64 : goal.returns-else-s-lt64
+returns-else-s-lt64 c = sym (bits_high 64 c.ranges.given.fits c.if-s-lt64.false)

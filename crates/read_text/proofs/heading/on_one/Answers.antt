@@ -1,0 +1,14 @@
+-- `heading::on_one`: one number or the other. Assumes nothing.
+use mathlib.Core.Path.{◌≡◌, sym, ap, ◌∙◌}
+use mathlib.Core.Bool.{Bool, cond}
+use Prim.Native.Nat.{ℕ}
+use borrow.Author.Tests.{ne_eqb, eq-eqb}
+use borrow.Author.Rules.{rules}
+use lib.Dec.{eqb}
+use Rattle.read_text.proofs.heading.on_one.Goals as goal
+
+pub returns-then-kind-key : goal.returns-then-kind-key
+returns-then-kind-key c = sym (ap (λ (z : Bool). cond z c.args.to c.args.other) (eq-eqb c.args.kind c.args.key c.if-kind-key.true))
+
+pub returns : goal.returns
+returns c = sym (ap (λ (z : Bool). cond z c.args.to c.args.other) (ne_eqb c.args.kind c.args.key c.if-kind-key.false))
