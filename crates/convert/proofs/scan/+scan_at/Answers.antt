@@ -75,7 +75,7 @@ returns-then-children-eq0 t c =
     let hand : Hand c.args.b.now c.args.d c.args.c c.args.r c.two_bytes-kind.result c.two_bytes-operand.result c.inner-around.result c.passed-next.result = record {
       ready = c.requires.0;
       placed = c.requires.1;
-      its_record t c;
+      its_record = its_record;
       around_it = c.inner-around.ensures.0 ∙ ap (λ (j : ℕ). inside j c.two_bytes-operand.result (around_of c.args.c)) c.tested_as-like.ensures;
       room_left = c.inner-around.ensures.1;
       next = c.passed-next.ensures ∙ ap (λ (j : ℕ). past j (sofar_of c.args.r)) c.tested_as-like.ensures;
@@ -90,7 +90,7 @@ scan_at-first-requires t c =
     let hand : Hand c.args.b.now c.args.d c.args.c c.args.r c.two_bytes-kind.result c.two_bytes-operand.result c.inner-around.result c.passed-next.result = record {
       ready = c.requires.0;
       placed = c.requires.1;
-      its_record t c;
+      its_record = its_record;
       around_it = c.inner-around.ensures.0 ∙ ap (λ (j : ℕ). inside j c.two_bytes-operand.result (around_of c.args.c)) c.tested_as-like.ensures;
       room_left = c.inner-around.ensures.1;
       next = c.passed-next.ensures ∙ ap (λ (j : ℕ). past j (sofar_of c.args.r)) c.tested_as-like.ensures;
@@ -103,7 +103,7 @@ of_one-requires t c =
     let hand : Hand c.args.b.now c.args.d c.args.c c.args.r c.two_bytes-kind.result c.two_bytes-operand.result c.inner-around.result c.passed-next.result = record {
       ready = c.requires.0;
       placed = c.requires.1;
-      its_record t c;
+      its_record = its_record;
       around_it = c.inner-around.ensures.0 ∙ ap (λ (j : ℕ). inside j c.two_bytes-operand.result (around_of c.args.c)) c.tested_as-like.ensures;
       room_left = c.inner-around.ensures.1;
       next = c.passed-next.ensures ∙ ap (λ (j : ℕ). past j (sofar_of c.args.r)) c.tested_as-like.ensures;
@@ -117,7 +117,7 @@ returns-then-children-eq1 t c =
     let hand : Hand c.args.b.now c.args.d c.args.c c.args.r c.two_bytes-kind.result c.two_bytes-operand.result c.inner-around.result c.passed-next.result = record {
       ready = c.requires.0;
       placed = c.requires.1;
-      its_record t c;
+      its_record = its_record;
       around_it = c.inner-around.ensures.0 ∙ ap (λ (j : ℕ). inside j c.two_bytes-operand.result (around_of c.args.c)) c.tested_as-like.ensures;
       room_left = c.inner-around.ensures.1;
       next = c.passed-next.ensures ∙ ap (λ (j : ℕ). past j (sofar_of c.args.r)) c.tested_as-like.ensures;
@@ -132,7 +132,7 @@ scan_at-second-requires t c =
     let hand : Hand c.args.b.now c.args.d c.args.c c.args.r c.two_bytes-kind.result c.two_bytes-operand.result c.inner-around.result c.passed-next.result = record {
       ready = c.requires.0;
       placed = c.requires.1;
-      its_record t c;
+      its_record = its_record;
       around_it = c.inner-around.ensures.0 ∙ ap (λ (j : ℕ). inside j c.two_bytes-operand.result (around_of c.args.c)) c.tested_as-like.ensures;
       room_left = c.inner-around.ensures.1;
       next = c.passed-next.ensures ∙ ap (λ (j : ℕ). past j (sofar_of c.args.r)) c.tested_as-like.ensures;
@@ -146,7 +146,7 @@ of_two-requires t c =
     let hand : Hand c.args.b.now c.args.d c.args.c c.args.r c.two_bytes-kind.result c.two_bytes-operand.result c.inner-around.result c.passed-next.result = record {
       ready = c.requires.0;
       placed = c.requires.1;
-      its_record t c;
+      its_record = its_record;
       around_it = c.inner-around.ensures.0 ∙ ap (λ (j : ℕ). inside j c.two_bytes-operand.result (around_of c.args.c)) c.tested_as-like.ensures;
       room_left = c.inner-around.ensures.1;
       next = c.passed-next.ensures ∙ ap (λ (j : ℕ). past j (sofar_of c.args.r)) c.tested_as-like.ensures;
@@ -161,7 +161,7 @@ returns-in-Refused t c =
     let hand : Hand c.args.b.now c.args.d c.args.c c.args.r c.two_bytes-kind.result c.two_bytes-operand.result c.inner-around.result c.passed-next.result = record {
       ready = c.requires.0;
       placed = c.requires.1;
-      its_record t c;
+      its_record = its_record;
       around_it = c.inner-around.ensures.0 ∙ ap (λ (j : ℕ). inside j c.two_bytes-operand.result (around_of c.args.c)) c.tested_as-like.ensures;
       room_left = c.inner-around.ensures.1;
       next = c.passed-next.ensures ∙ ap (λ (j : ℕ). past j (sofar_of c.args.r)) c.tested_as-like.ensures;
@@ -177,7 +177,7 @@ returns-in-Refused-second t c =
     let hand : Hand c.args.b.now c.args.d c.args.c c.args.r c.two_bytes-kind.result c.two_bytes-operand.result c.inner-around.result c.passed-next.result = record {
       ready = c.requires.0;
       placed = c.requires.1;
-      its_record t c;
+      its_record = its_record;
       around_it = c.inner-around.ensures.0 ∙ ap (λ (j : ℕ). inside j c.two_bytes-operand.result (around_of c.args.c)) c.tested_as-like.ensures;
       room_left = c.inner-around.ensures.1;
       next = c.passed-next.ensures ∙ ap (λ (j : ℕ). past j (sofar_of c.args.r)) c.tested_as-like.ensures;
@@ -195,7 +195,7 @@ returns-in-Got-second t c =
     let hand : Hand c.args.b.now c.args.d c.args.c c.args.r c.two_bytes-kind.result c.two_bytes-operand.result c.inner-around.result c.passed-next.result = record {
       ready = c.requires.0;
       placed = c.requires.1;
-      its_record t c;
+      its_record = its_record;
       around_it = c.inner-around.ensures.0 ∙ ap (λ (j : ℕ). inside j c.two_bytes-operand.result (around_of c.args.c)) c.tested_as-like.ensures;
       room_left = c.inner-around.ensures.1;
       next = c.passed-next.ensures ∙ ap (λ (j : ℕ). past j (sofar_of c.args.r)) c.tested_as-like.ensures;
