@@ -7,6 +7,22 @@ use Rattle.block.proofs.Views.{a_parallel, a_sequence, a_suspend, a_trap, aboves
 use Rattle.convert.proofs.FormLaws.{one_stored, and_stored, put_abort_ends}
 use Rattle.convert.proofs.put_abort.Goals as goal
 
+pub put_record-a-requires : goal.put_record-a-requires
+unfolding length_of listed
+put_record-a-requires c = search rules
+
+pub put_record-b-requires : goal.put_record-b-requires
+unfolding length_of listed
+put_record-b-requires c = search rules
+
+pub put_record-c-requires : goal.put_record-c-requires
+unfolding length_of listed
+put_record-c-requires c = search rules
+
+pub put_record-requires : goal.put_record-requires
+unfolding length_of listed
+put_record-requires c = search rules
+
 pub returns : goal.returns
 returns c =
     let w = and_stored (one_stored _ _ _ (aboves a_trap) c.put_record-a.ensures.value c.put_record-a.ensures.out_after)

@@ -7,6 +7,14 @@ use Rattle.block.proofs.Views.{a_loop, a_pause, aboves, leafs}
 use Rattle.convert.proofs.FormLaws.{one_stored, and_stored, put_halt_ends}
 use Rattle.convert.proofs.put_halt.Goals as goal
 
+pub put_record-a-requires : goal.put_record-a-requires
+unfolding length_of listed
+put_record-a-requires c = search rules
+
+pub put_record-requires : goal.put_record-requires
+unfolding length_of listed
+put_record-requires c = search rules
+
 pub returns : goal.returns
 returns c =
     let w = and_stored (one_stored _ _ _ (aboves a_loop) c.put_record-a.ensures.value c.put_record-a.ensures.out_after)

@@ -69,7 +69,6 @@ inner-around-requires t c =
     (pos_of_ne-zero g.roomy, omega (arith, c.requires.0.few_traps), omega (arith, c.requires.0.few_nested), λ e. let z = g.declaring (sym c.tested_as-like.ensures ∙ e) in omega (arith, z.0, z.1, c.requires.0.signals))
 
 pub returns-then-children-eq0 : goal.returns-then-children-eq0
-unfolding hand
 returns-then-children-eq0 t c =
     let its_record : Stood c.args.b.now c.args.d c.args.c c.args.r c.two_bytes-kind.result c.two_bytes-operand.result = stood _ _ _ _ _ _ c.two_bytes-kind.ensures c.two_bytes-operand.ensures (sym c.fault_at-fault.ensures ∙ c.if-fault-ne0.false) in
     let hand : Hand c.args.b.now c.args.d c.args.c c.args.r c.two_bytes-kind.result c.two_bytes-operand.result c.inner-around.result c.passed-next.result = record {
@@ -111,7 +110,6 @@ of_one-requires t c =
     small_first (hand) c.scan_at-first.ensures c.in-Got.is
 
 pub returns-then-children-eq1 : goal.returns-then-children-eq1
-unfolding hand
 returns-then-children-eq1 t c =
     let its_record : Stood c.args.b.now c.args.d c.args.c c.args.r c.two_bytes-kind.result c.two_bytes-operand.result = stood _ _ _ _ _ _ c.two_bytes-kind.ensures c.two_bytes-operand.ensures (sym c.fault_at-fault.ensures ∙ c.if-fault-ne0.false) in
     let hand : Hand c.args.b.now c.args.d c.args.c c.args.r c.two_bytes-kind.result c.two_bytes-operand.result c.inner-around.result c.passed-next.result = record {
@@ -155,7 +153,6 @@ of_two-requires t c =
     (small_first w c.scan_at-first.ensures c.in-Got.is, small_second w c.scan_at-first.ensures c.in-Got.is c.scan_at-second.ensures c.in-Got-second.is)
 
 pub returns-in-Refused : goal.returns-in-Refused
-unfolding hand
 returns-in-Refused t c =
     let its_record : Stood c.args.b.now c.args.d c.args.c c.args.r c.two_bytes-kind.result c.two_bytes-operand.result = stood _ _ _ _ _ _ c.two_bytes-kind.ensures c.two_bytes-operand.ensures (sym c.fault_at-fault.ensures ∙ c.if-fault-ne0.false) in
     let hand : Hand c.args.b.now c.args.d c.args.c c.args.r c.two_bytes-kind.result c.two_bytes-operand.result c.inner-around.result c.passed-next.result = record {
@@ -171,7 +168,6 @@ returns-in-Refused t c =
     end_first (hand) c.scan_at-first.ensures (λ e. c.if-children-eq0.false (its_children ∙ e)) c.in-Refused.is
 
 pub returns-in-Refused-second : goal.returns-in-Refused-second
-unfolding hand
 returns-in-Refused-second t c =
     let its_record : Stood c.args.b.now c.args.d c.args.c c.args.r c.two_bytes-kind.result c.two_bytes-operand.result = stood _ _ _ _ _ _ c.two_bytes-kind.ensures c.two_bytes-operand.ensures (sym c.fault_at-fault.ensures ∙ c.if-fault-ne0.false) in
     let hand : Hand c.args.b.now c.args.d c.args.c c.args.r c.two_bytes-kind.result c.two_bytes-operand.result c.inner-around.result c.passed-next.result = record {
@@ -189,7 +185,6 @@ returns-in-Refused-second t c =
     (λ e. c.if-children-eq1.false (n ∙ e)) c.in-Refused-second.is
 
 pub returns-in-Got-second : goal.returns-in-Got-second
-unfolding hand
 returns-in-Got-second t c =
     let its_record : Stood c.args.b.now c.args.d c.args.c c.args.r c.two_bytes-kind.result c.two_bytes-operand.result = stood _ _ _ _ _ _ c.two_bytes-kind.ensures c.two_bytes-operand.ensures (sym c.fault_at-fault.ensures ∙ c.if-fault-ne0.false) in
     let hand : Hand c.args.b.now c.args.d c.args.c c.args.r c.two_bytes-kind.result c.two_bytes-operand.result c.inner-around.result c.passed-next.result = record {
