@@ -1,0 +1,10 @@
+-- `values::instant`: the answer told, and the state as the library leaves it. Assumes nothing.
+use mathlib.Core.Path.{◌∙◌, ap}
+use Rattle.reaction.specs.Instants.{Told}
+use Rattle.values.specs.Calls.{logged_values}
+use borrow.Author.Rules.{rules}
+use Rattle.values.proofs.instant.Goals as goal
+
+pub returns : goal.returns
+returns c =
+    record { value = c.told_values.ensures ∙ ap (λ (t : Told). logged_values t 0) c.instant.ensures.result_value; state_after = c.instant.ensures.state_after }
