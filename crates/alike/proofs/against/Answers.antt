@@ -2,7 +2,6 @@
 -- Assumes nothing.
 use Rattle.reaction.proofs.Fronts.{block_reads}
 use Rattle.alike.proofs.CallLaws.{second_fails, second_reads}
-use borrow.Author.Rules.{rules}
 use Rattle.alike.proofs.against.Goals as goal
 
 pub tested-requires : goal.tested-requires

@@ -2,7 +2,6 @@
 -- Assumes nothing.
 use Rattle.reaction.proofs.Fronts.{block_reads}
 use Rattle.alike.proofs.CallLaws.{first_fails, first_reads}
-use borrow.Author.Rules.{rules}
 use Rattle.alike.proofs.alike.Goals as goal
 
 pub against-requires : goal.against-requires

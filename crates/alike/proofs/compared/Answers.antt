@@ -2,7 +2,6 @@
 -- Assumes nothing.
 use mathlib.Core.Path.{refl}
 use Rattle.alike.proofs.CallLaws.{same_compared, over_compared, shown_by, shown_compared}
-use borrow.Author.Rules.{rules}
 use Rattle.alike.proofs.compared.Goals as goal
 
 pub search_all-ended-requires : goal.search_all-ended-requires

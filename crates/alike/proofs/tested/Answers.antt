@@ -2,7 +2,6 @@
 -- Assumes nothing.
 use Rattle.reaction.proofs.Fronts.{placed, few_signals}
 use Rattle.alike.proofs.CallLaws.{inputs_way, outputs_way, wide_way, room_way, compared_way}
-use borrow.Author.Rules.{rules}
 use Rattle.alike.proofs.tested.Goals as goal
 
 pub returns-then-s-t : goal.returns-then-s-t

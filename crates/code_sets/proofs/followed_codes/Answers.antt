@@ -3,7 +3,6 @@
 use mathlib.Core.Path.{sym, ◌∙◌}
 use lib.Dec.{lit<}
 use Rattle.code_sets.proofs.Laws.{goes_on, stops}
-use borrow.Author.Rules.{rules}
 use Rattle.code_sets.proofs.followed_codes.Goals as goal
 
 pub returns-then-has_code : goal.returns-then-has_code

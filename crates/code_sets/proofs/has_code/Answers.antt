@@ -3,7 +3,6 @@
 use mathlib.Core.Path.{refl}
 use native.Mathlib.Omega.{arith}
 use Rattle.sets.specs.Words.{bits}
-use borrow.Author.Rules.{rules}
 use Rattle.code_sets.proofs.has_code.Goals as goal
 
 pub returns-then-n-lt32 : goal.returns-then-n-lt32

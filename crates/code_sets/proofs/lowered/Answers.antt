@@ -2,7 +2,6 @@
 -- Assumes nothing.
 use native.Mathlib.Omega.{arith}
 use Rattle.code_sets.proofs.Laws.{lowered_digit, lowered_is}
-use borrow.Author.Rules.{rules}
 use Rattle.code_sets.proofs.lowered.Goals as goal
 
 pub overflow_add-result-2 : goal.overflow_add-result-2

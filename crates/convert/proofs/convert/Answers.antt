@@ -1,7 +1,6 @@
 -- `convert`: a refusal of the reader is passed on; else the header and what the walk leaves are the bytes, where there is room for them. Assumes nothing.
 use native.Mathlib.Omega.{arith}
 use Rattle.convert.proofs.ConvertLaws.{refusal_passed, good_told, refusal_told, recorded, walks, room_answered, all_converted}
-use borrow.Author.Rules.{rules}
 use Rattle.convert.proofs.convert.Goals as goal
 
 pub returns-then-lent-size : goal.returns-then-lent-size

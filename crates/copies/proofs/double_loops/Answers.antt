@@ -1,6 +1,5 @@
 -- `double_loops`: a refusal of the block is passed on, and a good block's table is doubled. Assumes nothing.
 use Rattle.copies.proofs.DoublingLaws.{refusal_passed, table_ready, all_passed}
-use borrow.Author.Rules.{rules}
 use Rattle.copies.proofs.double_loops.Goals as goal
 
 pub put_doubled-requires : goal.put_doubled-requires

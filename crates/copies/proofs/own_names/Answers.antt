@@ -1,9 +1,7 @@
 -- `own_names`: each place below the counter has its own number. Assumes nothing.
-use mathlib.Core.Path.{◌≡◌, refl, ◌∙◌}
-use Prim.Native.Nat.{ℕ, ◌-◌, ◌≤◌, ◌<◌}
+use mathlib.Core.Path.{refl, ◌∙◌}
 use native.Mathlib.Omega.{arith}
-use lib.ListN.{length, get_or, length-set}
-use borrow.Author.Rules.{rules}
+use lib.ListN.{length-set}
 use Rattle.copies.proofs.DoublingLaws.{own_more}
 use Rattle.copies.proofs.own_names.Goals as goal
 

@@ -1,10 +1,7 @@
 -- `own_names`: each place below the counter has its own number. Assumes nothing.
-use mathlib.Core.Path.{◌≡◌, refl, ◌∙◌}
+use mathlib.Core.Path.{◌≡◌}
 use Prim.Native.Nat.{ℕ, ◌-◌, ◌≤◌, ◌<◌}
-use native.Mathlib.Omega.{arith}
-use lib.ListN.{length, get_or, length-set}
-use borrow.Author.Rules.{rules}
-use Rattle.copies.proofs.DoublingLaws.{own_more}
+use lib.ListN.{length, get_or}
 use Rattle.copies.proofs.own_names.Given as goal
 
 abbrev pub invariant-loop-i : goal.invariant-loop-i

@@ -2,11 +2,9 @@
 use mathlib.Core.Path.{sym, ap, ◌∙◌}
 use Prim.Native.Nat.{ℕ, ◌+◌}
 use native.Mathlib.Omega.{arith}
-use borrow.Author.Tests.{not-true, not-false}
 use lib.ListN.{length}
 use lib.Seq.{length-sets}
 use Rattle.copies.proofs.DoublingLaws.{limit_answered, room_answered, writes_all, all_written}
-use borrow.Author.Rules.{rules}
 use Rattle.copies.proofs.put_doubled.Goals as goal
 
 pub overflow_add-signals : goal.overflow_add-signals

@@ -1,7 +1,6 @@
 -- `within`: each limit in turn. Assumes nothing.
 use native.Mathlib.Omega.{arith}
 use Rattle.copies.proofs.DoublingLaws.{over_signals, over_statements, over_pauses, only_path}
-use borrow.Author.Rules.{rules}
 use Rattle.copies.proofs.within.Goals as goal
 
 pub returns-then-signals-size : goal.returns-then-signals-size

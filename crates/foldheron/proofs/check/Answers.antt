@@ -1,7 +1,6 @@
 -- `check` meets its contract: what is read has the values of the reading.
 -- Assumes nothing.
 use Rattle.foldheron.proofs.Owed.{check_is}
-use borrow.Author.Rules.{rules}
 use Rattle.foldheron.proofs.check.Goals as goal
 
 pub returns : goal.returns

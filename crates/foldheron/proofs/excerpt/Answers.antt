@@ -3,7 +3,6 @@
 use mathlib.Core.Path.{ap}
 use Rattle.foldheron.specs.declared.Part.{Part}
 use Rattle.foldheron.proofs.Owed.{part_cut}
-use borrow.Author.Rules.{rules}
 use Rattle.foldheron.proofs.excerpt.Goals as goal
 
 pub returns : goal.returns

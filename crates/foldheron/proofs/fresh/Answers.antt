@@ -2,7 +2,6 @@
 -- Assumes nothing.
 use mathlib.Core.Path.{◌∙◌}
 use Rattle.foldheron.proofs.Owed.{other_size, other_stays, fresh_written, state_written, fresh_refused, state_stays}
-use borrow.Author.Rules.{rules}
 use Rattle.foldheron.proofs.fresh.Goals as goal
 
 pub returns-then-state-ne26 : goal.returns-then-state-ne26

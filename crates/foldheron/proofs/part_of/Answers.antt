@@ -3,7 +3,6 @@
 use mathlib.Core.Path.{◌∙◌}
 use native.Mathlib.Omega.{arith}
 use Rattle.foldheron.proofs.Owed.{part_refused, part_past, few, past_few, start_first, part_found, part_within, no_part_within}
-use borrow.Author.Rules.{rules}
 use Rattle.foldheron.proofs.part_of.Goals as goal
 
 pub returns-then-s-n : goal.returns-then-s-n

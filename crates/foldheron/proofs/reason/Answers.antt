@@ -3,7 +3,6 @@
 use Rattle.reaction.proofs.Fronts.{placed, few_signals}
 use Rattle.reaction.proofs.Ways.{gone_in}
 use Rattle.foldheron.proofs.Reasons.{stopped_way, clash_way, ready_way}
-use borrow.Author.Rules.{rules}
 use Rattle.foldheron.proofs.reason.Goals as goal
 
 pub reason-requires : goal.reason-requires

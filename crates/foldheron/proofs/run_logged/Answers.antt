@@ -4,7 +4,6 @@ use mathlib.Core.Path.{refl, sym, ◌∙◌, ap}
 use Rattle.reaction.specs.Answers.{instant_told}
 use Rattle.records.proofs.Logs.{has_room}
 use Rattle.foldheron.proofs.Calls.{was_answered, was_not, with_log}
-use borrow.Author.Rules.{rules}
 use borrow.Enum.Refused.{opened}
 use Rattle.foldheron.proofs.run_logged.Goals as goal
 

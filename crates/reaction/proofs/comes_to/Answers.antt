@@ -1,7 +1,6 @@
 -- `comes_to` meets its contract: what the tests came to is told, and where all are passed the rules go on.
 -- Assumes nothing.
 use Rattle.reaction.proofs.Ways.{stopped_way, clash_way, ready_way, gone_in}
-use borrow.Author.Rules.{rules}
 use Rattle.reaction.proofs.comes_to.Goals as goal
 
 pub past_tests-requires : goal.past_tests-requires

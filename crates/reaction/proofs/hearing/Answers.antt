@@ -1,7 +1,6 @@
 -- `hearing` meets its contract: of one set every input is heard, of two what they have.
 -- Assumes nothing.
 use mathlib.Core.Path.{sym, ap, ◌∙◌}
-use borrow.Author.Rules.{rules}
 use Rattle.reaction.specs.Instants.{heard_in}
 use Rattle.reaction.proofs.hearing.Goals as goal
 

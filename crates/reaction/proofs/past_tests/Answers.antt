@@ -3,7 +3,6 @@
 use native.Mathlib.Omega.{arith}
 use Rattle.reaction.proofs.Fronts.{placed, few_signals}
 use Rattle.reaction.proofs.Ways.{room_way, react_way}
-use borrow.Author.Rules.{rules}
 use Rattle.reaction.proofs.past_tests.Goals as goal
 
 pub returns-then-roomless : goal.returns-then-roomless

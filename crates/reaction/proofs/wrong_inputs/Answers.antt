@@ -1,7 +1,6 @@
 -- `wrong_inputs` meets its contract: one set or two, by the test of each.
 -- Assumes nothing.
 use mathlib.Core.Path.{sym, ap, ◌∙◌}
-use borrow.Author.Rules.{rules}
 use Rattle.reaction.specs.Fronts.{wrong_inputs}
 use Rattle.reaction.proofs.wrong_inputs.Goals as goal
 

@@ -1,5 +1,4 @@
 -- `read_text`: what the loop over the tokens says is passed on, or the block that it has read is finished. Assumes nothing.
-use borrow.Author.Rules.{rules}
 use Rattle.read_text.proofs.OwedLaws.{outside_told, over_told, ready_to_end, block_told}
 use Rattle.read_text.proofs.read_text.Goals as goal
 

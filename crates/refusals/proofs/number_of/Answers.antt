@@ -1,7 +1,6 @@
 -- `number_of` meets its contract: each arm has its own number.
 -- Assumes nothing.
 use mathlib.Core.Path.{sym, ap}
-use borrow.Author.Rules.{rules}
 use Rattle.refusals.specs.Refusals.{number}
 use Rattle.refusals.proofs.number_of.Goals as goal
 

@@ -7,7 +7,6 @@ use Rattle.shelf.specs.Calls.{install}
 use Rattle.block.proofs.GoodReadings.{sound}
 use Rattle.shelf.proofs.Legality.{quota}
 use Rattle.shelf.proofs.Stored.{walked_to, turned_down_so, name_taken, over_quota, entry_on, room_for}
-use borrow.Author.Rules.{rules}
 use Rattle.shelf.proofs.admitted.Goals as goal
 
 pub entry_of-same-requires : goal.entry_of-same-requires

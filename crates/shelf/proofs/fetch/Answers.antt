@@ -1,6 +1,5 @@
 -- `fetch`: what is found on the shelf, cut out of it. Assumes nothing.
 use Rattle.shelf.proofs.Fetched.{cut_out}
-use borrow.Author.Rules.{rules}
 use Rattle.shelf.proofs.fetch.Goals as goal
 
 pub returns : goal.returns

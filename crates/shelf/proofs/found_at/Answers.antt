@@ -3,7 +3,6 @@ use native.Mathlib.Omega.{arith}
 use Rattle.shelf.specs.Calls.{fetch}
 use Rattle.shelf.proofs.Stored.{third_party, no_shelf_told, walked_to}
 use Rattle.shelf.proofs.Fetched.{nothing_found, not_there, found_there, room_there}
-use borrow.Author.Rules.{rules}
 use Rattle.shelf.proofs.found_at.Goals as goal
 
 pub returns-then-party-gt1 : goal.returns-then-party-gt1

@@ -3,7 +3,6 @@ use Rattle.refusals.specs.Refusals.{number}
 use Rattle.refusals.specs.declared.Why.TheVariants as Why
 use Rattle.shelf.specs.Calls.{install}
 use Rattle.shelf.proofs.Stored.{third_party, no_shelf_told, walked_to, turned_down_so, found_good, block_turned_down, walked_on}
-use borrow.Author.Rules.{rules}
 use Rattle.shelf.proofs.install.Goals as goal
 
 pub returns-then-party-gt1 : goal.returns-then-party-gt1

@@ -5,7 +5,6 @@ use Rattle.refusals.specs.declared.Why.TheVariants as Why
 use Rattle.shelf.specs.Calls.{withdraw}
 use Rattle.shelf.proofs.Stored.{third_party, no_shelf_told, walked_to, turned_down_so}
 use Rattle.shelf.proofs.Gaps.{not_there, eight_there, gap_there, gone}
-use borrow.Author.Rules.{rules}
 use Rattle.shelf.proofs.withdraw.Goals as goal
 
 pub returns-then-party-gt1 : goal.returns-then-party-gt1

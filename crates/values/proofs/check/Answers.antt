@@ -2,7 +2,6 @@
 use mathlib.Core.Path.{◌∙◌, sym, ap}
 use Rattle.foldheron.specs.Answers.{check_values}
 use Rattle.values.proofs.Known.{with_number}
-use borrow.Author.Rules.{rules}
 use Rattle.values.proofs.check.Goals as goal
 
 pub returns-in-Good : goal.returns-in-Good

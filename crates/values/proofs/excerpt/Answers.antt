@@ -1,7 +1,6 @@
 -- `values::excerpt`: the part's values as the library gives them. Assumes nothing.
 use mathlib.Core.Path.{ap}
 use Rattle.foldheron.specs.Answers.{part_values}
-use borrow.Author.Rules.{rules}
 use Rattle.values.proofs.excerpt.Goals as goal
 
 pub returns : goal.returns

@@ -1,12 +1,11 @@
 -- `values::fetch`: what the library hands back, copied to the front of the lent bytes, which have room for any block. Assumes nothing.
-use mathlib.Core.Path.{◌≡◌, ap}
+use mathlib.Core.Path.{ap}
 use Prim.Native.Nat.{◌≤◌}
 use native.Mathlib.Omega.{arith}
 use lib.ListN.{length}
 use Rattle.shelf.specs.Calls.{fetch, told}
 use Rattle.shelf.proofs.Told.{fetched_size}
 use Rattle.values.proofs.Known.{copied_over, three_values}
-use borrow.Author.Rules.{rules}
 use Rattle.values.proofs.fetch.Goals as goal
 
 pub copy_at-requires : goal.copy_at-requires

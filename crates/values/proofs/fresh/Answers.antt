@@ -2,7 +2,6 @@
 use mathlib.Core.Path.{◌∙◌, sym, ap}
 use Rattle.foldheron.specs.Answers.{begun_values}
 use Rattle.values.proofs.Known.{with_number}
-use borrow.Author.Rules.{rules}
 use Rattle.values.proofs.fresh.Goals as goal
 
 pub returns-in-Fresh : goal.returns-in-Fresh

@@ -1,6 +1,5 @@
 -- `values::install`: the library's answer as its values, and the shelf as the library leaves it. Assumes nothing.
 use mathlib.Core.Path.{◌∙◌}
-use borrow.Author.Rules.{rules}
 use Rattle.values.proofs.install.Goals as goal
 
 pub returns : goal.returns

@@ -2,7 +2,6 @@
 use mathlib.Core.Path.{◌∙◌, ap}
 use Rattle.reaction.specs.Instants.{Told}
 use Rattle.values.specs.Calls.{logged_values}
-use borrow.Author.Rules.{rules}
 use Rattle.values.proofs.instant.Goals as goal
 
 pub returns : goal.returns

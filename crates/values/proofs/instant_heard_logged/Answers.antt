@@ -1,7 +1,6 @@
 -- `values::instant_heard_logged`: the answer told with its end, and state and log as the library leaves them. Assumes nothing.
 use mathlib.Core.Path.{◌∙◌, ap₂}
 use Rattle.values.specs.Calls.{logged_values}
-use borrow.Author.Rules.{rules}
 use Rattle.values.proofs.instant_heard_logged.Goals as goal
 
 pub returns : goal.returns

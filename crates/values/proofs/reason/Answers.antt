@@ -4,7 +4,6 @@ use Rattle.rules.specs.Reasons.{Asked}
 use Rattle.foldheron.specs.Reasons.{reason_owed}
 use Rattle.values.specs.Calls.{asked_by}
 use Rattle.values.proofs.Asking.{question_told}
-use borrow.Author.Rules.{rules}
 use Rattle.values.proofs.reason.Goals as goal
 
 pub returns : goal.returns

@@ -2,7 +2,6 @@
 use mathlib.Core.Path.{◌∙◌, sym, ap}
 use Rattle.foldheron.specs.Reasons.{reason_values}
 use Rattle.values.proofs.Known.{with_number}
-use borrow.Author.Rules.{rules}
 use Rattle.values.proofs.reasoned.Goals as goal
 
 pub returns-in-Statement : goal.returns-in-Statement

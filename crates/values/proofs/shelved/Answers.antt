@@ -2,7 +2,6 @@
 use mathlib.Core.Path.{◌∙◌, sym, ap}
 use Rattle.shelf.specs.Answered.{shelved_values}
 use Rattle.values.proofs.Known.{with_number}
-use borrow.Author.Rules.{rules}
 use Rattle.values.proofs.shelved.Goals as goal
 
 pub returns-in-Done : goal.returns-in-Done

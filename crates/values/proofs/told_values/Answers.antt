@@ -4,7 +4,6 @@ use Rattle.reaction.specs.declared.Instant.{Instant}
 use Rattle.reaction.specs.Answers.{instant_told}
 use Rattle.values.specs.Calls.{logged_values}
 use Rattle.values.proofs.Known.{with_number}
-use borrow.Author.Rules.{rules}
 use Rattle.values.proofs.told_values.Goals as goal
 
 pub returns-in-Answered : goal.returns-in-Answered

@@ -3,7 +3,6 @@
 -- Assumes nothing.
 use mathlib.Core.Path.{refl, ap, ◌∙◌}
 use lib.Dec.{lit<}
-use borrow.Author.Rules.{rules}
 use Rattle.words.specs.Words.{seen_as, mark_of}
 use Rattle.words.proofs.WordLaws.{told_as}
 use Rattle.walk.proofs.Entries.{new_entry, still_open}
@@ -11,8 +10,6 @@ use Rattle.walk.proofs.Steps.{via_done, via_stay, via_keep, via_say, via_leave, 
 use Rattle.walk.proofs.Steps.{walked_as, walked_sure, walked_again, walked_present, walked_absent}
 use Rattle.walk.proofs.Steps.{walked_doubted, walked_beside, walked_catch, walked_chain, walked_skip, walked_local, walked_same}
 use Rattle.forms.proofs.FormLaws.{in_table, under_test, under_catch, under_scope, under_chain, under_beside, under_same}
-use Prim.Native.Nat.{ℕ, ◌+◌, ◌*◌, ◌<◌, max}
-use lib.ListN.{get_or}
 use Rattle.walk.proofs.+walk_walk_body_walk_chain_walk_local_walk_now.Goals as goal
 
 pub walk-is_kept-requires : goal.walk-is_kept-requires

@@ -1,17 +1,7 @@
 -- The proof of the cycle of calls of the walk: each way is a lemma of Steps, and the memory stays sound from call to call. The measure is four times the size of the
 -- statement, with up to three more for the functions between two statements.
 -- Assumes nothing.
-use mathlib.Core.Path.{refl, ap, ◌∙◌}
-use lib.Dec.{lit<}
-use borrow.Author.Rules.{rules}
-use Rattle.words.specs.Words.{seen_as, mark_of}
-use Rattle.words.proofs.WordLaws.{told_as}
-use Rattle.walk.proofs.Entries.{new_entry, still_open}
-use Rattle.walk.proofs.Steps.{via_done, via_stay, via_keep, via_say, via_leave, agree_refl, call, call_now, call_body, call_whole, call_known, call_local, call_chain, call_first, call_later}
-use Rattle.walk.proofs.Steps.{walked_as, walked_sure, walked_again, walked_present, walked_absent}
-use Rattle.walk.proofs.Steps.{walked_doubted, walked_beside, walked_catch, walked_chain, walked_skip, walked_local, walked_same}
-use Rattle.forms.proofs.FormLaws.{in_table, under_test, under_catch, under_scope, under_chain, under_beside, under_same}
-use Prim.Native.Nat.{ℕ, ◌+◌, ◌*◌, ◌<◌, max}
+use Prim.Native.Nat.{◌+◌, ◌*◌, max}
 use lib.ListN.{get_or}
 use Rattle.walk.proofs.+walk_walk_body_walk_chain_walk_local_walk_now.Given as goal
 

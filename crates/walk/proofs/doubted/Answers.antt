@@ -4,7 +4,6 @@ use mathlib.Core.Path.{ap₂, ◌∙◌}
 use lib.Bits.{bit_or}
 use Rattle.sets.specs.Numbers.{union}
 use Rattle.words.proofs.WordLaws.{union_is}
-use borrow.Author.Rules.{rules}
 use Rattle.walk.proofs.doubted.Goals as goal
 
 pub returns : goal.returns

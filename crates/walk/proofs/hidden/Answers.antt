@@ -2,7 +2,6 @@
 -- Assumes nothing.
 use Rattle.sets.proofs.Members.{ext}
 use Rattle.words.proofs.WordLaws.{without_bit}
-use borrow.Author.Rules.{rules}
 use Rattle.walk.proofs.hidden.Goals as goal
 
 pub returns : goal.returns

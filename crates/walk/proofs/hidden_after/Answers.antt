@@ -6,7 +6,6 @@ use Rattle.sets.specs.Numbers.{Numbers, union, without}
 use Rattle.sets.specs.Words.{bits}
 use Rattle.sets.proofs.Members.{ext}
 use Rattle.words.proofs.WordLaws.{union_is, without_bit}
-use borrow.Author.Rules.{rules}
 use Rattle.walk.proofs.hidden_after.Goals as goal
 
 pub returns : goal.returns

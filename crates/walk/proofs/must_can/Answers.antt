@@ -3,7 +3,6 @@
 use lib.Dec.{lit<}
 use Rattle.walk.proofs.Entries.{no_words}
 use Rattle.walk.proofs.Steps.{walked_here}
-use borrow.Author.Rules.{rules}
 use Rattle.walk.proofs.must_can.Goals as goal
 
 pub walk-a-requires : goal.walk-a-requires

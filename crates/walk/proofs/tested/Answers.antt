@@ -4,7 +4,6 @@ use mathlib.Core.Path.{refl, ap, ◌∙◌}
 use Rattle.sets.specs.Numbers.{union}
 use Rattle.sets.specs.Words.{bits}
 use Rattle.words.proofs.WordLaws.{union_is}
-use borrow.Author.Rules.{rules}
 use Rattle.walk.proofs.tested.Goals as goal
 
 pub returns : goal.returns

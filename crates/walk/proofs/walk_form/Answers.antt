@@ -2,7 +2,6 @@
 -- Assumes nothing.
 use Rattle.forms.proofs.FormLaws.{idle_formed, keep_formed, going_formed}
 use Rattle.forms.specs.declared.form.Going.TheVariants.{Started, Resumed}
-use borrow.Author.Rules.{rules}
 use Rattle.walk.proofs.walk_form.Goals as goal
 
 pub returns-in-Started : goal.returns-in-Started

@@ -1,7 +1,6 @@
 -- `put_shown`: what was counted decides the room, and what is then put is the text. Assumes nothing.
 use native.Mathlib.Omega.{arith}
 use Rattle.write_text.proofs.TextLaws.{no_room, in_it}
-use borrow.Author.Rules.{rules}
 use Rattle.write_text.proofs.put_shown.Goals as goal
 
 pub returns-then-lent-size : goal.returns-then-lent-size

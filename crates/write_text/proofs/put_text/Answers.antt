@@ -1,7 +1,6 @@
 -- `put_text`: the header, the statement and a line feed, one behind the other. Assumes nothing.
 use native.Mathlib.Omega.{arith}
 use Rattle.write_text.proofs.TextLaws.{front_put, text_asks, body_ends, text_filled, filled_size}
-use borrow.Author.Rules.{rules}
 use Rattle.write_text.proofs.put_text.Goals as goal
 
 pub put_names-first-requires : goal.put_names-first-requires

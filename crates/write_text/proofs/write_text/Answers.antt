@@ -1,6 +1,5 @@
 -- `write_text`: a refusal of the block is passed on, and the text of a good block is put. Assumes nothing.
 use Rattle.write_text.proofs.TextLaws.{refusal_passed, table_ready, all_passed}
-use borrow.Author.Rules.{rules}
 use Rattle.write_text.proofs.write_text.Goals as goal
 
 pub put_shown-requires : goal.put_shown-requires

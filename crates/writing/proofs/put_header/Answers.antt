@@ -5,7 +5,6 @@ use lib.ListN.{length}
 use lib.Seq.{length-sets}
 use Rattle.block.specs.Told.{header_of}
 use Rattle.writing.proofs.Stores.{header_stored}
-use borrow.Author.Rules.{rules}
 use Rattle.writing.proofs.put_header.Goals as goal
 
 pub put_number-requires-7 : goal.put_number-requires-7

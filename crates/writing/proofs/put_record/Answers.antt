@@ -6,7 +6,6 @@ use lib.ListN.{length}
 use lib.Seq.{length-sets}
 use Rattle.tables.proofs.Shapes.{shaped, not_known}
 use Rattle.writing.proofs.Stores.{room_for, stored_plain, stored_operated, not_stored}
-use borrow.Author.Rules.{rules}
 use Rattle.writing.proofs.put_record.Goals as goal
 
 pub returns-in_default : goal.returns-in_default

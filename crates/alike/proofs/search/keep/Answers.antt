@@ -3,7 +3,6 @@
 use mathlib.Core.Path.{refl}
 use native.Mathlib.Omega.{arith}
 use Rattle.alike.specs.Ends.{again, left_out, stored}
-use borrow.Author.Rules.{rules}
 use Rattle.alike.proofs.search.keep.Goals as goal
 
 pub find-k-requires : goal.find-k-requires

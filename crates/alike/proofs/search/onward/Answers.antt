@@ -1,9 +1,7 @@
 -- `search::onward` meets its contract: one way after the other.
 -- Assumes nothing.
 use mathlib.Core.Path.{refl}
-use native.Mathlib.Omega.{arith}
 use Rattle.alike.specs.Ends.{next_set, next_pair, next_level, ends_over, ends_same}
-use borrow.Author.Rules.{rules}
 use Rattle.alike.proofs.search.onward.Goals as goal
 
 pub returns-then-s-width : goal.returns-then-s-width

@@ -1,15 +1,9 @@
 -- `search::search_all` meets its contract: what is known of the rows is kept by each step, and each end says what it must.
 -- Assumes nothing.
-use mathlib.Core.Path.{◌≡◌, subst}
-use Prim.Native.Nat.{ℕ, ◌+◌, ◌-◌, ◌*◌, ◌^◌, ◌≤◌, ◌<◌}
-use native.Mathlib.Omega.{arith}
-use borrow.Author.Tests.{not-true, not-false}
+use Prim.Native.Nat.{◌+◌, ◌-◌, ◌*◌}
 use Rattle.tables.specs.Table.{table_of}
 use Rattle.pairs.specs.Rows.{rows_of, links_of, Full, FullLinks}
-use Rattle.alike.specs.Ends.{Turns}
-use Rattle.alike.proofs.Turning.{Everywhere, first_known, still_full, at_found, count_most, differing, stepped, kept_full, kept_links}
-use Rattle.alike.proofs.Turning.{goes_on, same_end, over_end, went_bound, end_different, end_same, end_over, sets_in, step_less}
-use borrow.Author.Rules.{rules}
+use Rattle.alike.proofs.Turning.{Everywhere}
 use Rattle.alike.proofs.search.search_all.Given as goal
 
 abbrev pub invariant-loop-s : goal.invariant-loop-s

@@ -2,7 +2,6 @@
 -- Assumes nothing.
 use native.Mathlib.Omega.{arith}
 use Rattle.sets.proofs.Words.{shift_one}
-use borrow.Author.Rules.{rules}
 use Rattle.alike.proofs.search.sets_of.Goals as goal
 
 pub overflow_shl-result : goal.overflow_shl-result

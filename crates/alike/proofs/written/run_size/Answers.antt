@@ -1,13 +1,7 @@
 -- `written::run_size` meets its contract: the sets passed, and those that lead to the pair looked at.
 -- Assumes nothing.
-use mathlib.Core.Path.{◌≡◌}
-use mathlib.Core.List.{List}
-use Prim.Native.Nat.{ℕ, ◌+◌, ◌≤◌, ◌<◌}
 use native.Mathlib.Omega.{arith}
-use Rattle.pairs.specs.Runs.{Run, size}
-use Rattle.pairs.specs.Rows.{links_of, Linked}
 use Rattle.alike.proofs.WrittenLaws.{one_more, none_left}
-use borrow.Author.Rules.{rules}
 use Rattle.alike.proofs.written.run_size.Goals as goal
 
 pub loop-k-init : goal.loop-k-init

@@ -2,12 +2,9 @@
 -- Assumes nothing.
 use mathlib.Core.Path.{◌≡◌}
 use mathlib.Core.List.{List}
-use Prim.Native.Nat.{ℕ, ◌+◌, ◌≤◌, ◌<◌}
-use native.Mathlib.Omega.{arith}
+use Prim.Native.Nat.{ℕ, ◌+◌, ◌≤◌}
 use Rattle.pairs.specs.Runs.{Run, size}
 use Rattle.pairs.specs.Rows.{links_of, Linked}
-use Rattle.alike.proofs.WrittenLaws.{one_more, none_left}
-use borrow.Author.Rules.{rules}
 use Rattle.alike.proofs.written.run_size.Given as goal
 
 abbrev pub invariant-loop-k : goal.invariant-loop-k

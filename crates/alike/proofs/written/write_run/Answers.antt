@@ -1,14 +1,10 @@
 -- `written::write_run` meets its contract: what stands in front of the bytes written is the run to the pair that is looked at.
 -- Assumes nothing.
-use mathlib.Core.Path.{◌≡◌, refl, ◌∙◌}
-use mathlib.Core.List.{◌++◌}
-use Prim.Native.Nat.{ℕ, ◌+◌, ◌-◌, ◌≤◌, ◌<◌}
+use mathlib.Core.Path.{refl, ◌∙◌}
+use Prim.Native.Nat.{◌-◌}
 use native.Mathlib.Omega.{arith}
-use lib.ListN.{length, length-set, drop, get_or}
-use Rattle.pairs.specs.Runs.{Run, size, bytes_of}
-use Rattle.pairs.specs.Rows.{links_of, Linked}
+use lib.ListN.{length-set, get_or}
 use Rattle.alike.proofs.WrittenLaws.{one_more, one_written, all_written, its_length}
-use borrow.Author.Rules.{rules}
 use Rattle.alike.proofs.written.write_run.Goals as goal
 
 pub run_size-n-requires : goal.run_size-n-requires

@@ -1,14 +1,11 @@
 -- `written::write_run` meets its contract: what stands in front of the bytes written is the run to the pair that is looked at.
 -- Assumes nothing.
-use mathlib.Core.Path.{◌≡◌, refl, ◌∙◌}
+use mathlib.Core.Path.{◌≡◌}
 use mathlib.Core.List.{◌++◌}
-use Prim.Native.Nat.{ℕ, ◌+◌, ◌-◌, ◌≤◌, ◌<◌}
-use native.Mathlib.Omega.{arith}
-use lib.ListN.{length, length-set, drop, get_or}
+use Prim.Native.Nat.{ℕ, ◌+◌, ◌≤◌}
+use lib.ListN.{length, drop}
 use Rattle.pairs.specs.Runs.{Run, size, bytes_of}
 use Rattle.pairs.specs.Rows.{links_of, Linked}
-use Rattle.alike.proofs.WrittenLaws.{one_more, one_written, all_written, its_length}
-use borrow.Author.Rules.{rules}
 use Rattle.alike.proofs.written.write_run.Given as goal
 
 abbrev pub invariant-loop-k : goal.invariant-loop-k

@@ -2,7 +2,6 @@
 -- Assumes nothing.
 use mathlib.Core.Path.{sym, ◌∙◌}
 use borrow.Author.Tests.{lt-ltb, le-ltb}
-use borrow.Author.Rules.{rules}
 use Rattle.block.proofs.faults.declared_here.Goals as goal
 
 pub returns-then-s-d : goal.returns-then-s-d

@@ -6,7 +6,6 @@ use Rattle.block.specs.Format.{is_broken, over_limit, wrong_signal, fault_as}
 use Rattle.tables.specs.Kinds.{length_of}
 use Rattle.block.specs.Told.{header_of, sofar_of, around_of}
 use Rattle.block.proofs.Tests.{as_broken, as_kind, as_limit, as_signal, as_last}
-use borrow.Author.Rules.{rules}
 use Rattle.block.proofs.faults.fault_as.Goals as goal
 
 pub returns-then-broken : goal.returns-then-broken

@@ -6,7 +6,6 @@ use mathlib.Core.List.{List}
 use Prim.Native.Nat.{ℕ}
 use Rattle.block.specs.Format.{two_bytes, is_broken, kind_at, length_at, header_fault_in}
 use Rattle.block.proofs.Tests.{header_broken, header_kind, header_length, header_edition, header_signals}
-use borrow.Author.Rules.{rules}
 use Rattle.block.proofs.faults.header_fault.Goals as goal
 
 pub returns-then-broken : goal.returns-then-broken

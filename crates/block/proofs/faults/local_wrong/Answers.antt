@@ -2,7 +2,6 @@
 -- Assumes nothing.
 use mathlib.Core.Path.{sym}
 use borrow.Author.Tests.{lt-ltb, le-ltb}
-use borrow.Author.Rules.{rules}
 use Rattle.block.proofs.faults.local_wrong.Goals as goal
 
 pub returns-then-d-r : goal.returns-then-d-r

@@ -5,7 +5,6 @@ use mathlib.Core.Bool.{not}
 use native.Mathlib.Omega.{arith}
 use Rattle.tables.proofs.Shapes.{nineteen_or_twenty}
 use Rattle.block.proofs.Tests.{signal_emit, signal_test, signal_local, signal_none}
-use borrow.Author.Rules.{rules}
 use Rattle.block.proofs.faults.signal_wrong.Goals as goal
 
 pub returns-in-18 : goal.returns-in-18

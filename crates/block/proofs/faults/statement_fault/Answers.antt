@@ -1,7 +1,6 @@
 -- `faults::statement_fault` meets its contract: a record that is due is tested as one of its own kind. Assumes nothing.
 use mathlib.Core.Path.{sym, ◌∙◌}
 use Rattle.block.proofs.Tests.{fault_shape, fault_due}
-use borrow.Author.Rules.{rules}
 use Rattle.block.proofs.faults.statement_fault.Goals as goal
 
 pub returns-then-b-at : goal.returns-then-b-at

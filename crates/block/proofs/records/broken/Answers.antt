@@ -1,6 +1,5 @@
 -- `records::broken` meets its contract: the three tests one after the other.
 -- Assumes nothing.
-use borrow.Author.Rules.{rules}
 use mathlib.Core.Path.{sym}
 use Rattle.block.proofs.Tests.{few_left, too_short, long_enough}
 use Rattle.block.proofs.records.broken.Goals as goal

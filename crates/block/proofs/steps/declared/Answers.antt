@@ -1,7 +1,6 @@
 -- `steps::declared` meets its contract, field by field.
 -- Assumes nothing.
 use Rattle.block.specs.Format.{header}
-use borrow.Author.Rules.{rules}
 use Rattle.block.proofs.steps.declared.Goals as goal
 
 pub returns : goal.returns

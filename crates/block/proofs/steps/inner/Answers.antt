@@ -3,7 +3,6 @@
 use native.Mathlib.Omega.{arith}
 use Prim.Native.Nat.{◌+◌}
 use Rattle.block.specs.Format.{inside}
-use borrow.Author.Rules.{rules}
 use Rattle.block.proofs.steps.inner.Goals as goal
 
 pub overflow_add-result : goal.overflow_add-result

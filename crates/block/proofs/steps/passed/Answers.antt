@@ -3,7 +3,6 @@
 use native.Mathlib.Omega.{arith}
 use Prim.Native.Nat.{◌+◌}
 use Rattle.block.specs.Format.{past}
-use borrow.Author.Rules.{rules}
 use Rattle.block.proofs.steps.passed.Goals as goal
 
 pub overflow_add-result-3 : goal.overflow_add-result-3

@@ -4,7 +4,6 @@ use native.Mathlib.Omega.{arith}
 use Rattle.tables.specs.Codes.{lowest_endless}
 use Rattle.block.proofs.Offsets.{tabled_listed}
 use Rattle.block.proofs.Ends.{end_bytes, end_locals, end_loop, end_good, found_some, found_none}
-use borrow.Author.Rules.{rules}
 use Rattle.block.proofs.whole.finished.Goals as goal
 
 pub returns-then-at-b : goal.returns-then-at-b

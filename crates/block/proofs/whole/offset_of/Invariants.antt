@@ -1,10 +1,7 @@
 -- `whole::offset_of` meets its contract. The invariant is `Summed`: the offset of statement i so far. The measure is what is left of n.
 -- Assumes nothing.
 use Prim.Native.Nat.{◌-◌}
-use borrow.Author.Rules.{rules}
-use native.Mathlib.Omega.{arith}
-use lib.ListN.{get_or}
-use Rattle.block.proofs.Offsets.{length_small, Summed, summed_start, summed_step, ends}
+use Rattle.block.proofs.Offsets.{Summed}
 use Rattle.block.proofs.whole.offset_of.Given as goal
 
 abbrev pub invariant-loop-i : goal.invariant-loop-i

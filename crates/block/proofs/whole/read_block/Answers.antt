@@ -3,7 +3,6 @@
 use mathlib.Core.Path.{sym, ◌∙◌}
 use Rattle.block.specs.Format.{header_fault}
 use Rattle.block.proofs.Ends.{over_size, bad_header, ready_start, few_read, tree_refused, tree_ends}
-use borrow.Author.Rules.{rules}
 use Rattle.block.proofs.whole.read_block.Goals as goal
 
 pub returns-then-b-gt3086 : goal.returns-then-b-gt3086

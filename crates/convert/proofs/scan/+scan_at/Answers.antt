@@ -1,6 +1,5 @@
 -- `scan::scan_at` meets its contract. Each return is one way through the reading, and its lemma stands in ScanWays. The measure is the room on the path.
 -- Assumes nothing.
-use borrow.Author.Rules.{rules}
 use native.Mathlib.Omega.{arith}
 use native.Mathlib.Nat.{pos_of_ne-zero}
 use mathlib.Core.Path.{◌≡◌, refl, sym, ap, ◌∙◌}

@@ -1,6 +1,5 @@
 -- `scan::abort_sizes`: the longer path is told by the call. Assumes nothing.
 use Rattle.convert.proofs.ScanMeasures.{abort_is}
-use borrow.Author.Rules.{rules}
 use Rattle.convert.proofs.scan.abort_sizes.Goals as goal
 
 pub returns : goal.returns

@@ -3,7 +3,6 @@ use mathlib.Core.Path.{sym, ap, ◌∙◌}
 use native.Mathlib.Omega.{arith}
 use Rattle.convert.specs.Scans.{alone_sizes}
 use Rattle.convert.proofs.ScanMeasures.{alone_plain}
-use borrow.Author.Rules.{rules}
 use Rattle.convert.proofs.scan.alone_sizes.Goals as goal
 
 pub returns-in-17 : goal.returns-in-17

@@ -2,7 +2,6 @@
 use mathlib.Core.Path.{sym, ◌∙◌}
 use native.Mathlib.Omega.{arith}
 use Rattle.convert.proofs.ScanMeasures.{suspend_sizes, trap_sizes, local_sizes, form_sizes, around_plain}
-use borrow.Author.Rules.{rules}
 use Rattle.convert.proofs.scan.around_sizes.Goals as goal
 
 pub returns-in-20 : goal.returns-in-20

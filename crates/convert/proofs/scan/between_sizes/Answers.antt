@@ -2,7 +2,6 @@
 use mathlib.Core.Path.{sym, ◌∙◌}
 use native.Mathlib.Omega.{arith}
 use Rattle.convert.proofs.ScanMeasures.{present_sizes, between_plain}
-use borrow.Author.Rules.{rules}
 use Rattle.convert.proofs.scan.between_sizes.Goals as goal
 
 pub returns-in-19 : goal.returns-in-19

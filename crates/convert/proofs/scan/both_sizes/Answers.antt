@@ -1,6 +1,5 @@
 -- `scan::both_sizes`: the longer of two are told by the calls. Assumes nothing.
 use Rattle.convert.proofs.ScanMeasures.{both_is}
-use borrow.Author.Rules.{rules}
 use Rattle.convert.proofs.scan.both_sizes.Goals as goal
 
 pub returns : goal.returns

@@ -1,7 +1,6 @@
 -- `scan::ended`: each return is one end of the reading. Assumes nothing.
 use mathlib.Core.Path.{sym, ◌∙◌}
 use Rattle.convert.proofs.ScanEnds.{end_bytes, end_locals, end_loop, end_limit, end_good}
-use borrow.Author.Rules.{rules}
 use Rattle.convert.proofs.scan.ended.Goals as goal
 
 pub returns-then-at-b : goal.returns-then-at-b

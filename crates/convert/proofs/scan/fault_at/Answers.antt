@@ -3,7 +3,6 @@ use mathlib.Core.Path.{sym, ap, ◌∙◌}
 use Rattle.convert.proofs.ScanTests.{due_shape, due_as}
 use Rattle.block.specs.Format.{fault_as}
 use Rattle.convert.specs.Scans.{tested_as}
-use borrow.Author.Rules.{rules}
 use Rattle.convert.proofs.scan.fault_at.Goals as goal
 
 pub returns-then-b-at : goal.returns-then-b-at

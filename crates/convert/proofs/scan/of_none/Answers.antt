@@ -1,6 +1,5 @@
 -- `scan::of_none`: what the three calls tell. Assumes nothing.
 use Rattle.convert.proofs.ScanMeasures.{of_none_is}
-use borrow.Author.Rules.{rules}
 use Rattle.convert.proofs.scan.of_none.Goals as goal
 
 pub returns : goal.returns

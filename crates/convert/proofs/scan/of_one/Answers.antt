@@ -1,6 +1,5 @@
 -- `scan::of_one`: what the four calls tell. Assumes nothing.
 use Rattle.convert.proofs.ScanMeasures.{of_one_is}
-use borrow.Author.Rules.{rules}
 use Rattle.convert.proofs.scan.of_one.Goals as goal
 
 pub returns : goal.returns

@@ -1,6 +1,5 @@
 -- `scan::of_two`: what the four calls tell. Assumes nothing.
 use Rattle.convert.proofs.ScanMeasures.{of_two_is}
-use borrow.Author.Rules.{rules}
 use Rattle.convert.proofs.scan.of_two.Goals as goal
 
 pub returns : goal.returns

@@ -4,7 +4,6 @@ use Prim.Native.Nat.{◌≤◌}
 use lib.ListN.{length}
 use Rattle.block.specs.Format.{header_fault_in}
 use Rattle.convert.proofs.ScanEnds.{over_size, bad_header, ready_start, signals_fit, small_bytes, tree_refused, tree_ends}
-use borrow.Author.Rules.{rules}
 use Rattle.convert.proofs.scan.scan.Goals as goal
 
 pub returns-then-b-gt3086 : goal.returns-then-b-gt3086

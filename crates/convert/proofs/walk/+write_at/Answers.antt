@@ -1,8 +1,6 @@
 -- `walk::write_at`: by the statement that stands there. What was written for its record, for those below it and behind them is what is written for the
 -- statement; the place that is read rises with each call. Assumes nothing.
-use borrow.Author.Rules.{rules}
 use Rattle.convert.proofs.WalkLaws.{place_small, marks_few, falls_to, room_first, none_below, below_walks, room_last, one_below, second_walks, two_below}
-use Prim.Native.Nat.{ℕ, ◌-◌, ◌<◌}
 use Rattle.convert.proofs.walk.+write_at.Goals as goal
 
 pub head_at-h-requires : goal.head_at-h-requires

@@ -1,7 +1,6 @@
 -- `walk::head_at`: the two numbers are read, and the shape of the kind tells the rest. Assumes nothing.
 use mathlib.Core.Path.{refl}
 use Rattle.convert.proofs.HeadLaws.{head_known, head_unknown}
-use borrow.Author.Rules.{rules}
 use Rattle.convert.proofs.walk.head_at.Goals as goal
 
 pub returns-in-Allowed : goal.returns-in-Allowed

@@ -1,7 +1,6 @@
 -- `walk::inside`: a trap's mark, an abort's, or those that there were. Assumes nothing.
 use native.Mathlib.Omega.{arith}
 use Rattle.convert.proofs.MarkLaws.{word_small, inside_trap, inside_abort, inside_other}
-use borrow.Author.Rules.{rules}
 use Rattle.convert.proofs.walk.inside.Goals as goal
 
 pub overflow_mul-result : goal.overflow_mul-result

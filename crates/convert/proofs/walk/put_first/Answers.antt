@@ -2,7 +2,6 @@
 use native.Mathlib.Omega.{arith}
 use Rattle.convert.proofs.PutLaws.{exit_room, halt_room, sustain_room, await_room, abort_room, record_room}
 use Rattle.convert.proofs.PutLaws.{exit_left, halt_left, sustain_left, await_left, abort_left, record_left}
-use borrow.Author.Rules.{rules}
 use Rattle.convert.proofs.walk.put_first.Goals as goal
 
 pub sent-d-requires : goal.sent-d-requires

@@ -1,6 +1,5 @@
 -- `walk::put_last`: the end of an abort's form, or nothing. Assumes nothing.
 use Rattle.convert.proofs.PutLaws.{end_room, end_left, nothing_left}
-use borrow.Author.Rules.{rules}
 use Rattle.convert.proofs.walk.put_last.Goals as goal
 
 pub put_abort_end-requires : goal.put_abort_end-requires

@@ -1,6 +1,5 @@
 -- `copying::name_of`: within the array its number, past it 0. Assumes nothing.
 use mathlib.Core.Path.{sym, ap}
-use native.Mathlib.Omega.{arith}
 use lib.ListN.{get_or, get_or-eq_default}
 use borrow.Author.Rules.{rules}
 use Rattle.copies.proofs.copying.name_of.Goals as goal

@@ -2,7 +2,6 @@
 use mathlib.Core.Path.{◌∙◌}
 use native.Mathlib.Omega.{arith}
 use Rattle.copies.proofs.CopyLaws.{operand_next, operand_named, operand_kept}
-use borrow.Author.Rules.{rules}
 use Rattle.copies.proofs.copying.new_operand.Goals as goal
 
 pub returns-in-26 : goal.returns-in-26

@@ -4,7 +4,6 @@ use mathlib.Core.Bool.{Bool, cond}
 use Prim.Native.Nat.{◌+◌}
 use native.Mathlib.Nat.{add-zero}
 use borrow.Author.Tests.{eq-eqb, ne_eqb}
-use borrow.Author.Rules.{rules}
 use Rattle.copies.proofs.copying.next_inside.Goals as goal
 
 pub returns-then-kind-eq26 : goal.returns-then-kind-eq26

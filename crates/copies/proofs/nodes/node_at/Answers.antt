@@ -1,6 +1,5 @@
 -- `nodes::node_at`: the kind tells the children. Assumes nothing.
 use Rattle.copies.proofs.NodeLaws.{in_table, joins_parts, over_parts, twice_parts, leaf_parts}
-use borrow.Author.Rules.{rules}
 use Rattle.copies.proofs.nodes.node_at.Goals as goal
 
 pub bounds-kinds-at : goal.bounds-kinds-at

@@ -1,5 +1,4 @@
 -- `sizes::size_at`: each way is a law of SizeLaws. The measure is what is left of the table. Assumes nothing.
-use Prim.Native.Nat.{ℕ, ◌-◌, ◌<◌}
 use native.Mathlib.Omega.{arith}
 use mathlib.Core.Path.{◌∙◌, ap}
 use Rattle.copies.specs.Sizes.{own_size}

@@ -1,5 +1,4 @@
 -- `sizes::onto`: count by count. Assumes nothing.
-use borrow.Author.Rules.{rules}
 use Rattle.copies.proofs.sizes.onto.Goals as goal
 
 pub returns : goal.returns

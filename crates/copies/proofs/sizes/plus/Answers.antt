@@ -2,7 +2,6 @@
 use mathlib.Core.Path.{sym}
 use native.Mathlib.Omega.{arith}
 use Rattle.copies.proofs.SizeLaws.{capped_small, capped_large}
-use borrow.Author.Rules.{rules}
 use Rattle.copies.proofs.sizes.plus.Goals as goal
 
 pub returns-then-a-gt4000 : goal.returns-then-a-gt4000

@@ -1,5 +1,4 @@
 -- `sizes::side`: count by count, and the longer path. Assumes nothing.
-use borrow.Author.Rules.{rules}
 use Rattle.copies.proofs.sizes.side.Goals as goal
 
 pub returns : goal.returns

@@ -1,7 +1,6 @@
 -- `evaluate::rounds::all_heard` meets its contract: the absent ones are the inputs without the set's, bit by bit.
 -- Assumes nothing.
 use Rattle.evaluate.proofs.RoundLaws.{heard_all}
-use borrow.Author.Rules.{rules}
 use Rattle.evaluate.proofs.rounds.all_heard.Goals as goal
 
 pub returns : goal.returns

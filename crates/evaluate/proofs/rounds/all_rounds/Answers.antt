@@ -1,14 +1,10 @@
 -- `evaluate::rounds::all_rounds` meets its contract: after k rounds the rest of the fuel leads to the same end, and where no output is undecided
 -- the next round is the last. The memory stays sound.
 -- Assumes nothing.
-use mathlib.Core.Path.{◌≡◌, refl, sym, ◌∙◌}
-use Prim.Native.Nat.{◌+◌, ◌-◌, ◌≤◌}
+use mathlib.Core.Path.{refl, sym, ◌∙◌}
 use native.Mathlib.Omega.{arith}
-use lib.ListN.{length}
 use borrow.Author.Rules.{rules}
-use Rattle.tables.specs.Table.{table_of}
-use Rattle.walk.specs.Memo.{Sound}
-use Rattle.evaluate.proofs.RoundLaws.{Progress, progress_none, progress_decided, progress_more, progress_stop, progress_end}
+use Rattle.evaluate.proofs.RoundLaws.{progress_none, progress_decided, progress_more, progress_stop, progress_end}
 use Rattle.evaluate.proofs.rounds.all_rounds.Goals as goal
 
 pub loop-rounds-init : goal.loop-rounds-init

@@ -5,7 +5,6 @@ use mathlib.Core.Path.{refl}
 use Rattle.sets.specs.Numbers.{lowest}
 use Rattle.sets.specs.Words.{bits, set_of}
 use Rattle.words.proofs.PauseLaws.{none_kept}
-use borrow.Author.Rules.{rules}
 use Rattle.evaluate.proofs.rounds.answer_of.Goals as goal
 
 pub returns-then-codes-eq0 : goal.returns-then-codes-eq0

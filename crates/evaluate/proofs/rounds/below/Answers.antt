@@ -1,7 +1,6 @@
 -- `evaluate::rounds::below` meets its contract: a power less 1 has all bits below; 64 is apart, since no shift is by the width.
 -- Assumes nothing.
 use Rattle.evaluate.proofs.RoundLaws.{shift_pos, below_is, below_all}
-use borrow.Author.Rules.{rules}
 use Rattle.evaluate.proofs.rounds.below.Goals as goal
 
 pub overflow_sub-result : goal.overflow_sub-result

@@ -5,7 +5,6 @@ use Rattle.rules.specs.Instant.{started}
 use Rattle.rules.specs.States.{step}
 use Rattle.forms.specs.Forms.{step_of}
 use Rattle.evaluate.specs.Reacts.{state_of}
-use borrow.Author.Rules.{rules}
 use Rattle.evaluate.proofs.rounds.going_of.Goals as goal
 
 pub returns-in-Fresh : goal.returns-in-Fresh

@@ -3,7 +3,6 @@
 use Rattle.evaluate.proofs.RoundLaws.{heard_event, fine_block}
 use mathlib.Core.Path.{sym, ap, ◌∙◌}
 use lib.Dec.{ltb}
-use borrow.Author.Rules.{rules}
 use Rattle.evaluate.proofs.rounds.heard_in.Goals as goal
 
 pub returns : goal.returns

@@ -1,7 +1,6 @@
 -- `evaluate::rounds::outputs_of` meets its contract: the signals below inputs plus outputs without the inputs.
 -- Assumes nothing.
 use Rattle.evaluate.proofs.RoundLaws.{outs_is}
-use borrow.Author.Rules.{rules}
 use Rattle.evaluate.proofs.rounds.outputs_of.Goals as goal
 
 pub returns : goal.returns

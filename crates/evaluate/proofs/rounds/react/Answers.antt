@@ -1,7 +1,6 @@
 -- `evaluate::rounds::react` meets its contract: each memory begins with no entry.
 -- Assumes nothing.
 use Rattle.evaluate.proofs.Memory.{blank}
-use borrow.Author.Rules.{rules}
 use Rattle.evaluate.proofs.rounds.react.Goals as goal
 
 pub react_with-requires : goal.react_with-requires

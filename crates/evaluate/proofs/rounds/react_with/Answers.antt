@@ -2,7 +2,6 @@
 -- Assumes nothing.
 use native.Mathlib.Omega.{arith}
 use Rattle.evaluate.proofs.RoundLaws.{instant_is}
-use borrow.Author.Rules.{rules}
 use Rattle.evaluate.proofs.rounds.react_with.Goals as goal
 
 pub all_rounds-end-requires : goal.all_rounds-end-requires

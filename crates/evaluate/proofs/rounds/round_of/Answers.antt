@@ -3,7 +3,6 @@
 use native.Mathlib.Omega.{arith}
 use Rattle.walk.proofs.Steps.{walked_here}
 use Rattle.evaluate.proofs.RoundLaws.{rounded_is, same_set}
-use borrow.Author.Rules.{rules}
 use Rattle.evaluate.proofs.rounds.round_of.Goals as goal
 
 pub heard_in-e-requires : goal.heard_in-e-requires

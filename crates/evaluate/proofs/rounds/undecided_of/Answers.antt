@@ -2,7 +2,6 @@
 -- Assumes nothing.
 use Rattle.evaluate.proofs.RoundLaws.{undecided_is}
 use mathlib.Core.Path.{refl, ◌∙◌}
-use borrow.Author.Rules.{rules}
 use Rattle.evaluate.proofs.rounds.undecided_of.Goals as goal
 
 pub returns : goal.returns

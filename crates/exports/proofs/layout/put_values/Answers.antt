@@ -1,10 +1,8 @@
 -- `layout::put_values`: the stores that are left make of the present bytes what all of them make of the first. Assumes nothing.
-use mathlib.Core.Path.{◌≡◌, refl, sym, ◌∙◌}
-use Prim.Native.Nat.{◌*◌, ◌+◌, ◌-◌, ◌≤◌}
+use mathlib.Core.Path.{refl, sym, ◌∙◌}
+use Prim.Native.Nat.{◌*◌, ◌+◌, ◌≤◌}
 use native.Mathlib.Omega.{arith}
-use lib.ListN.{length, drop}
-use lib.Seq.{sets}
-use Rattle.exports.specs.Layout.{laid}
+use lib.ListN.{length}
 use Rattle.exports.proofs.Laid.{one_stored, all_stored}
 use borrow.Author.Rules.{rules}
 use Rattle.exports.proofs.layout.put_values.Goals as goal

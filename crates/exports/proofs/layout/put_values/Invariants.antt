@@ -1,12 +1,9 @@
 -- `layout::put_values`: the stores that are left make of the present bytes what all of them make of the first. Assumes nothing.
-use mathlib.Core.Path.{◌≡◌, refl, sym, ◌∙◌}
-use Prim.Native.Nat.{◌*◌, ◌+◌, ◌-◌, ◌≤◌}
-use native.Mathlib.Omega.{arith}
+use mathlib.Core.Path.{◌≡◌}
+use Prim.Native.Nat.{◌*◌, ◌-◌, ◌≤◌}
 use lib.ListN.{length, drop}
 use lib.Seq.{sets}
 use Rattle.exports.specs.Layout.{laid}
-use Rattle.exports.proofs.Laid.{one_stored, all_stored}
-use borrow.Author.Rules.{rules}
 use Rattle.exports.proofs.layout.put_values.Given as goal
 
 abbrev pub invariant-loop-i : goal.invariant-loop-i

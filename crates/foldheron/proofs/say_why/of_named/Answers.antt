@@ -5,7 +5,6 @@ use Rattle.reasons.specs.Taking.{named_of}
 use Rattle.reasons.specs.declared.lowest.Named.{Named}
 use Rattle.refusals.specs.Refusals.{number}
 use Rattle.foldheron.specs.Reasons.{reason_values, named_owed}
-use borrow.Author.Rules.{rules}
 use Rattle.foldheron.proofs.say_why.of_named.Goals as goal
 
 pub returns-in-Statement : goal.returns-in-Statement

@@ -1,13 +1,9 @@
 -- `forms::active::actives` meets its contract: behind the rows in use nothing is active, and the rows from i on are right; a row's children stand after it.
 -- Assumes nothing.
-use Prim.Native.Nat.{◌-◌, ◌≤◌}
-use mathlib.Core.Path.{◌≡◌, refl, ◌∙◌}
+use Prim.Native.Nat.{◌-◌}
+use mathlib.Core.Path.{refl, ◌∙◌}
 use native.Mathlib.Omega.{arith}
-use lib.ListN.{length, length-set}
-use borrow.Author.Rules.{rules}
-use Rattle.sets.specs.Words.{set_of}
-use Rattle.tables.specs.Table.{table_of}
-use Rattle.forms.specs.Forms.{LiveFrom}
+use lib.ListN.{length-set}
 use Rattle.forms.proofs.ActiveLaws.{live_behind, live_step, live_all, pred_less, none_left}
 use Rattle.forms.proofs.active.actives.Goals as goal
 

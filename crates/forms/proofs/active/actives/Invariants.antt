@@ -1,14 +1,11 @@
 -- `forms::active::actives` meets its contract: behind the rows in use nothing is active, and the rows from i on are right; a row's children stand after it.
 -- Assumes nothing.
-use Prim.Native.Nat.{◌-◌, ◌≤◌}
-use mathlib.Core.Path.{◌≡◌, refl, ◌∙◌}
-use native.Mathlib.Omega.{arith}
-use lib.ListN.{length, length-set}
-use borrow.Author.Rules.{rules}
+use Prim.Native.Nat.{◌≤◌}
+use mathlib.Core.Path.{◌≡◌}
+use lib.ListN.{length}
 use Rattle.sets.specs.Words.{set_of}
 use Rattle.tables.specs.Table.{table_of}
 use Rattle.forms.specs.Forms.{LiveFrom}
-use Rattle.forms.proofs.ActiveLaws.{live_behind, live_step, live_all, pred_less, none_left}
 use Rattle.forms.proofs.active.actives.Given as goal
 
 abbrev pub invariant-loop-i : goal.invariant-loop-i

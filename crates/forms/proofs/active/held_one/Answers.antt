@@ -2,7 +2,6 @@
 -- Assumes nothing.
 use Rattle.forms.proofs.ActiveLaws.{one_held, one_idle}
 use mathlib.Core.Path.{sym, ◌∙◌}
-use borrow.Author.Rules.{rules}
 use Rattle.sets.specs.Words.{set_of}
 use Rattle.forms.proofs.active.held_one.Goals as goal
 

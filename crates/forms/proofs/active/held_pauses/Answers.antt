@@ -2,11 +2,9 @@
 -- Assumes nothing.
 use Rattle.tables.proofs.Rows.{has_row}
 use Rattle.forms.proofs.FormLaws.{in_table}
-use Prim.Native.Nat.{◌-◌, ◌≤◌}
-use mathlib.Core.Path.{◌≡◌, ap₂, ◌∙◌}
+use mathlib.Core.Path.{ap₂, ◌∙◌}
 use native.Mathlib.Omega.{arith}
 use Rattle.tables.specs.Table.{table_of}
-use Rattle.forms.specs.Forms.{pauses_in, among}
 use Rattle.forms.proofs.ActiveLaws.{rows_none, rows_more, rows_all, both_ways}
 use Rattle.sets.specs.Numbers.{union}
 use Rattle.sets.specs.Words.{set_of}

@@ -3,7 +3,6 @@
 use Rattle.forms.proofs.ActiveLaws.{row_own, row_none}
 use Rattle.tables.specs.Table.{table_of}
 use mathlib.Core.Path.{◌∙◌}
-use borrow.Author.Rules.{rules}
 use Rattle.sets.specs.Words.{set_of}
 use Rattle.forms.proofs.active.held_row.Goals as goal
 

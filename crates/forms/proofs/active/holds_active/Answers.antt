@@ -3,7 +3,6 @@
 use mathlib.Core.Path.{◌∙◌}
 use native.Mathlib.Omega.{arith}
 use Rattle.forms.proofs.ActiveLaws.{pause_active, none_active, one_active, two_active}
-use borrow.Author.Rules.{rules}
 use Rattle.forms.proofs.active.holds_active.Goals as goal
 
 pub returns-then-kinds-at-eq17 : goal.returns-then-kinds-at-eq17

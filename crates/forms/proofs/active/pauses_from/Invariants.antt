@@ -1,10 +1,7 @@
 -- `forms::active::pauses_from` meets its contract: the count is 0 only while no row that was passed is a pause. Assumes nothing.
-use borrow.Author.Rules.{rules}
 use mathlib.Core.Path.{◌≡◌}
 use Prim.Native.Nat.{ℕ, ◌-◌, ◌≤◌, ◌<◌}
-use native.Mathlib.Omega.{arith}
 use lib.ListN.{get_or}
-use Rattle.forms.proofs.ActiveLaws.{none_more}
 use Rattle.forms.proofs.active.pauses_from.Given as goal
 
 abbrev pub invariant-loop-i : goal.invariant-loop-i

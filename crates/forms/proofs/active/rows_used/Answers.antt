@@ -1,5 +1,4 @@
 -- `forms::active::rows_used` meets its contract: no pause was counted behind the block, or no row is left. Assumes nothing.
-use borrow.Author.Rules.{rules}
 use native.Mathlib.Omega.{arith}
 use Rattle.forms.proofs.active.rows_used.Goals as goal
 

@@ -5,7 +5,6 @@ use Rattle.tables.proofs.Rows.{has_row}
 use Rattle.forms.specs.declared.form.Form.TheVariants.{Beside, Same}
 use Rattle.forms.specs.Forms.{step_of, form_for}
 use Rattle.forms.proofs.FormLaws.{in_table, formed, resumed_formed, resumed_done, done_formed}
-use borrow.Author.Rules.{rules}
 use Rattle.forms.proofs.form.resumed_form.Goals as goal
 
 pub bounds-kinds-at : goal.bounds-kinds-at

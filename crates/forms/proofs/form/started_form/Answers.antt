@@ -4,7 +4,6 @@ use mathlib.Core.Path.{◌∙◌}
 use Rattle.tables.proofs.Rows.{has_row}
 use Rattle.forms.specs.Forms.{step_of}
 use Rattle.forms.proofs.FormLaws.{some_kind, in_table, started_formed, done_formed}
-use borrow.Author.Rules.{rules}
 use Rattle.forms.proofs.form.started_form.Goals as goal
 
 pub bounds-kinds-at : goal.bounds-kinds-at

@@ -6,7 +6,6 @@ use Rattle.tables.proofs.Rows.{some_statement}
 use Rattle.maze.specs.Ways.{way_told}
 use Rattle.maze.proofs.RowLaws.{second_is}
 use Rattle.maze.proofs.GateLaws.{by_then, by_else}
-use borrow.Author.Rules.{rules}
 use Rattle.maze.proofs.corridors.from_gate.Goals as goal
 
 pub offset_bounds-operands-i : goal.offset_bounds-operands-i

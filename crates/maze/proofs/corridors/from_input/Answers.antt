@@ -4,7 +4,6 @@ use mathlib.Core.Path.{sym, ◌∙◌, ap}
 use Rattle.sets.specs.Words.{bits}
 use Rattle.maze.specs.Ways.{room_of, way_by, way_told}
 use Rattle.maze.proofs.GateLaws.{one_given, none_given, past_given}
-use borrow.Author.Rules.{rules}
 use Rattle.maze.proofs.corridors.from_input.Goals as goal
 
 pub returns-then-is_given : goal.returns-then-is_given

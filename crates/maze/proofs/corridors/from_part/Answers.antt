@@ -1,18 +1,13 @@
 -- `maze::corridors::from_part` meets its contract: what stands ahead at row j gives the corridors that are left, for every tree of the form at i.
 -- Assumes nothing.
-use mathlib.Core.Path.{◌≡◌, refl, sym, ap, ◌∙◌, subst}
-use Prim.Native.Nat.{ℕ, ◌+◌, ◌-◌, ◌≤◌, ◌<◌}
+use mathlib.Core.Path.{refl, sym, ap, ◌∙◌, subst}
+use Prim.Native.Nat.{ℕ, ◌+◌, ◌<◌}
 use native.Mathlib.Omega.{arith}
 use lib.ListN.{get_or}
-use borrow.Author.Rules.{rules}
-use Rattle.rules.specs.Statements.{Stmt}
 use Rattle.tables.specs.Table.{table_of}
-use Rattle.tables.specs.Table.{statements}
 use Rattle.tables.proofs.Rows.{has_row, some_statement}
-use Rattle.forms.specs.Forms.{At}
-use Rattle.mazes.specs.Mazes.{OfForm, corridors}
-use Rattle.maze.specs.Ways.{way_by, way_told}
-use Rattle.maze.proofs.PartLaws.{Going, begins, ends, found, further, passing, none_told, one_told}
+use Rattle.mazes.specs.Mazes.{corridors}
+use Rattle.maze.proofs.PartLaws.{begins, ends, found, further, passing, none_told, one_told}
 use Rattle.maze.proofs.corridors.from_part.Goals as goal
 
 pub offset_bounds-sizes-i : goal.offset_bounds-sizes-i

@@ -3,7 +3,7 @@
 use mathlib.Core.Path.{sym, ap}
 use mathlib.Core.Bool.{Bool, cond}
 use borrow.Author.Tests.{eq-eqb, ne_eqb}
-use Rattle.mazes.specs.Mazes.{Room, visible, gate, dungeon, nth}
+use Rattle.mazes.specs.Mazes.{visible, gate, dungeon, nth}
 use Rattle.maze.specs.Ways.{room_of, leads, way_told}
 use Rattle.maze.proofs.corridors.given_by.Goals as goal
 

@@ -1,11 +1,9 @@
 -- `maze::corridors::gives_one` meets its contract: by the kind.
 -- Assumes nothing.
 use mathlib.Core.Path.{sym, ap, ◌∙◌}
-use Prim.Native.Nat.{ℕ}
 use lib.Dec.{eqb}
 use borrow.Author.Tests.{eq-eqb, ne_eqb}
 use Rattle.maze.specs.Ways.{gives_one}
-use borrow.Author.Rules.{rules}
 use Rattle.maze.proofs.corridors.gives_one.Goals as goal
 
 pub returns-then-kind-eq18 : goal.returns-then-kind-eq18

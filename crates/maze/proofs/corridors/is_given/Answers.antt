@@ -3,7 +3,6 @@
 use mathlib.Core.Path.{refl, sym}
 use Rattle.sets.specs.Words.{bits}
 use Rattle.sets.proofs.Words.{bits_high}
-use borrow.Author.Rules.{rules}
 use Rattle.maze.proofs.corridors.is_given.Goals as goal
 
 pub returns-then-s-lt64 : goal.returns-then-s-lt64

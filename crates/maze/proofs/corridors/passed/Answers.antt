@@ -2,7 +2,6 @@
 -- Assumes nothing.
 use mathlib.Core.Path.{refl}
 use native.Mathlib.Omega.{arith}
-use borrow.Author.Rules.{rules}
 use Rattle.maze.proofs.corridors.passed.Goals as goal
 
 pub returns-then-size-gt0 : goal.returns-then-size-gt0

@@ -3,7 +3,6 @@
 use mathlib.Core.Path.{sym}
 use borrow.Author.Tests.{lt-ltb, le-ltb}
 use Rattle.maze.specs.Rows.{nothing_at}
-use borrow.Author.Rules.{rules}
 use Rattle.maze.proofs.form.is_nothing.Goals as goal
 
 pub returns-then-i-lt512 : goal.returns-then-i-lt512

@@ -4,7 +4,6 @@ use mathlib.Core.Path.{sym}
 use borrow.Author.Tests.{ne_eqb}
 use Rattle.maze.specs.Rows.{row_fits}
 use Rattle.maze.proofs.RowLaws.{second_is, a_nothing, an_emit_row, a_present, a_parallel_row}
-use borrow.Author.Rules.{rules}
 use Rattle.maze.proofs.form.row_fits.Goals as goal
 
 pub returns-in-16 : goal.returns-in-16

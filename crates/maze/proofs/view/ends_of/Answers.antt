@@ -1,7 +1,6 @@
 -- `maze::view::ends_of` meets its contract: bit by bit.
 -- Assumes nothing.
 use Rattle.maze.proofs.ViewLaws.{ends_are}
-use borrow.Author.Rules.{rules}
 use Rattle.maze.proofs.view.ends_of.Goals as goal
 
 pub returns : goal.returns

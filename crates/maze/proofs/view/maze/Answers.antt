@@ -2,7 +2,6 @@
 -- Assumes nothing.
 use Rattle.reaction.proofs.Fronts.{block_reads}
 use Rattle.maze.proofs.ViewLaws.{block_fails, block_way}
-use borrow.Author.Rules.{rules}
 use Rattle.maze.proofs.view.maze.Goals as goal
 
 pub past_reading-requires : goal.past_reading-requires

@@ -1,7 +1,6 @@
 -- `maze::view::past_reading` meets its contract: INPUT, FORM, then the rooms, one lemma for each way.
 -- Assumes nothing.
 use Rattle.maze.proofs.ViewLaws.{few_rows, input_way, form_way, shown_way}
-use borrow.Author.Rules.{rules}
 use Rattle.maze.proofs.view.past_reading.Goals as goal
 
 pub returns-then-input_over : goal.returns-then-input_over

@@ -3,7 +3,6 @@
 use Rattle.reaction.proofs.Fronts.{block_reads}
 use Rattle.maze.proofs.ViewLaws.{block_fails}
 use Rattle.maze.proofs.WayLaws.{refused_told, read_told}
-use borrow.Author.Rules.{rules}
 use Rattle.maze.proofs.ways.corridor.Goals as goal
 
 pub past_reading-requires : goal.past_reading-requires

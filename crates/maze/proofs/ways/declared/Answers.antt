@@ -3,7 +3,6 @@
 use mathlib.Core.Path.{ap₂}
 use Prim.Native.Nat.{ℕ, ◌+◌}
 use lib.Dec.{ltb}
-use borrow.Author.Rules.{rules}
 use Rattle.maze.proofs.ways.declared.Goals as goal
 
 pub returns : goal.returns

@@ -1,7 +1,6 @@
 -- `maze::ways::from_room` meets its contract: by the room that is named.
 -- Assumes nothing.
 use Rattle.maze.proofs.WayLaws.{dungeon_room, signal_named, part_named, gate_named, dungeon_named}
-use borrow.Author.Rules.{rules}
 use Rattle.maze.proofs.ways.from_room.Goals as goal
 
 pub returns-in-Signal : goal.returns-in-Signal

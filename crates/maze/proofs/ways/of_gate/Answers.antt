@@ -4,7 +4,6 @@ use native.Mathlib.Omega.{arith}
 use Rattle.rules.specs.Statements.{numbered}
 use Rattle.tables.proofs.Rows.{some_statement}
 use Rattle.maze.proofs.WayLaws.{stands_at, below_count, no_gate, no_test, its_test}
-use borrow.Author.Rules.{rules}
 use Rattle.maze.proofs.ways.of_gate.Goals as goal
 
 pub offset_bounds-kinds-i : goal.offset_bounds-kinds-i

@@ -2,7 +2,6 @@
 -- Assumes nothing.
 use Rattle.rules.specs.Statements.{numbered}
 use Rattle.maze.proofs.WayLaws.{stands_at, below_count, no_part, nothing_part, some_part}
-use borrow.Author.Rules.{rules}
 use Rattle.maze.proofs.ways.of_part.Goals as goal
 
 pub returns-then-is_nothing : goal.returns-then-is_nothing

@@ -4,7 +4,6 @@ use Rattle.sets.proofs.Members.{of_true}
 use Rattle.reaction.proofs.Fronts.{placed}
 use Rattle.mazes.proofs.Forms.{of_form_is}
 use Rattle.maze.proofs.WayLaws.{no_signal, input_room, output_room}
-use borrow.Author.Rules.{rules}
 use Rattle.maze.proofs.ways.of_signal.Goals as goal
 
 pub returns-then-a-wide : goal.returns-then-a-wide

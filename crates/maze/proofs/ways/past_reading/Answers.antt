@@ -2,7 +2,6 @@
 -- Assumes nothing.
 use Rattle.maze.proofs.ViewLaws.{few_rows, input_way, form_way}
 use Rattle.maze.proofs.WayLaws.{refused_told, shown_told}
-use borrow.Author.Rules.{rules}
 use Rattle.maze.proofs.ways.past_reading.Goals as goal
 
 pub returns-then-input_over : goal.returns-then-input_over

@@ -1,7 +1,6 @@
 -- `pairs::add` meets its contract: each array gets one element.
 -- Assumes nothing.
 use mathlib.Core.Path.{refl}
-use borrow.Author.Rules.{rules}
 use Rattle.pairs.proofs.rows.add.Goals as goal
 
 pub returns : goal.returns

@@ -1,9 +1,7 @@
 -- `pairs::find` meets its contract: no row passed is this pair's.
 -- Assumes nothing.
-use mathlib.Core.Path.{◌≡◌, ap}
-use Prim.Native.Nat.{ℕ, ◌-◌, ◌≤◌, ◌<◌}
 use native.Mathlib.Omega.{arith}
-use Rattle.pairs.specs.Rows.{rows_of, row_at, row_of}
+use Rattle.pairs.specs.Rows.{rows_of, row_of}
 use Rattle.pairs.proofs.FindLaws.{found_here, none_found, one_passed}
 use Rattle.pairs.proofs.rows.find.Goals as goal
 

@@ -4,7 +4,6 @@ use mathlib.Core.Path.{sym, ap}
 use mathlib.Core.Bool.{true≢false}
 use Rattle.pairs.specs.Rows.{Row}
 use Rattle.pairs.proofs.RowLaws.{row_ext}
-use borrow.Author.Rules.{rules}
 use Rattle.pairs.proofs.rows.is_row.Goals as goal
 
 pub returns-then-phases-k : goal.returns-then-phases-k

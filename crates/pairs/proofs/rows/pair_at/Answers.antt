@@ -1,7 +1,6 @@
 -- `pairs::pair_at` meets its contract: five reads.
 -- Assumes nothing.
 use mathlib.Core.Path.{refl}
-use borrow.Author.Rules.{rules}
 use Rattle.pairs.proofs.rows.pair_at.Goals as goal
 
 pub returns : goal.returns

@@ -3,7 +3,6 @@
 use mathlib.Core.Path.{sym}
 use mathlib.Core.Bool.{true≢false}
 use borrow.Author.Tests.{eqb-true, eqb-false}
-use borrow.Author.Rules.{rules}
 use Rattle.pairs.proofs.rows.same_set.Goals as goal
 
 pub returns-then-a-low : goal.returns-then-a-low

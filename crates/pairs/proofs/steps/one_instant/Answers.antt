@@ -4,7 +4,6 @@ use mathlib.Core.Path.{refl}
 use native.Mathlib.Omega.{arith}
 use Rattle.words.specs.Words.{hearing_of}
 use Rattle.pairs.proofs.StepLaws.{both_step}
-use borrow.Author.Rules.{rules}
 use Rattle.pairs.proofs.steps.one_instant.Goals as goal
 
 pub all_heard-heard-requires : goal.all_heard-heard-requires

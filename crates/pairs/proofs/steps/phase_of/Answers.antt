@@ -1,7 +1,6 @@
 -- `steps::phase_of` meets its contract: by the number.
 -- Assumes nothing.
 use Rattle.pairs.proofs.StepLaws.{is_fresh, is_running, is_finished}
-use borrow.Author.Rules.{rules}
 use Rattle.pairs.proofs.steps.phase_of.Goals as goal
 
 pub returns-in-0 : goal.returns-in-0

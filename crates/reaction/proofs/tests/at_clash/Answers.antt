@@ -1,7 +1,6 @@
 -- `tests::at_clash` meets its contract: a clash is told with its pair, and without one the tests go on.
 -- Assumes nothing.
 use Rattle.reaction.proofs.Fronts.{searchable, bounded, pair_way, clear_way}
-use borrow.Author.Rules.{rules}
 use Rattle.reaction.proofs.tests.at_clash.Goals as goal
 
 pub first_clash-found-requires : goal.first_clash-found-requires

@@ -1,7 +1,6 @@
 -- `tests::at_inputs` meets its contract: INPUT turns the instant down, or all tests are passed.
 -- Assumes nothing.
 use Rattle.reaction.proofs.Fronts.{input_way, passed_way}
-use borrow.Author.Rules.{rules}
 use Rattle.reaction.proofs.tests.at_inputs.Goals as goal
 
 pub returns-then-wrong_inputs : goal.returns-then-wrong_inputs

@@ -1,7 +1,6 @@
 -- `tests::at_names` meets its contract: a record that names the block goes on to the next test, and any other is turned down.
 -- Assumes nothing.
 use Rattle.reaction.proofs.Fronts.{named_way, other_way}
-use borrow.Author.Rules.{rules}
 use Rattle.reaction.proofs.tests.at_names.Goals as goal
 
 pub returns-then-names_block : goal.returns-then-names_block

@@ -2,7 +2,6 @@
 -- Assumes nothing.
 use Rattle.records.specs.Numerals.{Bytes}
 use Rattle.reaction.proofs.Fronts.{took_fresh, took_running, took_finished, state_way, no_state_way}
-use borrow.Author.Rules.{rules}
 use Rattle.reaction.proofs.tests.at_state.Goals as goal
 
 pub at_names-requires : goal.at_names-requires

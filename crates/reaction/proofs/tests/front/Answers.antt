@@ -1,7 +1,6 @@
 -- `tests::front` meets its contract: a block that cannot be read is turned down as its reading says, another goes on.
 -- Assumes nothing.
 use Rattle.reaction.proofs.Fronts.{block_fails, block_reads, block_way}
-use borrow.Author.Rules.{rules}
 use Rattle.reaction.proofs.tests.front.Goals as goal
 
 pub at_state-requires : goal.at_state-requires

@@ -1,8 +1,5 @@
 -- `body::body_step`: a number is at fault, a name is looked up, a sign has its move. Assumes nothing.
-use mathlib.Core.Path.{◌≡◌, refl, sym, ap, ◌∙◌, subst}
-use Prim.Native.Nat.{ℕ}
-use native.Mathlib.Omega.{arith}
-use borrow.Author.Rules.{rules}
+use mathlib.Core.Path.{sym, subst}
 use Rattle.read_steps.specs.Holding.{Safe}
 use Rattle.read_steps.proofs.TokenLaws.{sign_safe, name_safe, takes_name, takes_sign, takes_number}
 use Rattle.read_steps.proofs.body.body_step.Goals as goal

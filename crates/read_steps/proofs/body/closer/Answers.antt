@@ -1,5 +1,5 @@
 -- `body::closer`: a bracket where one is open. Assumes nothing.
-use mathlib.Core.Path.{◌≡◌, sym, ap}
+use mathlib.Core.Path.{sym, ap}
 use mathlib.Core.Bool.{Bool, cond}
 use borrow.Author.Tests.{ne_eqb, eq-eqb}
 use Rattle.read_steps.specs.Holding.{closer_in}

@@ -1,8 +1,5 @@
 -- `body::make`: each move by the step that makes it. Assumes nothing.
-use mathlib.Core.Path.{◌≡◌, refl, sym, ap, ◌∙◌, subst}
-use Prim.Native.Nat.{ℕ}
-use native.Mathlib.Omega.{arith}
-use borrow.Author.Rules.{rules}
+use mathlib.Core.Path.{refl, subst}
 use Rattle.read_steps.specs.Moves.{made}
 use Rattle.read_steps.specs.Holding.{Safe, faulted}
 use Rattle.read_steps.proofs.StepLaws.{to_held, same_move}

@@ -1,12 +1,9 @@
 -- `bytes::append`: too many records already, or one more behind them. Assumes nothing.
-use mathlib.Core.Path.{◌≡◌, sym, ap, ◌∙◌, subst}
-use mathlib.Core.List.{List, ◌++◌}
-use Prim.Native.Nat.{ℕ, ◌+◌, ◌-◌}
+use mathlib.Core.Path.{ap, ◌∙◌}
+use Prim.Native.Nat.{ℕ, ◌+◌}
 use native.Mathlib.Omega.{arith}
-use borrow.Author.Rules.{rules}
-use lib.ListN.{length, length-append}
+use lib.ListN.{length-append}
 use lib.Seq.{sets}
-use Rattle.tables.specs.Kinds.{length_of}
 use Rattle.writing.specs.Written.{record_bytes}
 use Rattle.read_steps.proofs.ByteLaws.{still_over, appended}
 use Rattle.read_steps.proofs.bytes.append.Goals as goal

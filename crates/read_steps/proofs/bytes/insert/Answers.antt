@@ -1,14 +1,9 @@
 -- `bytes::insert`: too many records already, one behind them, or one before bytes that are moved up. Assumes nothing.
-use mathlib.Core.Path.{◌≡◌, refl, sym, ap, ◌∙◌, subst}
-use mathlib.Core.List.{List, ◌++◌}
-use Prim.Native.Nat.{ℕ, ◌+◌, ◌-◌, ◌≤◌}
+use mathlib.Core.Path.{refl, ap, ◌∙◌}
+use Prim.Native.Nat.{ℕ, ◌+◌, ◌≤◌}
 use native.Mathlib.Omega.{arith}
-use borrow.Author.Rules.{rules}
-use lib.ListN.{length}
 use lib.Seq.{sets}
 use Rattle.writing.specs.Written.{record_bytes}
-use Rattle.text.specs.Machine.{inserted}
-use Rattle.read_steps.specs.Records.{Grown, Shifted}
 use Rattle.read_steps.proofs.ByteLaws.{still_over, inserted_last, inserted_between, inserted_longer}
 use Rattle.read_steps.proofs.bytes.insert.Goals as goal
 

@@ -1,6 +1,5 @@
 -- `bytes::put_byte`: too many records, a place past them, or one byte stored. Assumes nothing.
 use native.Mathlib.Omega.{arith}
-use borrow.Author.Rules.{rules}
 use Rattle.read_steps.proofs.ByteLaws.{byte_over, byte_past, byte_set}
 use Rattle.read_steps.proofs.bytes.put_byte.Goals as goal
 

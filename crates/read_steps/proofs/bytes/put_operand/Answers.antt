@@ -1,11 +1,6 @@
 -- `bytes::put_operand`: its two bytes, one after the other. Assumes nothing.
-use mathlib.Core.Path.{◌≡◌, sym, ap, ap₂, ◌∙◌, subst}
-use mathlib.Core.List.{List}
-use Prim.Native.Nat.{ℕ, ◌+◌, ◌/◌, ◌%◌}
-use native.Mathlib.Omega.{arith}
-use borrow.Author.Rules.{rules}
+use Prim.Native.Nat.{◌+◌, ◌%◌}
 use lib.ListN.{set}
-use Rattle.read_steps.specs.Records.{Written}
 use Rattle.read_steps.proofs.ByteLaws.{operand_bytes_set}
 use Rattle.read_steps.proofs.bytes.put_operand.Goals as goal
 

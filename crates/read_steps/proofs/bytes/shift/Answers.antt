@@ -1,9 +1,6 @@
 -- `bytes::shift`: from the last byte down, those passed lie four places further up and the others where they lay. Assumes nothing.
-use Prim.Native.Nat.{◌+◌, ◌-◌, ◌≤◌}
 use native.Mathlib.Omega.{arith}
-use borrow.Author.Rules.{rules}
-use lib.ListN.{length}
-use Rattle.read_steps.proofs.ByteLaws.{Shifting, shift_start, shift_more}
+use Rattle.read_steps.proofs.ByteLaws.{shift_start, shift_more}
 use Rattle.read_steps.proofs.bytes.shift.Goals as goal
 
 pub loop-i-init : goal.loop-i-init

@@ -2,7 +2,6 @@
 use mathlib.Core.Path.{sym, ap, subst}
 use native.Mathlib.Omega.{arith}
 use Rattle.read_steps.specs.Found.{TrapBelow, beyond_trap}
-use borrow.Author.Rules.{rules}
 use Rattle.read_steps.proofs.found.deeper.Goals as goal
 
 pub overflow_add-result : goal.overflow_add-result

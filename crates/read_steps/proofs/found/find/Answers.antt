@@ -1,15 +1,9 @@
 -- `found::find`: through the header's names, then the levels, the innermost last. Assumes nothing.
-use mathlib.Core.Path.{◌≡◌, refl, sym, ap, ap₂, ◌∙◌, subst}
-use mathlib.Core.List.{List, [], ◌∷◌}
-use Prim.Native.Nat.{ℕ, ◌+◌, ◌-◌, ◌≤◌}
+use mathlib.Core.Path.{◌≡◌, ap, ◌∙◌}
+use Prim.Native.Nat.{ℕ}
 use native.Mathlib.Omega.{arith}
-use borrow.Author.Rules.{rules}
-use Rattle.text.specs.Coded.{tokens_from}
-use Rattle.read_steps.specs.Levels.{level_in, levels_in}
-use Rattle.read_steps.specs.Found.{TrapBelow, word_at, header_found, through, through_all}
-use Rattle.read_steps.specs.declared.levels.Level.{Level}
-use Rattle.read_steps.specs.declared.found.Found.{Found}
-use Rattle.read_steps.proofs.LevelLaws.{levels_count, one_level_more}
+use Rattle.read_steps.specs.Levels.{levels_in}
+use Rattle.read_steps.specs.Found.{word_at, header_found, through, through_all}
 use Rattle.read_steps.proofs.FoundLaws.{few_traps, one_more_level}
 use Rattle.read_steps.proofs.found.find.Goals as goal
 

@@ -1,12 +1,8 @@
 -- `found::in_header`: the names passed so far, and the one looked for among them. Assumes nothing.
-use mathlib.Core.Path.{◌≡◌, ◌∙◌}
 use Prim.Native.Nat.{◌-◌}
-use native.Mathlib.Omega.{arith}
-use borrow.Author.Rules.{rules}
 use lib.ListN.{length}
 use Rattle.read_steps.specs.Found.{word_at}
-use Rattle.text.proofs.Views.{here}
-use Rattle.read_steps.proofs.FoundLaws.{Passing, pass_start, pass_more, pass_end, pass_past}
+use Rattle.read_steps.proofs.FoundLaws.{Passing}
 use Rattle.read_steps.proofs.found.in_header.Given as goal
 
 abbrev pub invariant-loop-t : goal.invariant-loop-t

@@ -1,13 +1,10 @@
 -- `found::inside`: the level declares nothing, this name, or another. Assumes nothing.
-use mathlib.Core.Path.{◌≡◌, refl, sym, ap, ap₂, ◌∙◌}
+use mathlib.Core.Path.{sym, ap, ◌∙◌}
 use mathlib.Core.Bool.{Bool, cond, false}
-use borrow.Author.Tests.{ne_eqb, eq-eqb, lt-ltb}
-use native.Mathlib.Omega.{arith}
-use Rattle.text.specs.Tokens.{same}
-use Rattle.read_steps.specs.Found.{through, beyond_trap, word_at}
+use borrow.Author.Tests.{ne_eqb, eq-eqb}
+use Rattle.read_steps.specs.Found.{beyond_trap}
 use Rattle.read_steps.specs.declared.found.Found.TheVariants.{Signal, Trap}
 use Rattle.read_steps.proofs.FoundLaws.{through_none, through_its, through_other}
-use borrow.Author.Rules.{rules}
 use Rattle.read_steps.proofs.found.inside.Goals as goal
 
 pub returns-then-l-lt5 : goal.returns-then-l-lt5

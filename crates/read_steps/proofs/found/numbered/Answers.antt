@@ -1,9 +1,8 @@
 -- `found::numbered`: nothing for 0. Assumes nothing.
-use mathlib.Core.Path.{◌≡◌, refl, sym, ap, ◌∙◌}
+use mathlib.Core.Path.{◌≡◌, sym, ap}
 use Prim.Native.Nat.{suc, ◌-◌}
 use native.Mathlib.Omega.{arith}
 use Rattle.read_steps.specs.Found.{found_as}
-use borrow.Author.Rules.{rules}
 use Rattle.read_steps.proofs.found.numbered.Goals as goal
 
 pub returns-then-found-eq0 : goal.returns-then-found-eq0

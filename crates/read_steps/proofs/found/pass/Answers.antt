@@ -1,12 +1,10 @@
 -- `found::pass`: only a name counts. Assumes nothing.
-use mathlib.Core.Path.{◌≡◌, refl, sym, ap, ap₂, ◌∙◌}
+use mathlib.Core.Path.{sym, ap₂, ◌∙◌}
 use mathlib.Core.Bool.{Bool, cond}
 use Prim.Native.Nat.{◌+◌}
-use borrow.Author.Tests.{ne_eqb, eq-eqb}
+use borrow.Author.Tests.{eq-eqb}
 use Rattle.read_steps.specs.Found.{passed_name, word_at}
-use Rattle.read_steps.specs.declared.found.Passed.{Passed}
 use Rattle.read_steps.proofs.FoundLaws.{no_name}
-use borrow.Author.Rules.{rules}
 use Rattle.read_steps.proofs.found.pass.Goals as goal
 
 pub returns-then-kind-ne17 : goal.returns-then-kind-ne17

@@ -1,7 +1,5 @@
 -- `levels::put_level`: seven stores above the other levels. Assumes nothing.
-use native.Mathlib.Omega.{arith}
 use Rattle.read_steps.proofs.LevelLaws.{stored}
-use borrow.Author.Rules.{rules}
 use Rattle.read_steps.proofs.levels.put_level.Goals as goal
 
 pub returns : goal.returns

@@ -1,12 +1,9 @@
 -- `moves::after_move`: a sequence, a parallel, or what closes the level. Assumes nothing.
-use mathlib.Core.Path.{◌≡◌, refl, sym, ap, ap₂, ◌∙◌}
-use mathlib.Core.Bool.{Bool, cond}
-use Prim.Native.Nat.{ℕ}
-use borrow.Author.Tests.{ne_eqb, eq-eqb}
-use lib.Dec.{eqb}
+use mathlib.Core.Path.{sym, ap, ◌∙◌}
+use mathlib.Core.Bool.{cond}
+use borrow.Author.Tests.{ne_eqb}
 use Rattle.read_steps.specs.Moves.{after_move, closed_move}
-use Rattle.read_steps.specs.declared.moves.Move.TheVariants.{Fault, To, Put, Open, Bracket, Close, Sequence, Parallel, Turn, When}
-use borrow.Author.Rules.{rules}
+use Rattle.read_steps.specs.declared.moves.Move.TheVariants.{Sequence, Parallel}
 use Rattle.read_steps.proofs.moves.after_move.Goals as goal
 
 pub returns-then-kind-eq59 : goal.returns-then-kind-eq59

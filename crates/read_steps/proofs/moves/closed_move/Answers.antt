@@ -1,11 +1,10 @@
 -- `moves::closed_move`: a row for each kind of level. Assumes nothing.
-use mathlib.Core.Path.{◌≡◌, refl, sym, ap, ap₂, ◌∙◌}
+use mathlib.Core.Path.{sym, ap, ap₂, ◌∙◌}
 use mathlib.Core.Bool.{Bool, cond}
 use Prim.Native.Nat.{ℕ}
 use borrow.Author.Tests.{ne_eqb, eq-eqb}
-use lib.Dec.{eqb}
 use Rattle.read_steps.specs.Moves.{closed_move}
-use Rattle.read_steps.specs.declared.moves.Move.TheVariants.{Fault, To, Put, Open, Bracket, Close, Sequence, Parallel, Turn, When}
+use Rattle.read_steps.specs.declared.moves.Move.TheVariants.{Fault, Close, Turn}
 use Rattle.read_steps.proofs.MoveLaws.{closed_other}
 use Rattle.read_steps.proofs.moves.closed_move.Goals as goal
 

@@ -1,11 +1,6 @@
 -- `moves::due_move`: a row for each arm. Assumes nothing.
-use mathlib.Core.Path.{◌≡◌, refl, sym, ap, ap₂, ◌∙◌}
-use mathlib.Core.Bool.{Bool, cond}
-use Prim.Native.Nat.{ℕ}
-use borrow.Author.Tests.{ne_eqb, eq-eqb}
-use lib.Dec.{eqb}
+use mathlib.Core.Path.{sym, ap}
 use Rattle.read_steps.specs.Moves.{due_move}
-use Rattle.read_steps.specs.declared.moves.Move.TheVariants.{Fault, To, Put, Open, Bracket, Close, Sequence, Parallel, Turn, When}
 use Rattle.read_steps.proofs.MoveLaws.{due_other}
 use Rattle.read_steps.proofs.moves.due_move.Goals as goal
 

@@ -1,12 +1,6 @@
 -- `moves::name_move`: by what the name stands for. Assumes nothing.
-use mathlib.Core.Path.{◌≡◌, refl, sym, ap, ap₂, ◌∙◌}
-use mathlib.Core.Bool.{Bool, cond}
-use Prim.Native.Nat.{ℕ}
-use borrow.Author.Tests.{ne_eqb, eq-eqb}
-use lib.Dec.{eqb}
+use mathlib.Core.Path.{sym, ap, ◌∙◌}
 use Rattle.read_steps.specs.Moves.{found_move}
-use Rattle.read_steps.specs.declared.moves.Move.TheVariants.{Fault, To, Put, Open, Bracket, Close, Sequence, Parallel, Turn, When}
-use borrow.Author.Rules.{rules}
 use Rattle.read_steps.proofs.moves.name_move.Goals as goal
 
 pub returns-in-Nothing : goal.returns-in-Nothing

@@ -1,11 +1,10 @@
 -- `moves::new_move`: only `trap` and `signal` want a new name. Assumes nothing.
-use mathlib.Core.Path.{◌≡◌, refl, sym, ap, ap₂, ◌∙◌}
-use mathlib.Core.Bool.{Bool, cond}
+use mathlib.Core.Path.{sym, ap}
+use mathlib.Core.Bool.{cond}
 use Prim.Native.Nat.{ℕ}
-use borrow.Author.Tests.{ne_eqb, eq-eqb}
-use lib.Dec.{eqb}
+use borrow.Author.Tests.{ne_eqb}
 use Rattle.read_steps.specs.Moves.{new_move}
-use Rattle.read_steps.specs.declared.moves.Move.TheVariants.{Fault, To, Put, Open, Bracket, Close, Sequence, Parallel, Turn, When}
+use Rattle.read_steps.specs.declared.moves.Move.TheVariants.{Fault, Open}
 use Rattle.read_steps.proofs.moves.new_move.Goals as goal
 
 pub returns-then-mode-eq5 : goal.returns-then-mode-eq5

@@ -1,13 +1,11 @@
 -- `moves::sign_move`: a row for each state. Assumes nothing.
-use mathlib.Core.Path.{◌≡◌, refl, sym, ap, ap₂, ◌∙◌}
+use mathlib.Core.Path.{sym, ap, ap₂, ◌∙◌}
 use mathlib.Core.Bool.{Bool, cond}
 use Prim.Native.Nat.{ℕ}
-use borrow.Author.Tests.{ne_eqb, eq-eqb}
-use lib.Dec.{eqb}
+use borrow.Author.Tests.{ne_eqb}
 use Rattle.read_steps.specs.Moves.{sign_move, due_move, after_move}
-use Rattle.read_steps.specs.declared.moves.Move.TheVariants.{Fault, To, Put, Open, Bracket, Close, Sequence, Parallel, Turn, When}
+use Rattle.read_steps.specs.declared.moves.Move.TheVariants.{Fault, To}
 use Rattle.read_steps.proofs.MoveLaws.{sign_other}
-use borrow.Author.Rules.{rules}
 use Rattle.read_steps.proofs.moves.sign_move.Goals as goal
 
 pub returns-then-kind-eq4 : goal.returns-then-kind-eq4

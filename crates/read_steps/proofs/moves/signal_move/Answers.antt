@@ -1,11 +1,7 @@
 -- `moves::signal_move`: a row for each arm. Assumes nothing.
-use mathlib.Core.Path.{◌≡◌, refl, sym, ap, ap₂, ◌∙◌}
-use mathlib.Core.Bool.{Bool, cond}
+use mathlib.Core.Path.{sym, ap}
 use Prim.Native.Nat.{ℕ}
-use borrow.Author.Tests.{ne_eqb, eq-eqb}
-use lib.Dec.{eqb}
 use Rattle.read_steps.specs.Moves.{signal_move}
-use Rattle.read_steps.specs.declared.moves.Move.TheVariants.{Fault, To, Put, Open, Bracket, Close, Sequence, Parallel, Turn, When}
 use Rattle.read_steps.proofs.MoveLaws.{signal_other}
 use Rattle.read_steps.proofs.moves.signal_move.Goals as goal
 

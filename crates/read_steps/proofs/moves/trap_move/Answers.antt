@@ -1,11 +1,10 @@
 -- `moves::trap_move`: only `exit` wants a trap's name. Assumes nothing.
-use mathlib.Core.Path.{◌≡◌, refl, sym, ap, ap₂, ◌∙◌}
+use mathlib.Core.Path.{sym, ap}
 use mathlib.Core.Bool.{Bool, cond}
 use Prim.Native.Nat.{ℕ}
-use borrow.Author.Tests.{ne_eqb, eq-eqb}
-use lib.Dec.{eqb}
+use borrow.Author.Tests.{ne_eqb}
 use Rattle.read_steps.specs.Moves.{trap_move}
-use Rattle.read_steps.specs.declared.moves.Move.TheVariants.{Fault, To, Put, Open, Bracket, Close, Sequence, Parallel, Turn, When}
+use Rattle.read_steps.specs.declared.moves.Move.TheVariants.{Fault, Put}
 use Rattle.read_steps.proofs.moves.trap_move.Goals as goal
 
 pub returns-then-mode-eq3 : goal.returns-then-mode-eq3

@@ -1,8 +1,5 @@
 -- `steps::bracket_step`: one more of the same place, one place too many, or a new one. Assumes nothing.
-use native.Mathlib.Omega.{arith}
-use mathlib.Core.Path.{◌≡◌, refl, sym, ap, ◌∙◌}
-use borrow.Author.Rules.{rules}
-use Prim.Native.Nat.{ℕ, suc, ◌+◌, ◌-◌}
+use mathlib.Core.Path.{refl}
 use Rattle.read_steps.specs.Moves.{made}
 use Rattle.read_steps.specs.Holding.{state_of}
 use Rattle.read_steps.proofs.StepLaws.{bracket_held, bracket_burst, bracket_opened}

@@ -1,10 +1,7 @@
 -- `steps::close_step`: a bracket of the place, no place left, or the place. Assumes nothing.
 use native.Mathlib.Omega.{arith}
-use mathlib.Core.Path.{◌≡◌, refl, sym, ap, ◌∙◌}
-use borrow.Author.Rules.{rules}
-use Prim.Native.Nat.{ℕ, suc, ◌+◌, ◌-◌}
+use mathlib.Core.Path.{refl}
 use Rattle.read_steps.specs.Moves.{made}
-use Rattle.read_steps.specs.Holding.{state_of}
 use Rattle.read_steps.proofs.StepLaws.{close_bracket, close_none, close_place}
 use Rattle.read_steps.proofs.steps.close_step.Goals as goal
 

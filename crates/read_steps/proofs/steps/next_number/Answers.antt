@@ -1,11 +1,10 @@
 -- `steps::next_number`: one more where a signal is declared. Assumes nothing.
-use mathlib.Core.Path.{◌≡◌, refl, sym, ap, ◌∙◌}
+use mathlib.Core.Path.{◌≡◌, sym, ap, ◌∙◌}
 use mathlib.Core.Bool.{Bool, cond}
 use Prim.Native.Nat.{ℕ, suc, ◌+◌}
 use native.Mathlib.Omega.{arith}
 use borrow.Author.Tests.{ne_eqb}
 use Rattle.read_steps.specs.Moves.{next_after}
-use borrow.Author.Rules.{rules}
 use Rattle.read_steps.proofs.steps.next_number.Goals as goal
 
 pub returns-then-kind-eq6 : goal.returns-then-kind-eq6

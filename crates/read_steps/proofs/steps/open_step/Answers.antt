@@ -1,10 +1,4 @@
 -- `steps::open_step`: one place too many, or a new one behind a record. Assumes nothing.
-use native.Mathlib.Omega.{arith}
-use mathlib.Core.Path.{◌≡◌, refl, sym, ap, ◌∙◌}
-use borrow.Author.Rules.{rules}
-use Prim.Native.Nat.{ℕ, suc, ◌+◌, ◌-◌}
-use Rattle.read_steps.specs.Moves.{made}
-use Rattle.read_steps.specs.Holding.{state_of}
 use Rattle.read_steps.proofs.StepLaws.{open_burst, open_held}
 use Rattle.read_steps.proofs.steps.open_step.Goals as goal
 

@@ -1,10 +1,5 @@
 -- `steps::parallel_step`: a record before the last arm. Assumes nothing.
-use native.Mathlib.Omega.{arith}
-use mathlib.Core.Path.{◌≡◌, refl, sym, ap, ◌∙◌}
-use borrow.Author.Rules.{rules}
-use Prim.Native.Nat.{ℕ, suc, ◌+◌, ◌-◌}
 use Rattle.read_steps.specs.Moves.{made}
-use Rattle.read_steps.specs.Holding.{state_of}
 use Rattle.read_steps.proofs.StepLaws.{short_23, arm_right, parallel_held}
 use Rattle.read_steps.proofs.steps.parallel_step.Goals as goal
 

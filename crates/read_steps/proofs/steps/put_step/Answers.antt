@@ -1,10 +1,5 @@
 -- `steps::put_step`: a record at the end. Assumes nothing.
-use native.Mathlib.Omega.{arith}
-use mathlib.Core.Path.{◌≡◌, refl, sym, ap, ◌∙◌}
-use borrow.Author.Rules.{rules}
-use Prim.Native.Nat.{ℕ, suc, ◌+◌, ◌-◌}
 use Rattle.read_steps.specs.Moves.{made}
-use Rattle.read_steps.specs.Holding.{state_of}
 use Rattle.read_steps.proofs.StepLaws.{put_held}
 use Rattle.read_steps.proofs.steps.put_step.Goals as goal
 

@@ -1,10 +1,5 @@
 -- `steps::sequence_step`: a record before the last basic statement. Assumes nothing.
-use native.Mathlib.Omega.{arith}
-use mathlib.Core.Path.{◌≡◌, refl, sym, ap, ◌∙◌}
-use borrow.Author.Rules.{rules}
-use Prim.Native.Nat.{ℕ, suc, ◌+◌, ◌-◌}
 use Rattle.read_steps.specs.Moves.{made}
-use Rattle.read_steps.specs.Holding.{state_of}
 use Rattle.read_steps.proofs.StepLaws.{short_21, link_right, sequence_held}
 use Rattle.read_steps.proofs.steps.sequence_step.Goals as goal
 

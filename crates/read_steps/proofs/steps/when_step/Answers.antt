@@ -1,10 +1,5 @@
 -- `steps::when_step`: the operand of the suspend's record. Assumes nothing.
-use native.Mathlib.Omega.{arith}
-use mathlib.Core.Path.{◌≡◌, refl, sym, ap, ◌∙◌}
-use borrow.Author.Rules.{rules}
-use Prim.Native.Nat.{ℕ, suc, ◌+◌, ◌-◌}
 use Rattle.read_steps.specs.Moves.{made}
-use Rattle.read_steps.specs.Holding.{state_of}
 use Rattle.read_steps.proofs.StepLaws.{link_right, when_held}
 use Rattle.read_steps.proofs.steps.when_step.Goals as goal
 

@@ -1,6 +1,5 @@
 -- `ending::checked_copy`: a refusal of the block is passed on, and a good block is copied. Assumes nothing.
 use Rattle.read_text.proofs.EndingLaws.{refusal_passed, good_copied}
-use borrow.Author.Rules.{rules}
 use Rattle.read_text.proofs.ending.checked_copy.Goals as goal
 
 pub returns-in-Refused : goal.returns-in-Refused

@@ -2,7 +2,6 @@
 use mathlib.Core.Path.{refl}
 use native.Mathlib.Omega.{arith}
 use Rattle.read_text.proofs.EndingLaws.{no_room, copied_in}
-use borrow.Author.Rules.{rules}
 use Rattle.read_text.proofs.ending.copied.Goals as goal
 
 pub returns-then-lent-size : goal.returns-then-lent-size

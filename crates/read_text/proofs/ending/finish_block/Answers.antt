@@ -5,7 +5,6 @@ use native.Mathlib.Omega.{arith}
 use lib.ListN.{length}
 use lib.Seq.{length-sets, length-take-le}
 use Rattle.read_text.proofs.EndingLaws.{over_signals, over_bytes, block_owed}
-use borrow.Author.Rules.{rules}
 use Rattle.read_text.proofs.ending.finish_block.Goals as goal
 
 pub returns-then-next-gt64 : goal.returns-then-next-gt64

@@ -1,6 +1,5 @@
 -- `heading::again`: it is declared where it stands for something. Assumes nothing.
 use mathlib.Core.Path.{sym, ap, ◌∙◌}
-use borrow.Author.Rules.{rules}
 use Rattle.read_steps.proofs.MoveLaws.{told_some, declared_found}
 use Rattle.read_text.proofs.heading.again.Goals as goal
 

@@ -2,7 +2,6 @@
 use mathlib.Core.Path.{refl, sym, ap, ◌∙◌}
 use mathlib.Core.Bool.{cond}
 use lib.Dec.{eqb}
-use borrow.Author.Rules.{rules}
 use Rattle.read_text.specs.Reading.{after_name}
 use Rattle.read_text.proofs.ReaderLaws.{name_fault, name_again, name_taken}
 use Rattle.read_text.proofs.heading.head_name.Goals as goal

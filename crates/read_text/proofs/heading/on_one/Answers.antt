@@ -1,10 +1,7 @@
 -- `heading::on_one`: one number or the other. Assumes nothing.
-use mathlib.Core.Path.{◌≡◌, sym, ap, ◌∙◌}
+use mathlib.Core.Path.{sym, ap}
 use mathlib.Core.Bool.{Bool, cond}
-use Prim.Native.Nat.{ℕ}
 use borrow.Author.Tests.{ne_eqb, eq-eqb}
-use borrow.Author.Rules.{rules}
-use lib.Dec.{eqb}
 use Rattle.read_text.proofs.heading.on_one.Goals as goal
 
 pub returns-then-kind-key : goal.returns-then-kind-key

@@ -1,5 +1,4 @@
 -- `reading::body_token`: the step of the statement, with the header's numbers as they were. Assumes nothing.
-use borrow.Author.Rules.{rules}
 use Rattle.read_text.proofs.ReaderLaws.{body_taken}
 use Rattle.read_text.proofs.reading.body_token.Goals as goal
 

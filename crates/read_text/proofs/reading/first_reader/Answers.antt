@@ -1,6 +1,5 @@
 -- `reading::first_reader`: with the first state of the statement. Assumes nothing.
 use mathlib.Core.Path.{ap}
-use borrow.Author.Rules.{rules}
 use Rattle.read_steps.specs.declared.steps.Stage.{Stage}
 use Rattle.read_text.proofs.reading.first_reader.Goals as goal
 

@@ -3,7 +3,6 @@ use mathlib.Core.Path.{sym, ap, ap₂, ◌∙◌}
 use mathlib.Core.Bool.{Bool, false, cond}
 use Prim.Native.Nat.{ℕ}
 use borrow.Author.Tests.{ne_eqb, eq-eqb}
-use borrow.Author.Rules.{rules}
 use lib.Dec.{eqb}
 use Rattle.read_steps.specs.Holding.{closer_in}
 use Rattle.read_text.specs.Reading.{may_end}

@@ -1,10 +1,7 @@
 -- `reading::scan`: the outcome of the text is that of the reader so far on the tokens that are left. Assumes nothing.
-use mathlib.Core.Path.{sym, ◌∙◌}
 use Prim.Native.Nat.{◌-◌}
-use native.Mathlib.Omega.{arith}
-use borrow.Author.Rules.{rules}
 use lib.ListN.{length}
-use Rattle.read_text.proofs.ScanLaws.{Going, going_first, less_left, ready, going_on, going_stops, still_room, scan_ends, scan_breaks}
+use Rattle.read_text.proofs.ScanLaws.{Going}
 use Rattle.read_text.proofs.reading.scan.Given as goal
 
 abbrev pub invariant-loop-t : goal.invariant-loop-t

@@ -1,5 +1,4 @@
 -- `reading::take`: no token, a token of the statement, a name, a number or a sign of the header, or the statement's first sign. Assumes nothing.
-use borrow.Author.Rules.{rules}
 use Rattle.read_text.proofs.ReaderLaws.{takes_none, takes_body, takes_head, sign_takes, takes_first, body_asks, name_asks, first_asks}
 use Rattle.read_text.proofs.reading.take.Goals as goal
 

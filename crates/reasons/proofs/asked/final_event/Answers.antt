@@ -3,7 +3,6 @@
 use mathlib.Core.Path.{sym, ap, ◌∙◌}
 use lib.Dec.{ltb}
 use Rattle.reasons.proofs.LeafLaws.{final_is}
-use borrow.Author.Rules.{rules}
 use Rattle.reasons.proofs.asked.final_event.Goals as goal
 
 pub returns : goal.returns

@@ -3,7 +3,6 @@
 use mathlib.Core.Path.{◌∙◌}
 use Rattle.sets.specs.Words.{set_of}
 use Rattle.reasons.proofs.AskedLaws.{root_placed, count_fits, open_told, cut_told, cut_so, cut_not}
-use borrow.Author.Rules.{rules}
 use Rattle.reasons.proofs.asked.first_cut.Goals as goal
 
 pub taken-requires : goal.taken-requires

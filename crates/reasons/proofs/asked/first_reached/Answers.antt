@@ -4,7 +4,6 @@ use mathlib.Core.Path.{ap₂, ◌∙◌}
 use Rattle.sets.specs.Numbers.{lowest}
 use Rattle.sets.specs.Words.{set_of}
 use Rattle.reasons.proofs.AskedLaws.{root_placed, count_fits, count_is, marks_of_root}
-use borrow.Author.Rules.{rules}
 use Rattle.reasons.proofs.asked.first_reached.Goals as goal
 
 pub taken-requires : goal.taken-requires

@@ -3,7 +3,6 @@
 use mathlib.Core.Path.{sym}
 use borrow.Author.Tests.{lt-ltb, le-ltb, eq-eqb, ne_eqb}
 use Rattle.reasons.specs.Taking.{open_emit}
-use borrow.Author.Rules.{rules}
 use Rattle.reasons.proofs.asked.is_open_emit.Goals as goal
 
 pub returns-then-kinds-n-eq18 : goal.returns-then-kinds-n-eq18

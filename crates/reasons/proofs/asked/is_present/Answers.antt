@@ -5,7 +5,6 @@ use mathlib.Core.Bool.{true≢false}
 use Rattle.sets.specs.Words.{bits}
 use Rattle.sets.proofs.Words.{bits_high}
 use Rattle.reasons.proofs.LeafLaws.{when_so, when_not}
-use borrow.Author.Rules.{rules}
 use Rattle.reasons.proofs.asked.is_present.Goals as goal
 
 pub returns-then-s-lt64 : goal.returns-then-s-lt64

@@ -8,7 +8,6 @@ use Rattle.words.specs.Words.{hearing_of}
 use Rattle.evaluate.specs.Reacts.{state_of, Reacts}
 use Rattle.reasons.specs.Taking.{asked_of}
 use Rattle.reasons.proofs.AskedLaws.{asked_for, refused_known, refused_unknown, present_so, present_not, executed_known, executed_unknown}
-use borrow.Author.Rules.{rules}
 use Rattle.reasons.proofs.asked.reason.Goals as goal
 
 pub returns-then-r : goal.returns-then-r

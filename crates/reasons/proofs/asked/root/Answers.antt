@@ -3,7 +3,6 @@
 use mathlib.Core.Path.{sym, ap}
 use Rattle.forms.specs.Forms.{task}
 use Rattle.reasons.specs.Taking.{going_by}
-use borrow.Author.Rules.{rules}
 use Rattle.reasons.proofs.asked.root.Goals as goal
 
 pub returns-in-Fresh : goal.returns-in-Fresh

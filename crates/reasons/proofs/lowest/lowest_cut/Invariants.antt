@@ -1,13 +1,8 @@
 -- `reasons::lowest::lowest_cut` meets its contract: no row before i is cut off.
 -- Assumes nothing.
-use borrow.Author.Rules.{rules}
 use Prim.Native.Nat.{ℕ, ◌-◌, ◌≤◌, ◌<◌}
-use native.Mathlib.Omega.{arith}
-use mathlib.Core.Bool.{false}
 use lib.Dec.{T}
-use lib.ListN.{get_or}
 use Rattle.reasons.specs.Taking.{marked_in, cut_rows}
-use Rattle.reasons.proofs.LeafLaws.{cut_is, found_here, found_none, not_here}
 use Rattle.reasons.proofs.lowest.lowest_cut.Given as goal
 
 abbrev pub invariant-loop-i : goal.invariant-loop-i

@@ -1,9 +1,6 @@
 -- `reasons::lowest::lowest_marked` meets its contract: no row before i is marked.
 -- Assumes nothing.
-use borrow.Author.Rules.{rules}
-use Prim.Native.Nat.{ℕ, ◌-◌, ◌≤◌, ◌<◌}
 use native.Mathlib.Omega.{arith}
-use lib.Dec.{T}
 use Rattle.reasons.specs.Taking.{marked_in}
 use Rattle.reasons.proofs.LeafLaws.{found_here, found_none, not_here}
 use Rattle.reasons.proofs.lowest.lowest_marked.Goals as goal

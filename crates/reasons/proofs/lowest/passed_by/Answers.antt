@@ -2,7 +2,6 @@
 -- Assumes nothing.
 use mathlib.Core.Path.{sym}
 use borrow.Author.Tests.{le-leb, lt-leb}
-use borrow.Author.Rules.{rules}
 use Rattle.reasons.proofs.lowest.passed_by.Goals as goal
 
 pub returns-then-row-n : goal.returns-then-row-n

@@ -1,7 +1,6 @@
 -- `reasons::wanted::mark` meets its contract: the mark is stored, or left.
 -- Assumes nothing.
 use Rattle.reasons.proofs.LeafLaws.{mark_stored, mark_left}
-use borrow.Author.Rules.{rules}
 use Rattle.reasons.proofs.wanted.mark.Goals as goal
 
 pub returns-then-wanted : goal.returns-then-wanted

@@ -4,7 +4,6 @@ use mathlib.Core.Path.{sym, ◌∙◌}
 use Rattle.words.specs.Words.{event_of}
 use Rattle.reasons.specs.Taking.{wanted_of, hit}
 use Rattle.reasons.proofs.LeafLaws.{when_so, when_not}
-use borrow.Author.Rules.{rules}
 use Rattle.reasons.proofs.wanted.wanted_here.Goals as goal
 
 pub returns-then-reached : goal.returns-then-reached

@@ -3,7 +3,6 @@
 use mathlib.Core.Path.{refl}
 use Rattle.reasons.specs.Taking.{hit}
 use Rattle.reasons.proofs.LeafLaws.{by_form, by_test, by_plain}
-use borrow.Author.Rules.{rules}
 use Rattle.reasons.proofs.wanted.wanted_in.Goals as goal
 
 pub returns-in-Say : goal.returns-in-Say

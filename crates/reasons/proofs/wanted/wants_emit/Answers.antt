@@ -3,7 +3,6 @@
 use mathlib.Core.Path.{sym, ap}
 use Rattle.rules.specs.Taken.{wants_emit}
 use Rattle.reasons.specs.Taking.{wanted_of}
-use borrow.Author.Rules.{rules}
 use Rattle.reasons.proofs.wanted.wants_emit.Goals as goal
 
 pub returns-in-EmitOf : goal.returns-in-EmitOf

@@ -3,7 +3,6 @@ use mathlib.Core.Path.{sym, ap}
 use mathlib.Core.Bool.{not}
 use Prim.Native.Nat.{ℕ}
 use lib.Dec.{eqb}
-use borrow.Author.Rules.{rules}
 use Rattle.records.proofs.TwoWords.{shifted_out}
 use Rattle.records.proofs.bits.bit_from.Goals as goal
 

@@ -1,7 +1,6 @@
 -- `bits::has`: the bit of the word that has it. Assumes nothing.
 use mathlib.Core.Path.{sym}
 use lib.ListN.{get_or}
-use borrow.Author.Rules.{rules}
 use Rattle.sets.specs.Words.{bits}
 use Rattle.records.proofs.TwoWords.{in_low, in_high}
 use Rattle.records.proofs.bits.has.Goals as goal

@@ -1,5 +1,4 @@
 -- `bits::input_over`: the definition is the leaf's. Assumes nothing.
-use borrow.Author.Rules.{rules}
 use Rattle.records.specs.StateRecord.{undeclared_input}
 use Rattle.records.proofs.bits.input_over.Goals as goal
 

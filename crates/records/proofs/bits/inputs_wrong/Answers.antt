@@ -1,5 +1,4 @@
 -- `bits::inputs_wrong`: one law of Inputs for each way. Assumes nothing.
-use borrow.Author.Rules.{rules}
 use Rattle.records.proofs.Inputs.{wrong_present, wrong_absent, wrong_both}
 use Rattle.records.proofs.bits.inputs_wrong.Goals as goal
 

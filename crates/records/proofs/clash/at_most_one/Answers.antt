@@ -1,9 +1,5 @@
 -- `clash::at_most_one`: none before the present one is active. Assumes nothing.
-use mathlib.Core.Path.{◌≡◌, refl, sym, ◌∙◌}
-use Prim.Native.Nat.{ℕ, ◌-◌, ◌≤◌, ◌<◌}
 use native.Mathlib.Omega.{arith}
-use lib.Dec.{T}
-use borrow.Author.Rules.{rules}
 use Rattle.sets.specs.Words.{set_of}
 use Rattle.records.proofs.Pairs.{none_and_one, none_more}
 use Rattle.records.proofs.clash.at_most_one.Goals as goal

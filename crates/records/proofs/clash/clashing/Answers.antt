@@ -1,6 +1,5 @@
 -- `clash::clashing`: both active, and the lowest statement above them no parallel. Assumes nothing.
 use mathlib.Core.Path.{sym, ◌∙◌}
-use borrow.Author.Rules.{rules}
 use Rattle.sets.specs.Words.{set_of}
 use Rattle.sets.proofs.Members.{of_true}
 use Rattle.records.proofs.Pairs.{root_place, clash_tested, clash_inactive}

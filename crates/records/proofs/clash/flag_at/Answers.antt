@@ -1,6 +1,5 @@
 -- `clash::flag_at`: past the table nothing is asked. Assumes nothing.
 use native.Mathlib.Omega.{arith}
-use borrow.Author.Rules.{rules}
 use Rattle.records.proofs.clash.flag_at.Goals as goal
 
 pub returns-else-at-lt512 : goal.returns-else-at-lt512

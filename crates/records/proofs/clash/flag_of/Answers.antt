@@ -1,7 +1,6 @@
 -- `clash::flag_of`: a pause by the set, any other statement by the flags of its parts. Assumes nothing.
 use mathlib.Core.Path.{refl, sym, ◌∙◌}
 use native.Mathlib.Omega.{arith}
-use borrow.Author.Rules.{rules}
 use Rattle.sets.proofs.Members.{of_false}
 use Rattle.records.proofs.Steps.{true_false}
 use Rattle.records.proofs.Quiet.{pause_flag, part_flag, told_flag}

@@ -1,8 +1,6 @@
 -- `clash::in_parallel`: the walk comes to the lowest statement above both. Assumes nothing.
 use native.Mathlib.Omega.{arith}
-use Prim.Native.Nat.{◌-◌, ◌<◌}
-use Rattle.rules.specs.Statements.{Stmt}
-use Rattle.records.specs.Clashing.{Place}
+use Prim.Native.Nat.{◌<◌}
 use Rattle.records.proofs.Steps.{Reaches, reach_root, reach_in, reach_next, reach_here}
 use Rattle.records.proofs.clash.in_parallel.Goals as goal
 

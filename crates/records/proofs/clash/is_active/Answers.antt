@@ -1,7 +1,6 @@
 -- `clash::is_active`: from the bound on no pause is. Assumes nothing.
 use mathlib.Core.Path.{sym}
 use native.Mathlib.Omega.{arith}
-use borrow.Author.Rules.{rules}
 use Rattle.sets.specs.Words.{set_of}
 use Rattle.sets.proofs.Members.{is_false}
 use Rattle.records.proofs.clash.is_active.Goals as goal

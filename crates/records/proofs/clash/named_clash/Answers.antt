@@ -1,14 +1,11 @@
 -- `clash::named_clash`: no pair before the present one clashes, so that the pair at the label is the first. Assumes nothing.
 use borrow.Author.Rules.{rules}
 use native.Mathlib.Omega.{arith}
-use mathlib.Core.Path.{◌≡◌, refl, sym, ap, ◌∙◌}
-use Prim.Native.Nat.{◌-◌, ◌<◌}
+use mathlib.Core.Path.{refl, sym, ap, ◌∙◌}
 use Rattle.sets.specs.Words.{set_of}
 use Rattle.sets.proofs.Members.{of_true}
-use Rattle.rules.specs.Statements.{Stmt}
-use Rattle.records.specs.declared.clash.Clash.TheVariants as clash
-use Rattle.records.specs.Clashing.{Searchable, pair_of}
-use Rattle.records.proofs.Pairs.{ClearFirst, ClearSecond, first_begin, second_begin, second_more, first_tested, first_passed, bound_passed, pair_found}
+use Rattle.records.specs.Clashing.{pair_of}
+use Rattle.records.proofs.Pairs.{first_begin, second_begin, second_more, first_tested, first_passed, bound_passed, pair_found}
 use Rattle.records.proofs.clash.named_clash.Goals as goal
 use Rattle.records.proofs.clash.named_clash.Goals.{then-has+else-loop-n-test, else-has}
 

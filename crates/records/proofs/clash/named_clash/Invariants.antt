@@ -1,15 +1,11 @@
 -- `clash::named_clash`: no pair before the present one clashes, so that the pair at the label is the first. Assumes nothing.
-use borrow.Author.Rules.{rules}
-use native.Mathlib.Omega.{arith}
-use mathlib.Core.Path.{◌≡◌, refl, sym, ap, ◌∙◌}
-use mathlib.Core.Logic.{⊎_elim}
+use mathlib.Core.Path.{◌≡◌}
 use Prim.Native.Nat.{◌-◌, ◌<◌}
 use Rattle.sets.specs.Words.{set_of}
-use Rattle.sets.proofs.Members.{of_true}
 use Rattle.rules.specs.Statements.{Stmt}
 use Rattle.records.specs.declared.clash.Clash.TheVariants as clash
-use Rattle.records.specs.Clashing.{Searchable, pair_of}
-use Rattle.records.proofs.Pairs.{ClearFirst, ClearSecond, first_begin, second_begin, second_more, first_tested, first_passed, bound_passed, pair_found}
+use Rattle.records.specs.Clashing.{Searchable}
+use Rattle.records.proofs.Pairs.{ClearFirst, ClearSecond}
 use Rattle.records.proofs.clash.named_clash.Given as goal
 
 abbrev pub invariant-loop-n : goal.invariant-loop-n

@@ -1,7 +1,6 @@
 -- `clash::parts_clash`: a parallel parts what is compatible, and no other statement parts two where one of its parts has no flag. Assumes nothing.
 use mathlib.Core.Path.{refl, sym, ◌∙◌}
 use lib.ListN.{get_or}
-use borrow.Author.Rules.{rules}
 use borrow.Author.Tests.{eq-eqb}
 use Rattle.sets.proofs.Members.{of_true, of_false}
 use Rattle.records.proofs.Steps.{true_false}

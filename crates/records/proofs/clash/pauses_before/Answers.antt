@@ -1,9 +1,8 @@
 -- `clash::pauses_before`: the counter is the count of pauses before the place, and is kept at each. Assumes nothing.
 use borrow.Author.Rules.{rules}
 use mathlib.Core.Path.{◌≡◌, refl, ◌∙◌}
-use Prim.Native.Nat.{ℕ, ◌-◌, ◌≤◌, ◌<◌}
 use native.Mathlib.Omega.{arith}
-use lib.ListN.{length, get_or, length-set}
+use lib.ListN.{length-set}
 use Rattle.records.specs.Clashing.{before}
 use Rattle.records.proofs.Steps.{count_more, count_same, filled_more}
 use Rattle.records.proofs.clash.pauses_before.Goals as goal

@@ -1,10 +1,8 @@
 -- `clash::some_clash`: of the rows gone through, from the last on, each has its flag and no two active pauses clash. Assumes nothing.
-use mathlib.Core.Path.{◌≡◌, refl, ◌∙◌}
-use Prim.Native.Nat.{◌-◌, ◌≤◌}
+use mathlib.Core.Path.{refl, ◌∙◌}
+use Prim.Native.Nat.{◌-◌}
 use native.Mathlib.Omega.{arith}
-use lib.ListN.{length, length-set}
-use borrow.Author.Rules.{rules}
-use Rattle.records.specs.Clashing.{Quiet}
+use lib.ListN.{length-set}
 use Rattle.records.proofs.Steps.{true_false}
 use Rattle.records.proofs.Quiet.{quiet_behind, quiet_step, quiet_all}
 use Rattle.records.proofs.clash.some_clash.Goals as goal

@@ -1,7 +1,6 @@
 -- `clash::toward`: one law of Steps for each way. Assumes nothing.
 use mathlib.Core.Path.{sym, ◌∙◌}
 use native.Mathlib.Omega.{arith}
-use borrow.Author.Rules.{rules}
 use Rattle.records.proofs.Standing.{here}
 use Rattle.records.proofs.Steps.{next_in, second_below, goes_first, goes_second, goes_only, stays}
 use Rattle.records.proofs.clash.toward.Goals as goal

@@ -1,11 +1,9 @@
 -- `fields::put_fields`: the stores that are left make of the present bytes what all of them make of the first. Assumes nothing.
-use mathlib.Core.Path.{◌≡◌, refl, sym, ◌∙◌}
-use Prim.Native.Nat.{◌+◌, ◌-◌, ◌≤◌}
+use mathlib.Core.Path.{refl, sym, ◌∙◌}
+use Prim.Native.Nat.{◌+◌, ◌≤◌}
 use native.Mathlib.Omega.{arith}
-use lib.ListN.{length, get_or, drop}
-use lib.Seq.{sets}
+use lib.ListN.{length, get_or}
 use borrow.Author.Rules.{rules}
-use Rattle.records.specs.Fields.{size, laid}
 use Rattle.records.proofs.Widths.{size_left, one_laid, all_laid}
 use Rattle.records.proofs.fields.put_fields.Goals as goal
 

@@ -1,6 +1,5 @@
 -- `log::write_at_end`: the record is at the front of the part from the end on. Assumes nothing.
 use mathlib.Core.Path.{refl}
-use borrow.Author.Rules.{rules}
 use Rattle.records.proofs.Writing.{lent_on}
 use Rattle.records.proofs.log.write_at_end.Goals as goal
 

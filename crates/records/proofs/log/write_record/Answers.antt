@@ -1,5 +1,4 @@
 -- `log::write_record`: the fields that are laid make the record. Assumes nothing.
-use borrow.Author.Rules.{rules}
 use Rattle.records.proofs.Writing.{log_stored}
 use Rattle.records.proofs.log.write_record.Goals as goal
 

@@ -1,9 +1,6 @@
 -- `numerals::number_at`: the sum is the field of the bytes passed so far, from the highest down. Assumes nothing.
-use mathlib.Core.Path.{◌∙◌, ◌≡◌}
-use Prim.Native.Nat.{◌*◌, ◌+◌, ◌-◌, ◌≤◌, ◌<◌, ◌^◌}
-use borrow.Author.Rules.{rules}
-use native.Mathlib.Omega.{arith}
-use Rattle.records.proofs.Bytes.{field_begin, small_begin, field_end, field_more, more_fits, to_eight}
+use mathlib.Core.Path.{◌≡◌}
+use Prim.Native.Nat.{◌+◌, ◌-◌, ◌≤◌, ◌<◌, ◌^◌}
 use Rattle.records.specs.Numerals.{field}
 use Rattle.records.proofs.numerals.number_at.Given as goal
 

@@ -1,11 +1,7 @@
 -- `numerals::put_number`: the stores that are left make of the present bytes what all of them make of the first. Assumes nothing.
-use mathlib.Core.Path.{sym, ◌∙◌, ◌≡◌, refl}
-use Prim.Native.Nat.{◌+◌, ◌-◌, ◌≤◌}
+use mathlib.Core.Path.{sym, ◌∙◌, refl}
 use borrow.Author.Rules.{rules}
-use lib.ListN.{length}
-use lib.Seq.{sets}
 use Rattle.records.proofs.Bytes.{stores_begin, stores_more, stores_end}
-use Rattle.records.specs.Numerals.{in_bytes}
 use Rattle.records.proofs.numerals.put_number.Goals as goal
 
 pub loop-i-init : goal.loop-i-init

@@ -1,10 +1,8 @@
 -- `numerals::put_number`: the stores that are left make of the present bytes what all of them make of the first. Assumes nothing.
-use mathlib.Core.Path.{sym, ◌∙◌, ◌≡◌, refl}
+use mathlib.Core.Path.{◌≡◌}
 use Prim.Native.Nat.{◌+◌, ◌-◌, ◌≤◌}
-use borrow.Author.Rules.{rules}
 use lib.ListN.{length}
 use lib.Seq.{sets}
-use Rattle.records.proofs.Bytes.{stores_begin, stores_more, stores_end}
 use Rattle.records.specs.Numerals.{in_bytes}
 use Rattle.records.proofs.numerals.put_number.Given as goal
 

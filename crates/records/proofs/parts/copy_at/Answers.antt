@@ -1,9 +1,7 @@
 -- `parts::copy_at`: the bytes copied so far stand in place of those that were there. Assumes nothing.
-use mathlib.Core.Path.{◌≡◌, refl, ◌∙◌}
-use Prim.Native.Nat.{◌-◌, ◌≤◌}
+use mathlib.Core.Path.{refl, ◌∙◌}
 use borrow.Author.Rules.{rules}
-use lib.ListN.{length}
-use lib.Seq.{paste, paste-zero}
+use lib.Seq.{paste-zero}
 use Rattle.records.proofs.Bytes.{copied, copy_more}
 use Rattle.records.proofs.parts.copy_at.Goals as goal
 

@@ -1,10 +1,8 @@
 -- `parts::copy_at`: the bytes copied so far stand in place of those that were there. Assumes nothing.
-use mathlib.Core.Path.{◌≡◌, refl, ◌∙◌}
+use mathlib.Core.Path.{◌≡◌}
 use Prim.Native.Nat.{◌-◌, ◌≤◌}
-use borrow.Author.Rules.{rules}
 use lib.ListN.{length}
-use lib.Seq.{paste, paste-zero}
-use Rattle.records.proofs.Bytes.{copied, copy_more}
+use lib.Seq.{paste}
 use Rattle.records.proofs.parts.copy_at.Given as goal
 
 abbrev pub invariant-loop-i : goal.invariant-loop-i

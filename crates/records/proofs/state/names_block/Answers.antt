@@ -1,5 +1,4 @@
 -- `state::names_block`: the length and the two fields, one law of Reading for each way. Assumes nothing.
-use borrow.Author.Rules.{rules}
 use Rattle.records.proofs.Reading.{named_unsized, named_other, named_by}
 use Rattle.records.proofs.state.names_block.Goals as goal
 

@@ -1,5 +1,4 @@
 -- `state::put_state`: the fields that are laid make the record. Assumes nothing.
-use borrow.Author.Rules.{rules}
 use Rattle.records.proofs.Writing.{state_stored}
 use Rattle.records.proofs.state.put_state.Goals as goal
 

@@ -1,7 +1,6 @@
 -- `state::write_next`: the two fields that are read back name the block again. Assumes nothing.
 use mathlib.Core.Path.{◌∙◌, ap₂}
 use Prim.Native.Nat.{ℕ}
-use borrow.Author.Rules.{rules}
 use Rattle.records.specs.Held.{state_bytes}
 use Rattle.records.proofs.state.write_next.Goals as goal
 

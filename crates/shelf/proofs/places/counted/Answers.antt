@@ -1,6 +1,5 @@
 -- `places::counted`: the party decides. Assumes nothing.
 use Rattle.shelf.proofs.Passing.{read_if, none_if}
-use borrow.Author.Rules.{rules}
 use Rattle.shelf.proofs.places.counted.Goals as goal
 
 pub returns-then-number_at-party : goal.returns-then-number_at-party

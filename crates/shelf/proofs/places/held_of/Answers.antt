@@ -1,8 +1,7 @@
 -- `places::held_of`: what is summed, and what the entries that are still due add to it. Assumes nothing.
 use mathlib.Core.Path.{refl}
-use Prim.Native.Nat.{◌-◌}
 use native.Mathlib.Omega.{arith}
-use Rattle.shelf.proofs.Passing.{Summed, summed_begin, summed_more, summed_fits, summed_end, room}
+use Rattle.shelf.proofs.Passing.{summed_begin, summed_more, summed_fits, summed_end, room}
 use Rattle.shelf.proofs.places.held_of.Goals as goal
 
 pub loop-at-init : goal.loop-at-init

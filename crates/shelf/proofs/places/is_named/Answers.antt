@@ -1,6 +1,5 @@
 -- `places::is_named`: the two numbers are read one after the other. Assumes nothing.
 use Rattle.shelf.proofs.Passing.{both_read, first_other}
-use borrow.Author.Rules.{rules}
 use Rattle.shelf.proofs.places.is_named.Goals as goal
 
 pub returns-then-number_at-party : goal.returns-then-number_at-party

@@ -3,7 +3,6 @@ use Prim.Native.Nat.{◌+◌}
 use native.Mathlib.Omega.{arith}
 use Rattle.shelf.proofs.OnlyShelf.{field_small}
 use Rattle.shelf.proofs.Walking.{few_left, too_short, too_long, other_kind, ends_further, ends_here}
-use borrow.Author.Rules.{rules}
 use Rattle.shelf.proofs.walk.entry_end.Goals as goal
 
 pub returns-then-left-lt8 : goal.returns-then-left-lt8

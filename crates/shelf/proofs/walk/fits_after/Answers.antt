@@ -2,7 +2,6 @@
 use native.Mathlib.Omega.{arith}
 use Rattle.shelf.proofs.Legality.{quota}
 use Rattle.shelf.proofs.Walking.{third_party, name_taken, over_quota, by_its_block}
-use borrow.Author.Rules.{rules}
 use Rattle.shelf.proofs.walk.fits_after.Goals as goal
 
 pub returns-then-party-gt1 : goal.returns-then-party-gt1

@@ -1,6 +1,5 @@
 -- `walk::good_block`: the check's answer, good or not. Assumes nothing.
 use Rattle.shelf.proofs.Walking.{is_good_one, is_no_good}
-use borrow.Author.Rules.{rules}
 use Rattle.shelf.proofs.walk.good_block.Goals as goal
 
 pub returns-in-Good : goal.returns-in-Good

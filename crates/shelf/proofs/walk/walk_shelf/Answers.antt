@@ -1,10 +1,7 @@
 -- `walk::walk_shelf`: the entries before the place are read, and the reading goes on from there. Assumes nothing.
-use mathlib.Core.Path.{◌≡◌, sym, ◌∙◌}
-use Prim.Native.Nat.{◌-◌}
+use mathlib.Core.Path.{sym, ◌∙◌}
 use native.Mathlib.Omega.{arith}
-use lib.ListN.{length}
-use borrow.Author.Tests.{not-true, not-false}
-use Rattle.shelf.proofs.Walking.{Walking, walking_begin, walking_ends, walking_end, walking_more, forward, no_size, no_shelf, on_shelf}
+use Rattle.shelf.proofs.Walking.{walking_begin, walking_ends, walking_end, walking_more, forward, no_size, no_shelf, on_shelf}
 use Rattle.shelf.proofs.walk.walk_shelf.Goals as goal
 
 pub returns-then-shelf-ne65536 : goal.returns-then-shelf-ne65536

@@ -1,9 +1,5 @@
 -- `walk::zeros_from`: the bytes passed so far are zeros, so those that are left decide. Assumes nothing.
-use mathlib.Core.Path.{◌≡◌, refl, sym, ◌∙◌}
-use Prim.Native.Nat.{◌-◌}
-use borrow.Author.Rules.{rules}
-use lib.ListN.{length, drop}
-use Rattle.shelf.specs.Entries.{zeros}
+use mathlib.Core.Path.{refl, sym, ◌∙◌}
 use Rattle.shelf.proofs.Walking.{zeros_more, no_zero, none_left}
 use Rattle.shelf.proofs.walk.zeros_from.Goals as goal
 

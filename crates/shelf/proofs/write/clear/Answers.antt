@@ -1,9 +1,8 @@
 -- `write::clear`: the zeros stored so far stand in place of what was there. Assumes nothing.
-use mathlib.Core.Path.{◌≡◌, refl, ◌∙◌}
-use Prim.Native.Nat.{◌-◌, ◌≤◌}
+use mathlib.Core.Path.{refl, ◌∙◌}
 use borrow.Author.Rules.{rules}
-use lib.ListN.{length, replicate}
-use lib.Seq.{paste, paste-zero}
+use lib.ListN.{replicate}
+use lib.Seq.{paste-zero}
 use Rattle.shelf.proofs.Gaps.{clear_more, all_clear}
 use Rattle.shelf.proofs.write.clear.Goals as goal
 

@@ -1,10 +1,8 @@
 -- `write::clear`: the zeros stored so far stand in place of what was there. Assumes nothing.
-use mathlib.Core.Path.{◌≡◌, refl, ◌∙◌}
+use mathlib.Core.Path.{◌≡◌}
 use Prim.Native.Nat.{◌-◌, ◌≤◌}
-use borrow.Author.Rules.{rules}
 use lib.ListN.{length, replicate}
-use lib.Seq.{paste, paste-zero}
-use Rattle.shelf.proofs.Gaps.{clear_more, all_clear}
+use lib.Seq.{paste}
 use Rattle.shelf.proofs.write.clear.Given as goal
 
 abbrev pub invariant-loop-i : goal.invariant-loop-i

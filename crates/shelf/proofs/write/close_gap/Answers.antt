@@ -1,7 +1,6 @@
 -- `write::close_gap`: the move and the zeros behind it. Assumes nothing.
 use mathlib.Core.Path.{refl}
 use Rattle.shelf.proofs.Gaps.{gap_closed}
-use borrow.Author.Rules.{rules}
 use Rattle.shelf.proofs.write.close_gap.Goals as goal
 
 pub returns : goal.returns

@@ -1,9 +1,9 @@
 -- `write::move_down`: the bytes moved so far stand where they go, and those still to be moved lie where they lay. Assumes nothing.
-use mathlib.Core.Path.{◌≡◌, refl}
-use Prim.Native.Nat.{◌+◌, ◌-◌, ◌≤◌}
+use mathlib.Core.Path.{refl}
+use Prim.Native.Nat.{◌+◌}
 use borrow.Author.Rules.{rules}
-use lib.ListN.{length, drop}
-use lib.Seq.{paste, paste-zero}
+use lib.ListN.{drop}
+use lib.Seq.{paste-zero}
 use Rattle.shelf.proofs.Gaps.{move_more, all_moved}
 use Rattle.shelf.proofs.write.move_down.Goals as goal
 

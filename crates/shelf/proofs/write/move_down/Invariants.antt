@@ -1,10 +1,8 @@
 -- `write::move_down`: the bytes moved so far stand where they go, and those still to be moved lie where they lay. Assumes nothing.
-use mathlib.Core.Path.{◌≡◌, refl}
+use mathlib.Core.Path.{◌≡◌}
 use Prim.Native.Nat.{◌+◌, ◌-◌, ◌≤◌}
-use borrow.Author.Rules.{rules}
 use lib.ListN.{length, drop}
-use lib.Seq.{paste, paste-zero}
-use Rattle.shelf.proofs.Gaps.{move_more, all_moved}
+use lib.Seq.{paste}
 use Rattle.shelf.proofs.write.move_down.Given as goal
 
 abbrev pub invariant-loop-moved : goal.invariant-loop-moved

@@ -2,7 +2,6 @@
 use mathlib.Core.Path.{refl}
 use Rattle.shelf.specs.Calls.{entry}
 use Rattle.shelf.proofs.Stored.{entry_stored}
-use borrow.Author.Rules.{rules}
 use Rattle.shelf.proofs.write.put_entry.Goals as goal
 
 pub returns : goal.returns

@@ -2,7 +2,6 @@
 -- Assumes nothing.
 use native.Mathlib.Omega.{arith}
 use Rattle.sets.proofs.Words.{is_set, is_shift}
-use borrow.Author.Rules.{rules}
 use Rattle.tables.proofs.codes.code_bit.Goals as goal
 
 pub returns-then-n-lt32 : goal.returns-then-n-lt32

@@ -6,7 +6,6 @@ use Rattle.sets.proofs.Words.{is_set, is_single}
 use Rattle.tables.specs.Codes.{codes_for}
 use Rattle.code_sets.proofs.Laws.{union_is}
 use Rattle.tables.proofs.CodeLaws.{code_at, code_at_either, code_zero}
-use borrow.Author.Rules.{rules}
 use Rattle.tables.proofs.codes.codes_for.Goals as goal
 
 pub returns-in-17 : goal.returns-in-17

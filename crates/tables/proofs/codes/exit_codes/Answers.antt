@@ -4,7 +4,6 @@ use mathlib.Core.Path.{◌∙◌, ap}
 use Prim.Native.Nat.{ℕ}
 use Rattle.sets.specs.Numbers.{single}
 use Rattle.tables.proofs.CodeLaws.{small_code}
-use borrow.Author.Rules.{rules}
 use Rattle.tables.proofs.codes.exit_codes.Goals as goal
 
 pub returns : goal.returns

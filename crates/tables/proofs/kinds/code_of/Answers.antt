@@ -2,7 +2,6 @@
 -- Assumes nothing.
 use Rattle.rules.specs.Statements.{code}
 use mathlib.Core.Path.{refl}
-use borrow.Author.Rules.{rules}
 use Rattle.tables.proofs.kinds.code_of.Goals as goal
 
 pub returns : goal.returns

@@ -1,7 +1,6 @@
 -- `kinds::record_length` meets its contract: the shape of an allowed kind has its length. Assumes nothing.
 use mathlib.Core.Path.{sym, ◌∙◌}
 use Rattle.tables.proofs.Shapes.{shaped, not_known}
-use borrow.Author.Rules.{rules}
 use Rattle.tables.proofs.kinds.record_length.Goals as goal
 
 pub returns-in-Allowed : goal.returns-in-Allowed

@@ -3,7 +3,6 @@ use mathlib.Core.Path.{sym, ap, ◌∙◌}
 use native.Mathlib.Omega.{arith}
 use Rattle.tables.specs.Kinds.{wire_of}
 use Rattle.tables.proofs.Shapes.{above_kinds, first_edition}
-use borrow.Author.Rules.{rules}
 use Rattle.tables.proofs.kinds.shape_of.Goals as goal
 
 pub returns-then-kind-gt26 : goal.returns-then-kind-gt26

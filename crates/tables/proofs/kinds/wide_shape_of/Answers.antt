@@ -5,7 +5,6 @@ use Rattle.tables.specs.Kinds.{wire_of}
 use Rattle.tables.specs.Kinds.{short, long}
 use Rattle.tables.proofs.Shapes.{first_range, signal_range, plain_range, last_range, below_kinds, above_kinds}
 use Rattle.tables.proofs.Shapes.{halt_range, signal_forms, abort_range, first_edition, above_forms}
-use borrow.Author.Rules.{rules}
 use Rattle.tables.proofs.kinds.wide_shape_of.Goals as goal
 
 pub returns-in-32 : goal.returns-in-32

@@ -3,7 +3,6 @@
 use mathlib.Core.Path.{sym, ◌∙◌}
 use lib.Dec.{lit<}
 use borrow.Author.Tests.{eq-eqb, ne_eqb}
-use borrow.Author.Rules.{rules}
 use Rattle.tables.proofs.loops.lower.Goals as goal
 
 pub returns-then-has_code : goal.returns-then-has_code

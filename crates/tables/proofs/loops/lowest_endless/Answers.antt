@@ -5,7 +5,6 @@ use mathlib.Core.Path.{◌≡◌, refl, subst}
 use native.Mathlib.Omega.{arith}
 use Prim.Native.Nat.{ℕ, ◌+◌, ◌-◌}
 use lib.ListN.{length-replicate}
-use Rattle.tables.specs.Table.{table_of}
 use Rattle.tables.proofs.LoopWalk.{Walked, walk_start, second_word, walk_step, walk_end}
 use Rattle.tables.proofs.loops.lowest_endless.Goals as goal
 

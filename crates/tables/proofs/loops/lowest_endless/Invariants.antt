@@ -1,12 +1,8 @@
 -- `loops::lowest_endless` meets its contract. The invariant is `Walked`: the codes from statement i on are known, and the lowest
 -- endless loop from there on. The measure is i.
 -- Assumes nothing.
-use mathlib.Core.Path.{◌≡◌, refl, subst}
-use native.Mathlib.Omega.{arith}
-use Prim.Native.Nat.{ℕ, ◌+◌, ◌-◌}
-use lib.ListN.{length-replicate}
 use Rattle.tables.specs.Table.{table_of}
-use Rattle.tables.proofs.LoopWalk.{Walked, walk_start, second_word, walk_step, walk_end}
+use Rattle.tables.proofs.LoopWalk.{Walked}
 use Rattle.tables.proofs.loops.lowest_endless.Given as goal
 
 abbrev pub invariant-loop-i : goal.invariant-loop-i

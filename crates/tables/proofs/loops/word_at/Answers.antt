@@ -3,7 +3,6 @@
 use mathlib.Core.Path.{sym}
 use native.Mathlib.Omega.{arith}
 use lib.ListN.{get_or-eq_default}
-use borrow.Author.Rules.{rules}
 use Rattle.tables.proofs.loops.word_at.Goals as goal
 
 pub returns-else-at-lt512 : goal.returns-else-at-lt512

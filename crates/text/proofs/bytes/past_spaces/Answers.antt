@@ -1,10 +1,7 @@
 -- `bytes::past_spaces`: what was passed and what is left make the whole run. Assumes nothing.
-use mathlib.Core.Path.{◌≡◌, refl, sym, ◌∙◌}
-use Prim.Native.Nat.{◌+◌, ◌-◌, ◌≤◌}
+use mathlib.Core.Path.{refl}
 use native.Mathlib.Omega.{arith}
 use borrow.Author.Rules.{rules}
-use lib.ListN.{length, drop}
-use Rattle.text.specs.Tokens.{spaces_of}
 use Rattle.text.proofs.ByteTests.{one_space, no_space, no_bytes}
 use Rattle.text.proofs.bytes.past_spaces.Goals as goal
 

@@ -1,11 +1,8 @@
 -- `bytes::past_spaces`: what was passed and what is left make the whole run. Assumes nothing.
-use mathlib.Core.Path.{◌≡◌, refl, sym, ◌∙◌}
+use mathlib.Core.Path.{◌≡◌}
 use Prim.Native.Nat.{◌+◌, ◌-◌, ◌≤◌}
-use native.Mathlib.Omega.{arith}
-use borrow.Author.Rules.{rules}
 use lib.ListN.{length, drop}
 use Rattle.text.specs.Tokens.{spaces_of}
-use Rattle.text.proofs.ByteTests.{one_space, no_space, no_bytes}
 use Rattle.text.proofs.bytes.past_spaces.Given as goal
 
 abbrev pub invariant-loop-i : goal.invariant-loop-i

@@ -1,5 +1,4 @@
 -- `bytes::word_byte`: a letter, or else a digit decides. Assumes nothing.
-use borrow.Author.Rules.{rules}
 use Rattle.text.proofs.ByteTests.{by_letter, by_digit}
 use Rattle.text.proofs.bytes.word_byte.Goals as goal
 

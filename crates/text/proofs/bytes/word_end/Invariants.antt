@@ -1,11 +1,8 @@
 -- `bytes::word_end`: what was passed and what is left make the whole run. Assumes nothing.
-use mathlib.Core.Path.{◌≡◌, refl, sym, ◌∙◌}
+use mathlib.Core.Path.{◌≡◌}
 use Prim.Native.Nat.{◌+◌, ◌-◌, ◌≤◌}
-use native.Mathlib.Omega.{arith}
-use borrow.Author.Rules.{rules}
 use lib.ListN.{length, drop}
 use Rattle.text.specs.Tokens.{word_of}
-use Rattle.text.proofs.ByteTests.{one_byte, no_byte, no_word}
 use Rattle.text.proofs.bytes.word_end.Given as goal
 
 abbrev pub invariant-loop-i : goal.invariant-loop-i

@@ -1,12 +1,6 @@
 -- `tokens::keyword_at`: no word, one too long, or one found by its key. Assumes nothing.
-use mathlib.Core.Path.{◌≡◌, sym, ◌∙◌}
-use Prim.Native.Nat.{◌+◌, ◌-◌, ◌*◌, ◌≤◌, ◌<◌, ◌^◌}
 use native.Mathlib.Omega.{arith}
-use lib.ListN.{length, drop}
-use Rattle.records.specs.Numerals.{field}
-use Rattle.text.specs.Tokens.{word_of}
 use Rattle.text.proofs.Keys.{word_inside, no_word_here, too_long, by_key, field_short}
-use borrow.Author.Rules.{rules}
 use Rattle.text.proofs.tokens.keyword_at.Goals as goal
 
 pub returns-then-size-eq0 : goal.returns-then-size-eq0

@@ -1,5 +1,5 @@
 -- `tokens::mark`: one byte after the other. Assumes nothing.
-use mathlib.Core.Path.{◌≡◌, sym, ap, ◌∙◌}
+use mathlib.Core.Path.{sym, ap}
 use mathlib.Core.Bool.{◌||◌}
 use borrow.Author.Tests.{ne_eqb}
 use lib.Dec.{eqb}

@@ -1,8 +1,7 @@
 -- `tokens::mark_at`: a mark of one byte, two strokes, or no token. Assumes nothing.
-use mathlib.Core.Path.{◌≡◌, refl, sym, ap, ◌∙◌}
-use Prim.Native.Nat.{suc, ◌+◌}
+use mathlib.Core.Path.{refl, sym, ap, ◌∙◌}
+use Prim.Native.Nat.{suc}
 use native.Mathlib.Omega.{arith}
-use borrow.Author.Rules.{rules}
 use mathlib.Core.Option.{some}
 use lib.ListN.{get_or, drop}
 use Rattle.text.specs.Coded.{kind_of, value_of}

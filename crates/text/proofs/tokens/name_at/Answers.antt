@@ -4,7 +4,6 @@ use lib.ListN.{drop}
 use Rattle.text.specs.Tokens.{word_of}
 use Rattle.text.proofs.Keys.{word_inside}
 use Rattle.text.proofs.WordTokens.{no_name_here, name_too_long, by_first}
-use borrow.Author.Rules.{rules}
 use Rattle.text.proofs.tokens.name_at.Goals as goal
 
 pub returns-then-size-eq0 : goal.returns-then-size-eq0

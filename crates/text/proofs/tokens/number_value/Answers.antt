@@ -1,11 +1,9 @@
 -- `tokens::number_value`: the digits left, with the value so far, stand for what the whole word stands for. Assumes nothing.
-use mathlib.Core.Path.{◌≡◌, refl, sym, ap, ◌∙◌}
-use Prim.Native.Nat.{suc, ◌+◌, ◌-◌, ◌*◌, ◌^◌, ◌≤◌, ◌<◌}
+use mathlib.Core.Path.{sym, ap, ◌∙◌}
+use Prim.Native.Nat.{◌+◌, ◌-◌, ◌≤◌}
 use native.Mathlib.Omega.{arith}
-use borrow.Author.Rules.{rules}
 use lib.ListN.{length, get_or, drop}
 use Rattle.text.specs.Tokens.{word_of}
-use Rattle.text.specs.Coded.{number_value}
 use Rattle.text.proofs.Numbers.{value_left, all_left, too_many, one_digit, no_digit, none_left, fits_left, over_left, digit_range, no_digits, more_digits, few_digits, word_on}
 use Rattle.text.proofs.tokens.number_value.Goals as goal
 

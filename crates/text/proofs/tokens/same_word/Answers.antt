@@ -1,10 +1,9 @@
 -- `tokens::same_word`: as long as each other, then byte by byte: what is left of both is as the whole. Assumes nothing.
-use mathlib.Core.Path.{◌≡◌, refl, sym, ap₂, ◌∙◌}
-use Prim.Native.Nat.{ℕ, ◌+◌, ◌-◌, ◌≤◌}
+use mathlib.Core.Path.{◌≡◌, sym, ◌∙◌}
+use Prim.Native.Nat.{◌+◌}
 use native.Mathlib.Omega.{arith}
-use borrow.Author.Rules.{rules}
-use lib.ListN.{length, drop}
-use Rattle.text.specs.Tokens.{same, word_of}
+use lib.ListN.{drop}
+use Rattle.text.specs.Tokens.{word_of}
 use Rattle.text.proofs.Numbers.{word_on}
 use Rattle.text.proofs.SameWords.{other_length, none_left, other_byte, from_start, one_more}
 use Rattle.text.proofs.tokens.same_word.Goals as goal

@@ -1,9 +1,7 @@
 -- `tokens::token_at`: behind the spaces a word, a mark, or the end. Assumes nothing.
-use mathlib.Core.Path.{◌≡◌, refl, sym, ap, ◌∙◌, subst}
-use Prim.Native.Nat.{ℕ, ◌+◌}
+use mathlib.Core.Path.{refl, sym, ◌∙◌, subst}
+use Prim.Native.Nat.{ℕ}
 use native.Mathlib.Omega.{arith}
-use borrow.Author.Rules.{rules}
-use lib.ListN.{get_or, drop}
 use Rattle.text.specs.Coded.{FrontAt}
 use Rattle.text.proofs.Fronts.{at_word, held, held_end}
 use Rattle.text.proofs.tokens.token_at.Goals as goal

@@ -1,11 +1,9 @@
 -- `tokens::word_at`: one way after the other, each with the word's own token. Assumes nothing.
-use mathlib.Core.Path.{◌≡◌, refl, sym, ap, ◌∙◌}
-use native.Mathlib.Omega.{arith}
+use mathlib.Core.Path.{refl, sym, ap, ◌∙◌}
 use lib.ListN.{drop}
 use Rattle.text.specs.Tokens.{word_of}
 use Rattle.text.specs.Coded.{kind_of, value_of}
 use Rattle.text.proofs.WordTokens.{a_keyword, not_a_keyword, named, numbered, neither_one}
-use borrow.Author.Rules.{rules}
 use Rattle.text.proofs.tokens.word_at.Goals as goal
 
 pub returns-then-k-lt17 : goal.returns-then-k-lt17

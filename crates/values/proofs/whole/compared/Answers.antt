@@ -2,7 +2,6 @@
 use mathlib.Core.Path.{◌∙◌, sym, ap}
 use Rattle.values.specs.Whole.{likeness_values}
 use Rattle.values.proofs.Known.{with_number}
-use borrow.Author.Rules.{rules}
 use Rattle.values.proofs.whole.compared.Goals as goal
 
 pub returns-in-Alike : goal.returns-in-Alike

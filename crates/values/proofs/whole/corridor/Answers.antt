@@ -2,10 +2,9 @@
 use mathlib.Core.Path.{◌∙◌, ap}
 use Rattle.mazes.specs.Mazes.{Room}
 use Rattle.maze.specs.Views.{view}
-use Rattle.maze.specs.Ways.{Way, way_in}
+use Rattle.maze.specs.Ways.{way_in}
 use Rattle.values.specs.Whole.{way_values, room_by}
 use Rattle.values.proofs.Rooms.{room_told}
-use borrow.Author.Rules.{rules}
 use Rattle.values.proofs.whole.corridor.Goals as goal
 
 pub returns : goal.returns

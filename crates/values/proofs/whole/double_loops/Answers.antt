@@ -1,6 +1,5 @@
 -- `values::whole::double_loops`: the library's answer as its values, and the lent bytes as the library leaves them. Assumes nothing.
 use mathlib.Core.Path.{◌∙◌}
-use borrow.Author.Rules.{rules}
 use Rattle.values.proofs.whole.double_loops.Goals as goal
 
 pub returns : goal.returns

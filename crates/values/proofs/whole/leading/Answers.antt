@@ -4,7 +4,6 @@ use mathlib.Core.List.{◌∷◌}
 use Rattle.maze.specs.declared.Room.{Room}
 use Rattle.maze.specs.Ways.{room_of}
 use Rattle.values.specs.Whole.{room_values}
-use borrow.Author.Rules.{rules}
 use Rattle.values.proofs.whole.leading.Goals as goal
 
 pub returns-in-Signal : goal.returns-in-Signal

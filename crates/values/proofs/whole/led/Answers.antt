@@ -4,7 +4,6 @@ use Rattle.maze.specs.declared.Corridor.{Corridor}
 use Rattle.maze.specs.Ways.{way_told}
 use Rattle.values.specs.Whole.{way_values}
 use Rattle.values.proofs.Known.{with_number}
-use borrow.Author.Rules.{rules}
 use Rattle.values.proofs.whole.led.Goals as goal
 
 pub returns-in-Visible : goal.returns-in-Visible

@@ -1,6 +1,5 @@
 -- `values::whole::read_text`: the library's answer as its values, and the lent bytes as the library leaves them. Assumes nothing.
 use mathlib.Core.Path.{◌∙◌}
-use borrow.Author.Rules.{rules}
 use Rattle.values.proofs.whole.read_text.Goals as goal
 
 pub returns : goal.returns

@@ -2,7 +2,6 @@
 use mathlib.Core.Path.{◌∙◌, sym, ap}
 use Rattle.writing.specs.Answers.{wrote_values}
 use Rattle.values.proofs.Known.{with_number}
-use borrow.Author.Rules.{rules}
 use Rattle.values.proofs.whole.wrote.Goals as goal
 
 pub returns-in-Bytes : goal.returns-in-Bytes

@@ -2,7 +2,6 @@
 -- Assumes nothing.
 use borrow.Author.Tests.{eqb-true}
 use Rattle.walk.proofs.Entries.{words_agree}
-use borrow.Author.Rules.{rules}
 use Rattle.walk.proofs.memo.agree.Goals as goal
 
 pub returns : goal.returns

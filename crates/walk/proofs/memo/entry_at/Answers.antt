@@ -3,7 +3,6 @@
 use mathlib.Core.Path.{ap, ◌∙◌}
 use Prim.Native.Nat.{ℕ, ◌%◌}
 use Rattle.walk.proofs.Entries.{entry_read, no_entry}
-use borrow.Author.Rules.{rules}
 use Rattle.walk.proofs.memo.entry_at.Goals as goal
 
 pub returns-then-i-memo : goal.returns-then-i-memo

@@ -4,7 +4,6 @@ use mathlib.Core.Path.{◌≡◌, sym, ◌∙◌, subst, subst⁻¹}
 use Prim.Native.Nat.{ℕ}
 use lib.Dec.{T}
 use native.Mathlib.Omega.{arith}
-use borrow.Author.Rules.{rules}
 use Rattle.walk.proofs.memo.is_known.Goals as goal
 
 pub returns-in-Unknown : goal.returns-in-Unknown

@@ -1,7 +1,6 @@
 -- `walk::memo::known_reads` meets its contract: bit by bit.
 -- Assumes nothing.
 use Rattle.walk.proofs.Entries.{known_word}
-use borrow.Author.Rules.{rules}
 use Rattle.walk.proofs.memo.known_reads.Goals as goal
 
 pub returns : goal.returns

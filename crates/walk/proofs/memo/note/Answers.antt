@@ -1,8 +1,6 @@
 -- `walk::memo::note` meets its contract: the entry is the one written, and the others stay.
 -- Assumes nothing.
-use native.Mathlib.Omega.{arith}
 use Rattle.walk.proofs.Entries.{noted_as}
-use borrow.Author.Rules.{rules}
 use Rattle.walk.proofs.memo.note.Goals as goal
 
 pub returns-then-i-memo : goal.returns-then-i-memo

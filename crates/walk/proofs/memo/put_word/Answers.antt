@@ -5,7 +5,6 @@ use Prim.Native.Nat.{◌≤◌}
 use native.Mathlib.Omega.{arith}
 use lib.ListN.{length}
 use lib.Seq.{set_out}
-use borrow.Author.Rules.{rules}
 use Rattle.walk.proofs.memo.put_word.Goals as goal
 
 pub returns-else-j-memo : goal.returns-else-j-memo

@@ -2,7 +2,6 @@
 -- Assumes nothing.
 use mathlib.Core.Path.{subst⁻¹}
 use lib.Dec.{T}
-use borrow.Author.Rules.{rules}
 use Rattle.walk.proofs.memo.recalls.Goals as goal
 
 pub returns-then-old-tag : goal.returns-then-old-tag

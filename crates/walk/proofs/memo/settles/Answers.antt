@@ -6,7 +6,6 @@ use Rattle.sets.specs.Numbers.{Numbers}
 use Rattle.theorems.specs.Order.{Agree}
 use Rattle.words.specs.Words.{event_of}
 use Rattle.walk.proofs.Entries.{still_open}
-use borrow.Author.Rules.{rules}
 use Rattle.walk.proofs.memo.settles.Goals as goal
 
 pub returns-then-agree : goal.returns-then-agree

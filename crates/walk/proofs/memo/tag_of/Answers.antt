@@ -2,7 +2,6 @@
 -- Assumes nothing.
 use Rattle.words.specs.Words.{mark_of}
 use Rattle.walk.proofs.Entries.{tag_is}
-use borrow.Author.Rules.{rules}
 use Rattle.walk.proofs.memo.tag_of.Goals as goal
 
 pub returns : goal.returns

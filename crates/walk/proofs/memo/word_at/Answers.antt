@@ -4,7 +4,6 @@ use mathlib.Core.Path.{sym}
 use Prim.Native.Nat.{◌≤◌}
 use native.Mathlib.Omega.{arith}
 use lib.ListN.{length, get_or-eq_default}
-use borrow.Author.Rules.{rules}
 use Rattle.walk.proofs.memo.word_at.Goals as goal
 
 pub returns-else-j-memo : goal.returns-else-j-memo

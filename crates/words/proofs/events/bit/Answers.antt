@@ -2,7 +2,6 @@
 -- Assumes nothing.
 use Rattle.words.proofs.WordLaws.{shifted}
 use native.Mathlib.Omega.{arith}
-use borrow.Author.Rules.{rules}
 use Rattle.words.proofs.events.bit.Goals as goal
 
 pub returns-then-s-lt64 : goal.returns-then-s-lt64

@@ -1,7 +1,6 @@
 -- `words::events::has_signal` meets its contract: the test of a mask is the test of the bit.
 -- Assumes nothing.
 use Rattle.words.proofs.WordLaws.{test_bit}
-use borrow.Author.Rules.{rules}
 use Rattle.words.proofs.events.has_signal.Goals as goal
 
 pub returns : goal.returns

@@ -4,7 +4,6 @@ use Rattle.words.proofs.WordLaws.{give_present, give_absent, give_unknown}
 use mathlib.Core.Path.{sym, ap, ◌∙◌}
 use Rattle.rules.specs.Events.{giving}
 use Rattle.words.specs.Words.{event_of, seen_as}
-use borrow.Author.Rules.{rules}
 use Rattle.words.proofs.events.heard_with.Goals as goal
 
 pub returns-in-Present : goal.returns-in-Present

@@ -2,7 +2,6 @@
 -- Assumes nothing.
 use Rattle.words.proofs.WordLaws.{seen_present, seen_absent, seen_unknown}
 use mathlib.Core.Path.{sym, ◌∙◌}
-use borrow.Author.Rules.{rules}
 use Rattle.words.proofs.events.status_at.Goals as goal
 
 pub returns-then-has_signal : goal.returns-then-has_signal

@@ -2,7 +2,6 @@
 -- Assumes nothing.
 use mathlib.Core.Path.{subst⁻¹}
 use lib.Dec.{T}
-use borrow.Author.Rules.{rules}
 use Rattle.words.proofs.events.still_unknown.Goals as goal
 
 pub returns-in-Present : goal.returns-in-Present

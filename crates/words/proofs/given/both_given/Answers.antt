@@ -1,7 +1,6 @@
 -- `words::given::both_given` meets its contract: the codes are those of `larger`.
 -- Assumes nothing.
 use Rattle.words.proofs.WordLaws.{both_is}
-use borrow.Author.Rules.{rules}
 use Rattle.words.proofs.given.both_given.Goals as goal
 
 pub returns : goal.returns

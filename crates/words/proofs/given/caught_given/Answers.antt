@@ -1,7 +1,6 @@
 -- `words::given::caught_given` meets its contract: the codes are those of `lowered`.
 -- Assumes nothing.
 use Rattle.words.proofs.WordLaws.{caught_is}
-use borrow.Author.Rules.{rules}
 use Rattle.words.proofs.given.caught_given.Goals as goal
 
 pub returns : goal.returns

@@ -2,7 +2,6 @@
 -- Assumes nothing.
 use Rattle.words.proofs.WordLaws.{followed_on, followed_not}
 use mathlib.Core.Path.{sym, ◌∙◌}
-use borrow.Author.Rules.{rules}
 use Rattle.words.proofs.given.followed_given.Goals as goal
 
 pub returns-then-gives_zero : goal.returns-then-gives_zero

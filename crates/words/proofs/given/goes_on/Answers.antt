@@ -2,7 +2,6 @@
 -- Assumes nothing.
 use mathlib.Core.Path.{sym, subst, ◌∙◌}
 use lib.Dec.{T}
-use borrow.Author.Rules.{rules}
 use Rattle.words.proofs.given.goes_on.Goals as goal
 
 pub returns-in-Plus : goal.returns-in-Plus

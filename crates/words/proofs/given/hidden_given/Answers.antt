@@ -1,7 +1,6 @@
 -- `words::given::hidden_given` meets its contract: a bit is cleared.
 -- Assumes nothing.
 use Rattle.words.proofs.WordLaws.{hidden_is}
-use borrow.Author.Rules.{rules}
 use Rattle.words.proofs.given.hidden_given.Goals as goal
 
 pub returns : goal.returns

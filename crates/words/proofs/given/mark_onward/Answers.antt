@@ -4,7 +4,6 @@ use mathlib.Core.Path.{sym, ap, ap₂, ◌∙◌}
 use Rattle.sets.specs.Words.{bits}
 use Rattle.rules.specs.MustCan.{can, onward}
 use Rattle.words.specs.Words.{mark_of}
-use borrow.Author.Rules.{rules}
 use Rattle.words.proofs.given.mark_onward.Goals as goal
 
 pub returns-then-gives_zero : goal.returns-then-gives_zero

@@ -1,7 +1,6 @@
 -- `words::given::saying` meets its contract: the set of one signal, and code 0.
 -- Assumes nothing.
 use Rattle.words.proofs.WordLaws.{loud_is}
-use borrow.Author.Rules.{rules}
 use Rattle.words.proofs.given.saying.Goals as goal
 
 pub returns : goal.returns

@@ -4,7 +4,6 @@ use mathlib.Core.Path.{sym, ap, ◌∙◌}
 use Rattle.rules.specs.MustCan.{can, local_status}
 use Rattle.words.specs.Words.{mark_of, given_of}
 use Rattle.words.proofs.WordLaws.{settled_plus, settled_open}
-use borrow.Author.Rules.{rules}
 use Rattle.words.proofs.given.settled_for.Goals as goal
 
 pub returns-in-Plus : goal.returns-in-Plus

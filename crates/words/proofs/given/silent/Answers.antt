@@ -1,7 +1,6 @@
 -- `words::given::silent` meets its contract: no signal, and the set of one code.
 -- Assumes nothing.
 use Rattle.words.proofs.WordLaws.{quiet_is}
-use borrow.Author.Rules.{rules}
 use Rattle.words.proofs.given.silent.Goals as goal
 
 pub returns : goal.returns

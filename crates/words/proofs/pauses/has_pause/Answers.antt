@@ -1,7 +1,6 @@
 -- `words::pauses::has_pause` meets its contract: the word that has the pause goes by the bounds 64 and 128.
 -- Assumes nothing.
 use Rattle.words.proofs.PauseLaws.{low_test, high_test, no_test}
-use borrow.Author.Rules.{rules}
 use Rattle.words.proofs.pauses.has_pause.Goals as goal
 
 pub returns-then-n-lt64 : goal.returns-then-n-lt64

@@ -1,7 +1,6 @@
 -- `words::pauses::joined` meets its contract: word by word.
 -- Assumes nothing.
 use Rattle.words.proofs.PauseLaws.{joined_is}
-use borrow.Author.Rules.{rules}
 use Rattle.words.proofs.pauses.joined.Goals as goal
 
 pub returns : goal.returns

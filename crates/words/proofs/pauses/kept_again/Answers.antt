@@ -2,7 +2,6 @@
 -- Assumes nothing.
 use Rattle.words.proofs.PauseLaws.{kept_of}
 use mathlib.Core.Path.{refl}
-use borrow.Author.Rules.{rules}
 use Rattle.words.proofs.pauses.kept_again.Goals as goal
 
 pub returns : goal.returns

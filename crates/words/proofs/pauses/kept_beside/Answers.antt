@@ -1,7 +1,6 @@
 -- `words::pauses::kept_beside` meets its contract: the larger codes, and both sets of pauses.
 -- Assumes nothing.
 use Rattle.words.proofs.PauseLaws.{kept_of}
-use borrow.Author.Rules.{rules}
 use Rattle.words.proofs.pauses.kept_beside.Goals as goal
 
 pub returns : goal.returns

@@ -3,7 +3,6 @@
 use Rattle.words.proofs.PauseLaws.{kept_of, with_later, without_later}
 use mathlib.Core.Path.{sym, ◌∙◌}
 use Rattle.sets.specs.Words.{bits, set_of}
-use borrow.Author.Rules.{rules}
 use Rattle.words.proofs.pauses.kept_chain.Goals as goal
 
 pub returns-then-gives_zero : goal.returns-then-gives_zero

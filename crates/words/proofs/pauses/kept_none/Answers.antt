@@ -1,7 +1,6 @@
 -- `words::pauses::kept_none` meets its contract: one code, and no pause.
 -- Assumes nothing.
 use Rattle.words.proofs.PauseLaws.{none_kept}
-use borrow.Author.Rules.{rules}
 use Rattle.words.proofs.pauses.kept_none.Goals as goal
 
 pub returns : goal.returns

@@ -3,7 +3,6 @@
 use Rattle.words.proofs.PauseLaws.{low_one, high_one}
 use Rattle.words.proofs.WordLaws.{shifted}
 use native.Mathlib.Omega.{arith}
-use borrow.Author.Rules.{rules}
 use Rattle.words.proofs.pauses.one_pause.Goals as goal
 
 pub returns-then-n-lt64 : goal.returns-then-n-lt64

@@ -3,7 +3,6 @@
 use Rattle.words.proofs.PauseLaws.{pauses_counted}
 use mathlib.Core.Path.{ap₂, ◌∙◌}
 use Prim.Native.Nat.{ℕ, ◌+◌}
-use borrow.Author.Rules.{rules}
 use Rattle.words.proofs.pauses.pause_count.Goals as goal
 
 pub returns : goal.returns

@@ -1,7 +1,6 @@
 -- `bytes::put_byte`: a store past the end changes nothing. Assumes nothing.
 use mathlib.Core.Path.{refl, sym}
 use lib.Seq.{set_out}
-use borrow.Author.Rules.{rules}
 use Rattle.write_text.proofs.bytes.put_byte.Goals as goal
 
 pub returns-then-out-at : goal.returns-then-out-at

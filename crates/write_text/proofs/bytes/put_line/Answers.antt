@@ -1,12 +1,8 @@
 -- `bytes::put_line`: the blanks up to the end are left to put. Assumes nothing.
 use mathlib.Core.Path.{ap}
-use Prim.Native.Nat.{ℕ, ◌+◌, ◌-◌, ◌*◌, ◌≤◌}
-use mathlib.Core.List.{◌++◌}
+use Prim.Native.Nat.{ℕ, ◌+◌, ◌*◌}
 use native.Mathlib.Omega.{arith}
-use lib.ListN.{replicate}
-use Rattle.write_text.specs.Pieces.{Left}
 use Rattle.write_text.proofs.Putting.{none_put, blanks_more, line_put, same_size}
-use borrow.Author.Rules.{rules}
 use Rattle.write_text.proofs.bytes.put_line.Goals as goal
 
 pub loop-at-init : goal.loop-at-init

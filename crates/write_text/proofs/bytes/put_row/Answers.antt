@@ -1,6 +1,5 @@
 -- `bytes::put_row`: the line and its words, one behind the other. Assumes nothing.
 use Rattle.write_text.proofs.Putting.{row_none, row_put}
-use borrow.Author.Rules.{rules}
 use Rattle.write_text.proofs.bytes.put_row.Goals as goal
 
 pub returns-then-first-eq0 : goal.returns-then-first-eq0

@@ -1,7 +1,5 @@
 -- `bytes::put_word`: what is left of the number is what is left to put. Assumes nothing.
-use native.Mathlib.Omega.{arith}
-use Rattle.write_text.proofs.Putting.{WordLeft, word_begun, word_more, word_ended, same_size}
-use borrow.Author.Rules.{rules}
+use Rattle.write_text.proofs.Putting.{WordLeft}
 use Rattle.write_text.proofs.bytes.put_word.Given as goal
 
 abbrev pub invariant-loop-left : goal.invariant-loop-left

@@ -5,7 +5,6 @@ use Prim.Native.Nat.{ℕ}
 use native.Mathlib.Omega.{arith}
 use Rattle.text.specs.Shown.{signal_word}
 use Rattle.write_text.proofs.Putting.{and_then, before, told_as}
-use borrow.Author.Rules.{rules}
 use Rattle.write_text.proofs.header.put_named.Goals as goal
 
 pub returns : goal.returns

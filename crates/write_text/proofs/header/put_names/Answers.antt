@@ -1,11 +1,9 @@
 -- `header::put_names`: the names from the next one on are left to put. Assumes nothing.
 use mathlib.Core.Path.{refl}
-use Prim.Native.Nat.{◌-◌}
 use native.Mathlib.Omega.{arith}
 use Rattle.text.specs.Shown.{signal_word}
 use Rattle.write_text.proofs.Putting.{same_size}
-use Rattle.write_text.proofs.HeaderLaws.{NamesLeft, names_begun, names_on, names_put, no_names}
-use borrow.Author.Rules.{rules}
+use Rattle.write_text.proofs.HeaderLaws.{names_begun, names_on, names_put, no_names}
 use Rattle.write_text.proofs.header.put_names.Goals as goal
 
 pub returns-then-count-eq0 : goal.returns-then-count-eq0

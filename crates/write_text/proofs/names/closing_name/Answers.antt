@@ -2,7 +2,6 @@
 use mathlib.Core.Path.{◌∙◌}
 use Rattle.write_text.specs.Pieces.{coded_in}
 use Rattle.write_text.proofs.NameLaws.{when_named, not_when}
-use borrow.Author.Rules.{rules}
 use Rattle.write_text.proofs.names.closing_name.Goals as goal
 
 pub returns-then-kind-eq20 : goal.returns-then-kind-eq20

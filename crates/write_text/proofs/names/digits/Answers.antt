@@ -1,7 +1,7 @@
 -- `names::digits`: the digits that are there and those to come are the number in decimal. Assumes nothing.
 use mathlib.Core.Path.{refl}
 use native.Mathlib.Omega.{arith}
-use Rattle.write_text.proofs.NameLaws.{DigitsLeft, digits_begun, code_small, digits_more, digits_ended}
+use Rattle.write_text.proofs.NameLaws.{digits_begun, code_small, digits_more, digits_ended}
 use borrow.Author.Rules.{rules}
 use Rattle.write_text.proofs.names.digits.Goals as goal
 

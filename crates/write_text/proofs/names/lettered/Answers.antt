@@ -1,7 +1,6 @@
 -- `names::lettered`: the letter is the lowest byte. Assumes nothing.
 use mathlib.Core.Path.{refl}
 use Rattle.write_text.proofs.NameLaws.{letter_before}
-use borrow.Author.Rules.{rules}
 use Rattle.write_text.proofs.names.lettered.Goals as goal
 
 pub returns : goal.returns

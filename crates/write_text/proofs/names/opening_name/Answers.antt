@@ -5,7 +5,6 @@ use Rattle.text.specs.Shown.{trap_word}
 use Rattle.sets.specs.Numbers.{listed}
 use Rattle.write_text.specs.Pieces.{coded_in, opening_name}
 use Rattle.write_text.proofs.NameLaws.{trap_named, exit_named, signal_named, none_named}
-use borrow.Author.Rules.{rules}
 use Rattle.write_text.proofs.names.opening_name.Goals as goal
 
 pub returns-in-24 : goal.returns-in-24

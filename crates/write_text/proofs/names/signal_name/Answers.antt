@@ -5,7 +5,6 @@ use Prim.Native.Nat.{ℕ}
 use native.Mathlib.Omega.{arith}
 use Rattle.text.specs.Shown.{decimal}
 use Rattle.write_text.proofs.NameLaws.{letter_range}
-use borrow.Author.Rules.{rules}
 use Rattle.write_text.proofs.names.signal_name.Goals as goal
 
 pub lettered-requires : goal.lettered-requires

@@ -7,7 +7,6 @@ use Rattle.write_text.proofs.Putting.{told_as, same_size}
 use Rattle.write_text.proofs.SpotLaws.{same_level}
 use Rattle.write_text.proofs.StatementLaws.{in_table, allowed, leaf_text, one_child, two_children, over_asks, over_closes, over_put}
 use Rattle.write_text.proofs.StatementLaws.{first_asks, first_ends, second_asks, joins_closes, joins_put}
-use Prim.Native.Nat.{ℕ, ◌-◌, ◌<◌}
 use Rattle.write_text.proofs.statements.+put_statement.Goals as goal
 
 pub offset_bounds-kinds-at : goal.offset_bounds-kinds-at

@@ -1,6 +1,5 @@
 -- `statements::inside`: field by field. Assumes nothing.
 use Rattle.write_text.proofs.SpotLaws.{is_inside}
-use borrow.Author.Rules.{rules}
 use Rattle.write_text.proofs.statements.inside.Goals as goal
 
 pub returns : goal.returns

@@ -3,7 +3,6 @@ use mathlib.Core.Path.{sym, ap, ◌∙◌, ◌≡◌}
 use mathlib.Core.Bool.{Bool, cond}
 use Prim.Native.Nat.{suc, ◌+◌}
 use native.Mathlib.Omega.{arith}
-use borrow.Author.Rules.{rules}
 use Rattle.write_text.proofs.statements.one_more.Goals as goal
 
 pub returns-then-so : goal.returns-then-so

@@ -1,7 +1,6 @@
 -- `statements::put_between`: each arm by its number. Assumes nothing.
 use Rattle.write_text.proofs.Putting.{told_as}
 use Rattle.write_text.proofs.SpotLaws.{between_else, between_bars, between_semicolon}
-use borrow.Author.Rules.{rules}
 use Rattle.write_text.proofs.statements.put_between.Goals as goal
 
 pub returns-in-19 : goal.returns-in-19

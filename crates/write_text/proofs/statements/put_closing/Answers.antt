@@ -6,7 +6,6 @@ use lib.ListN.{get_or}
 use Rattle.write_text.specs.Pieces.{coded, row_text}
 use Rattle.write_text.specs.Spots.{closes, row, closing_text}
 use Rattle.write_text.proofs.Putting.{told_as}
-use borrow.Author.Rules.{rules}
 use Rattle.write_text.proofs.statements.put_closing.Goals as goal
 
 pub returns : goal.returns

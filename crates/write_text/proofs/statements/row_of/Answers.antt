@@ -4,7 +4,6 @@ use mathlib.Core.Bool.{Bool, cond}
 use Prim.Native.Nat.{ℕ, ◌-◌}
 use native.Mathlib.Omega.{arith}
 use Rattle.write_text.specs.Spots.{row}
-use borrow.Author.Rules.{rules}
 use Rattle.write_text.proofs.statements.row_of.Goals as goal
 
 pub returns-then-bare : goal.returns-then-bare
