@@ -13,7 +13,7 @@ use lib.Seq.{take-suc, take-add, take_all, get_or-take, get_or-drop, ext_get_or,
 use Rattle.rules.specs.Statements.{Stmt, nothing}
 use Rattle.tables.specs.Table.{Table, Has, kind_of, statements}
 use Rattle.block.specs.Format.{preorder, numbered, bytes, offset}
-use Rattle.tables.specs.Kinds.{Shape, of_shape, length_of}
+use Rattle.tables.specs.Kinds.{Shape, shape, of_shape, length_of}
 use Rattle.tables.specs.Codes.{Tabled, Listed}
 use Rattle.block.proofs.Views.{shape?, known_length}
 use Rattle.block.proofs.Built.{bytes_append}

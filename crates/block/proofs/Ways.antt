@@ -1,6 +1,6 @@
 -- One lemma for each way through the code that reads a statement: what the code has at its return is what it promises.
 use mathlib.Core.Path.{◌≡◌, refl, sym, ◌∙◌, ap, subst, subst₂}
-use mathlib.Core.Logic.{⊎_elim}
+use mathlib.Core.Logic.{◌⊎◌, ⊎_elim}
 use mathlib.Core.List.{List}
 use Prim.Native.Nat.{ℕ, suc, ◌+◌, ◌-◌, ◌≤◌, ◌<◌}
 use native.Mathlib.Numerals.{add-one}

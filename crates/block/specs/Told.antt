@@ -1,5 +1,6 @@
 -- What the code's structs and enums say, in the words of Format and Table. Assumes nothing.
-use Rattle.std.specs.Prelude.{◌≡◌, ℕ, ◌+◌, ◌≤◌, ◌<◌, T, get_or, length}
+use Rattle.std.specs.Prelude.{◌≡◌, cond, List, ℕ, ◌+◌, ◌≤◌, ◌<◌, T, eqb, get_or, length}
+use Rattle.std.proofs.Math.Option.{Option, none, some}
 use Rattle.refusals.specs.Refusals.{why_of}
 use Rattle.sets.specs.Words.{bits}
 use Rattle.tables.specs.Table.{Table, Has}

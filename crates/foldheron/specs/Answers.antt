@@ -1,5 +1,5 @@
 -- What the calls that read a block answer: document 01's number and values for each case. All fields not named are 0. Assumes nothing.
-use Rattle.std.specs.Prelude.{cond, List, ◌∷◌, ℕ, eqb, ltb, length}
+use Rattle.std.specs.Prelude.{cond, List, [], ◌∷◌, ℕ, eqb, ltb, length}
 use Rattle.std.specs.Borrow.{Bor}
 use Rattle.refusals.specs.Refusals.{number}
 use Rattle.rules.specs.States.{fresh}

@@ -63,11 +63,7 @@ count (suc n) a = cond (a n) 1 0 + count n a
 -- The lowest member below the width.
 unfoldable pub lowest : ℕ → Numbers → Option ℕ
 lowest zero a = none
-lowest (suc n) a = else_at (lowest n a)
-  where
-    else_at : Option ℕ → Option ℕ
-    else_at none = cond (a n) (some n) none
-    else_at (some k) = some k
+lowest (suc n) a = elim (lowest n a) [ none ↦ cond (a n) (some n) none | some k ↦ some k ]
 
 -- The members below the width, in rising order, and the set of a list.
 unfoldable pub members : ℕ → Numbers → List ℕ

@@ -1,6 +1,6 @@
 -- `in_room`: the test of the lent bytes is the definition's. Assumes nothing.
 use mathlib.Core.Path.{sym, ap, ◌∙◌}
-use mathlib.Core.List.{◌∷◌}
+use mathlib.Core.List.{[], ◌∷◌}
 use native.Mathlib.Omega.{arith}
 use Rattle.refusals.specs.Refusals.{number}
 use Rattle.writing.specs.Answers.{wrote_values, wrote_owed}

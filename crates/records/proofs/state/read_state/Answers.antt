@@ -1,6 +1,6 @@
 -- `state::read_state`: one law of Reading for each way. Assumes nothing.
 use mathlib.Core.Path.{◌∙◌, ap, ap₂, sym}
-use mathlib.Core.List.{◌∷◌}
+use mathlib.Core.List.{[], ◌∷◌}
 use Prim.Native.Nat.{ℕ}
 use Rattle.records.specs.StateRecord.{in_phase}
 use Rattle.records.specs.Held.{held_of}
