@@ -27,7 +27,6 @@ pub record Told : Type 0 where
   pub statuses : List Status
 
 abbrev pub tell : Row → Told
-unfolding listed some_to maxima statements preorder from event started gives step marks round begin all_same settle final_of of_form corridors gate_corridors maze_of final_status
 tell r =
     let b : Block = record { inputs = r.inputs; outputs = r.outputs; body = r.body } in
     record {
@@ -101,7 +100,7 @@ told =
     ∷ []
 
 pub worked : map tell rows ≡ told
-unfolding tell
+unfolding listed some_to maxima statements preorder from event started gives step marks round begin all_same settle final_of of_form corridors gate_corridors maze_of final_status
 worked = refl
 
 -- Out of the form: nothing at the root, as an arm or in both branches, two parts of a test, a sequence.

@@ -25,11 +25,9 @@ pub record WholeAnswer : Type 0 where
   pub keeps : List ℕ
 
 abbrev pub pauses_of : Stmt → State → List ℕ
-unfolding members pauses active_of
 pauses_of p st = members (length (pauses p)) (active_of st)
 
 abbrev pub tell : Stmt → Answer → WholeAnswer
-unfolding members pauses phase_of active_of undecided
 tell p (answered vs c st n) =
     record { refusal = 0; statuses = vs; undecided = undecided vs; code = c; rounds = n; phase = phase_of st; keeps = pauses_of p st }
 tell p (not_constructive vs n) =
@@ -56,16 +54,13 @@ abbrev pub active_on : List ℕ → State
 active_on ns = running (listed ns)
 
 abbrev pub heard_in : Row → Hearing
-unfolding listed
 heard_in r = record { heard_present = listed r.given; heard_absent = λ n. not (listed r.given n || listed r.unheard n) }
 
 -- The answer that the rules give to a row's instant, and the state that it leaves.
 abbrev pub reaction : Row → Answer
-unfolding react listed
 reaction r = react (record { inputs = r.inputs; outputs = r.outputs; body = r.body }) r.begins (heard_in r)
 
 abbrev pub answers : Row → WholeAnswer
-unfolding react listed members pauses phase_of active_of undecided
 answers r = tell r.body (reaction r)
 
 abbrev pub left_by : Answer → State
@@ -73,7 +68,6 @@ left_by (answered vs c st n) = st
 left_by (not_constructive vs n) = fresh
 
 abbrev pub after : Row → State
-unfolding react listed
 after r = left_by (reaction r)
 
 -- Answered with code 0, which finishes the block.

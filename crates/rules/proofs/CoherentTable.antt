@@ -40,12 +40,10 @@ abbrev pub law : ℕ → ℕ → Stmt → State → List ℕ → List Lawful →
 law i o p st given rs = record { inputs = i; outputs = o; body = p; begins = st; given = given; coherent = rs }
 
 abbrev told : Stmt → Reaction → Lawful
-unfolding members pauses phase_of active_of
 told p r = record { outs = r.outs; code = r.code; phase = phase_of r.leaves; keeps = members (length (pauses p)) (active_of r.leaves) }
 
 -- The coherent reactions of a row's instant.
 abbrev pub coherent_of : LawRow → List Lawful
-unfolding reactions listed members pauses phase_of active_of
 coherent_of r = map (told r.body) (reactions (record { inputs = r.inputs; outputs = r.outputs; body = r.body }) r.begins (listed r.given))
 
 -- A signal that is emitted only where it is absent: no status of it is coherent.

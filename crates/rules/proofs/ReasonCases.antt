@@ -34,7 +34,6 @@ abbrev pub of_row : Row → Asked → Option ℕ → Question
 of_row r a k = record { inputs = r.inputs; outputs = r.outputs; body = r.body; begins = r.begins; heard = heard_in r; asked = a; named = k }
 
 abbrev pub reason : Question → Option ℕ
-unfolding reason_of
 reason r = reason_of (record { inputs = r.inputs; outputs = r.outputs; body = r.body }) r.begins r.heard r.asked
 
 -- `present O then emit O else nothing`: the test is named; nothing is present and nothing is executed where the instant is refused.

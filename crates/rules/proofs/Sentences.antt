@@ -415,7 +415,6 @@ module _ (b : Block) (st : State) (ins : Hearing) where
 
   -- the last round is the first that changes nothing; it is counted
   abbrev counted : ℕ → List Status → Bool → Settled
-  unfolding settle
   counted fuel outs unchanged =
       elim unchanged as (λ x. Settled) [
         | true ↦ record { statuses = outs; rounds = 1 }

@@ -16,7 +16,6 @@ use Rattle.theorems.specs.Before.{gives_by, kept_before, round_before, settle_be
 
 -- The answer that the rules gave to a row's instant.
 abbrev pub answered_before : Row → WholeAnswer
-unfolding react_before listed members pauses phase_of active_of undecided
 answered_before r = tell r.body (react_before (record { inputs = r.inputs; outputs = r.outputs; body = r.body }) r.begins (heard_in r))
 
 -- N stands in place 9, and its answer before was: O absent, code 0, rounds 2.

@@ -27,13 +27,11 @@ pub record Seen : Type 0 where
   pub active : List ℕ
 
 abbrev active_of : State → List ℕ
-unfolding members
 active_of fresh = []
 active_of (running A) = members 2 A
 active_of finished = []
 
 abbrev see : Answer → Seen
-unfolding members
 see (answered vs c st n) = record { refusal = 0; statuses = vs; code = c; active = active_of st }
 see (not_constructive vs n) = record { refusal = 13; statuses = vs; code = 0; active = [] }
 
