@@ -120,6 +120,7 @@ module _ (b : List ℕ) (g : Good) (e : reading b ≡ good g) (s : List ℕ) (st
 pub calls_keep : (b : List ℕ) (g : Good) → reading b ≡ good g → (s : List ℕ) (st : State) → Holds g s st → (ws : List (Inputs g)) (rs : List Instant) (s' : List ℕ)
     → Calls b s (givens ws) rs s' → PromisedCalls g s st ws rs s'
 calls_keep b g e s st h [] rs s' no_call = promised.no_call h
+calls_keep b g e s st h (w ∷ ws) [] s' c = elim c [ ]
 calls_keep b g e s st h (w ∷ ws) (r ∷ rs) s' (one_more {s₁ = s₁} c t) =
     let p = call b g e s st h w r s₁ c in
     promised.one_more p (calls_keep b g e s₁ _ p.holds_after ws rs s' t)

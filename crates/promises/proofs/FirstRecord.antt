@@ -173,6 +173,7 @@ module _ (b : List ℕ) (h : Header) where
 
   no_fault : {ds behind : List Due} {d : Due} {r s s' : Sofar} (n : ℕ) → GoodRecords b h ds r [] s → GoodRecords b h ds r (d ∷ behind) s'
       → First (statement_tests b h d s') n → n ≢ 0 → ⊥
+  no_fault n no_record x f k = elim x [ ]
   no_fault n (one_good {d = d} {r = r} z x) no_record f k = zero_or_not d r n z f k
   no_fault n (one_good z x) (one_good w y) f k = no_fault n x y f k
 

@@ -332,14 +332,20 @@ module _ (g h : Good) (same : g.header.inputs ≡ h.header.inputs) where
       let alike = alike_by (block_of g) (block_of h) (answer_from g st (All w)) (answer_from h su (All w)) a in
       of_false (apart_at r w e ∙ ap not alike) (last_differs r w f)
 
-  parts_from : (r : Run) (w : ℕ) (ws : List ℕ) {st su : State} → reach m r ≡ pair st su → First m (onto r (w ∷ ws)) → {rs rs' : List Instant}
+  -- What the first block takes, the second takes.
+  second_takes : (w : ℕ) → wrong_inputs g.header.inputs (All w) ≡ false → wrong_inputs h.header.inputs (All w) ≡ true → ⊥
+  second_takes w x y = true≢false (sym y ∙ ap (λ (n : ℕ). wrong_inputs n (All w)) (sym same) ∙ x)
+
+  parts_from : (ws : List ℕ) (r : Run) (w : ℕ) {st su : State} → reach m r ≡ pair st su → First m (onto r (w ∷ ws)) → {rs rs' : List Instant}
       → ToldFrom g st (map All (w ∷ ws)) rs → ToldFrom h su (map All (w ∷ ws)) rs' → ButTheLast Agree rs rs'
   unfolding onto
-  parts_from r w ws e f (refused_11 x t k) t' = absurd (true≢false (sym x ∙ below_declared w (set_of_run r w ws f)))
-  parts_from r w ws e f (reacts x t k) (refused_11 y t' k') = absurd (true≢false (sym y ∙ ap (λ (n : ℕ). wrong_inputs n (All w)) (sym same) ∙ x))
-  parts_from r w [] {st} {su} e f (reacts x t nothing_told) (reacts y t' nothing_told) = the_last (λ a. last_parts r w e f (as_told Agree (sym t) (sym t') a))
-  parts_from r w (u ∷ us) {st} {su} e f (reacts x t k) (reacts y t' k') =
-      and_then (as_told Agree t t' (agree_at r w e (not_yet r w u us f))) (parts_from (r ▸ w) u us (onward_to r w e) f k k')
+  parts_from [] r w e f (refused_11 x t k) t' = absurd (true≢false (sym x ∙ below_declared w (set_of_run r w [] f)))
+  parts_from [] r w e f (reacts x t k) (refused_11 y t' k') = absurd (second_takes w x y)
+  parts_from [] r w {st} {su} e f (reacts x t nothing_told) (reacts y t' nothing_told) = the_last (λ a. last_parts r w e f (as_told Agree (sym t) (sym t') a))
+  parts_from (u ∷ us) r w e f (refused_11 x t k) t' = absurd (true≢false (sym x ∙ below_declared w (set_of_run r w (u ∷ us) f)))
+  parts_from (u ∷ us) r w e f (reacts x t k) (refused_11 y t' k') = absurd (second_takes w x y)
+  parts_from (u ∷ us) r w {st} {su} e f (reacts x t k) (reacts y t' k') =
+      and_then (as_told Agree t t' (agree_at r w e (not_yet r w u us f))) (parts_from us (r ▸ w) u (onward_to r w e) f k k')
 
   begins : reach m start ≡ pair fresh fresh
   unfolding reach
@@ -355,4 +361,4 @@ module _ (g h : Good) (same : g.header.inputs ≡ h.header.inputs) where
     where
       go : (ws : List ℕ) → First m (onto start ws) → {rs rs' : List Instant} → ToldFrom g fresh (map All ws) rs → ToldFrom h fresh (map All ws) rs' → ButTheLast Agree rs rs'
       go [] k t t' = absurd (none_yet k)
-      go (w ∷ ws) k t t' = parts_from start w ws begins k t t'
+      go (w ∷ ws) k t t' = parts_from ws start w begins k t t'

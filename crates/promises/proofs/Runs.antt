@@ -29,19 +29,19 @@ all_told b (a ∷ all) = ap (λ (ts : List Told). told_reaction b a ∷ ts) (all
 module _ (b : List ℕ) (g : Good) (e : reading b ≡ good g) where
   at_each : (s : List ℕ) (st : State) → Holds g s st → (ws : List (Inputs g)) → AtEach b g s st ws
   at_each s st h [] = tt
-  at_each s st h (w ∷ ws) = let p = promised b g e s st h w in (p, at_each _ _ p.answer.holds_after ws)
+  at_each s st h (w ∷ ws) = let p = promised b g e s st h w in (p, at_each (state_after s (verdict b s w.given false)) _ p.answer.holds_after ws)
 
   rules_run : (s : List ℕ) (st : State) → Holds g s st → (ws : List (Inputs g)) → verdicts b s (givens ws) ≡ map (reacted (block_of g)) (run (block_of g) st (sets ws))
   unfolding verdicts run
   rules_run s st h [] = refl
   rules_run s st h (w ∷ ws) =
       let p = promised b g e s st h w in
-      ap₂ (λ (v : Verdict) (vs : List Verdict). v ∷ vs) p.is_reaction (rules_run _ _ p.answer.holds_after ws)
+      ap₂ (λ (v : Verdict) (vs : List Verdict). v ∷ vs) p.is_reaction (rules_run (state_after s (verdict b s w.given false)) _ p.answer.holds_after ws)
 
   ends_held : (s : List ℕ) (st : State) → Holds g s st → (ws : List (Inputs g)) → Holds g (bytes_left b s (givens ws)) (arrives (block_of g) st (sets ws))
   unfolding bytes_left arrives
   ends_held s st h [] = h
-  ends_held s st h (w ∷ ws) = ends_held _ _ (promised b g e s st h w).answer.holds_after ws
+  ends_held s st h (w ∷ ws) = ends_held (state_after s (verdict b s w.given false)) _ (promised b g e s st h w).answer.holds_after ws
 
   pub promised_run : (s : List ℕ) (st : State) → Holds g s st → (ws : List (Inputs g)) → PromisedRun b g s st ws
   promised_run s st h ws = record {

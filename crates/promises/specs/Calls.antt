@@ -1,10 +1,11 @@
 -- Calls of the library, each by its function's own contract: `Learnt` is what the contract lets a caller learn of a call. It is made from the
 -- clauses in `foldheron/src`, so nothing is written a second time here, and a clause that a contract loses is lost here too. Assumes nothing.
 -- A further call takes two lines here and two in `proofs/Learnt`. Here it is `Learnt` of its function, of the arguments, the result and the
--- arguments at exit, each in the order of the parameters; a lent slice or number is `at i holds x`, with x' for x at exit where it may be written.
+-- arguments at exit, each in the order of the parameters; a lent slice or number is `at i holds x`, and where it may be written `at i lends x`, with
+-- x' for x at exit.
 use Rattle.std.specs.Prelude.{cond, List, [], ◌∷◌, ℕ, eqb}
 use contract.Lifetimes.{Lfts}
-use Rattle.std.specs.Borrow.{Bor}
+use Rattle.std.specs.Borrow.{Bor, MutBor}
 use Rattle.refusals.specs.declared.Why.{Why}
 use Rattle.block.specs.declared.whole.Checked.{Checked}
 use Rattle.foldheron.specs.declared.Begun.{Begun}
@@ -43,14 +44,18 @@ use Rattle.read_text.proofs.read_text.Reads as read_text
 use Rattle.maze.proofs.view.maze.Reads as maze
 use Rattle.maze.proofs.ways.corridor.Reads as corridor
 
--- Where something lent lies in memory, and a reference to what it holds.
+-- Where something lent lies in memory, and a reference to what it holds: one to read it, and one to write it.
 pub record Place : Type 0 where
   pub ptr : ℕ × ℕ
   pub name : ℕ
 
 infixl 20 ◌holds◌
 abbrev pub ◌holds◌ : {X : Type 0} → Place → X → Bor X
-p holds x = record { ref_ptr = p.ptr; ghost_name = p.name; now = x }
+p holds x = record { ref_ptr = p.ptr; now = x }
+
+infixl 20 ◌lends◌
+abbrev pub ◌lends◌ : {X : Type 0} → Place → X → MutBor X
+p lends x = record { ref_ptr = p.ptr; ghost_name = p.name; now = x }
 
 -- A call with n lifetimes was made, wherever what is lent lies.
 pub record Call (n : ℕ) (Learnt : Lfts n → (ℕ → Place) → Type 0) : Type 0 where
@@ -64,26 +69,26 @@ pub record CheckCalled (b : List ℕ) (r : Checked) : Type 0 where
 
 -- `fresh` for b on the lent bytes s answers r and leaves s'.
 pub record FreshCalled (b s : List ℕ) (r : Begun) (s' : List ℕ) : Type 0 where
-  pub call : Call 2 λ κs at. fresh.Learnt κs (at 0 holds b, (at 1 holds s, tt)) r (at 0 holds b, (at 1 holds s', tt))
+  pub call : Call 2 λ κs at. fresh.Learnt κs (at 0 holds b, (at 1 lends s, tt)) r (at 0 holds b, (at 1 lends s', tt))
 
 -- `instant` on block b, state's bytes s and input set w answers r and leaves the state's bytes s'.
 pub record Called (b s : List ℕ) (w : ℕ) (r : Instant) (s' : List ℕ) : Type 0 where
-  pub call : Call 2 λ κs at. instant.Learnt κs (at 0 holds b, (at 1 holds s, (w, tt))) r (at 0 holds b, (at 1 holds s', (w, tt)))
+  pub call : Call 2 λ κs at. instant.Learnt κs (at 0 holds b, (at 1 lends s, (w, tt))) r (at 0 holds b, (at 1 lends s', (w, tt)))
 
 -- `instant_heard` on block b, state's bytes s, the inputs present and the inputs absent.
 pub record HeardCalled (b s : List ℕ) (p a : ℕ) (r : Instant) (s' : List ℕ) : Type 0 where
-  pub call : Call 2 λ κs at. instant_heard.Learnt κs (at 0 holds b, (at 1 holds s, (p, (a, tt)))) r (at 0 holds b, (at 1 holds s', (p, (a, tt))))
+  pub call : Call 2 λ κs at. instant_heard.Learnt κs (at 0 holds b, (at 1 lends s, (p, (a, tt)))) r (at 0 holds b, (at 1 lends s', (p, (a, tt))))
 
 -- `instant_logged`, with a log and its end besides, leaves the log's bytes log' too.
 pub record CalledWithLog (b s : List ℕ) (w : ℕ) (log : List ℕ) (end : ℕ) (r : Logged) (s' log' : List ℕ) : Type 0 where
   pub call : Call 3 λ κs at.
-      instant_logged.Learnt κs (at 0 holds b, (at 1 holds s, (w, (at 2 holds log, (end, tt))))) r (at 0 holds b, (at 1 holds s', (w, (at 2 holds log', (end, tt)))))
+      instant_logged.Learnt κs (at 0 holds b, (at 1 lends s, (w, (at 2 lends log, (end, tt))))) r (at 0 holds b, (at 1 lends s', (w, (at 2 lends log', (end, tt)))))
 
 -- `instant_heard_logged` likewise.
 pub record HeardCalledWithLog (b s : List ℕ) (p a : ℕ) (log : List ℕ) (end : ℕ) (r : Logged) (s' log' : List ℕ) : Type 0 where
   pub call : Call 3 λ κs at.
-      instant_heard_logged.Learnt κs (at 0 holds b, (at 1 holds s, (p, (a, (at 2 holds log, (end, tt)))))) r
-      (at 0 holds b, (at 1 holds s', (p, (a, (at 2 holds log', (end, tt))))))
+      instant_heard_logged.Learnt κs (at 0 holds b, (at 1 lends s, (p, (a, (at 2 lends log, (end, tt)))))) r
+      (at 0 holds b, (at 1 lends s', (p, (a, (at 2 lends log', (end, tt))))))
 
 -- An instant by either call: `instant` with a set, or `instant_heard` with two; and with a log.
 pub data CalledFor (b s : List ℕ) : Given → Instant → List ℕ → Type 0 where
@@ -104,7 +109,7 @@ pub record ExcerptCalled (b : List ℕ) (n : ℕ) (part : List ℕ) (k p : ℕ) 
   pub number_before : ℕ
   pub place_before : ℕ
   pub call : Call 3 λ κs at.
-      excerpt.Learnt κs (at 0 holds b, (n, (at 1 holds number_before, (at 2 holds place_before, tt)))) (at 3 holds part) (at 0 holds b, (n, (at 1 holds k, (at 2 holds p, tt))))
+      excerpt.Learnt κs (at 0 holds b, (n, (at 1 lends number_before, (at 2 lends place_before, tt)))) (at 3 holds part) (at 0 holds b, (n, (at 1 lends k, (at 2 lends p, tt))))
 
 -- `reason` on block b, state's bytes s, the inputs present and the inputs absent, and a question answers r. Nothing that is lent to it may be written.
 pub record ReasonCalled (b s : List ℕ) (p a : ℕ) (asked : Asked) (r : Reason) : Type 0 where
@@ -112,40 +117,40 @@ pub record ReasonCalled (b s : List ℕ) (p a : ℕ) (asked : Asked) (r : Reason
 
 -- `install` of the block b under a party's name on the lent shelf s answers r and leaves s'.
 pub record InstallCalled (s : List ℕ) (party name : ℕ) (b : List ℕ) (r : Shelved) (s' : List ℕ) : Type 0 where
-  pub call : Call 2 λ κs at. install.Learnt κs (at 0 holds s, (party, (name, (at 1 holds b, tt)))) r (at 0 holds s', (party, (name, (at 1 holds b, tt))))
+  pub call : Call 2 λ κs at. install.Learnt κs (at 0 lends s, (party, (name, (at 1 holds b, tt)))) r (at 0 lends s', (party, (name, (at 1 holds b, tt))))
 
 -- `fetch` of a party's name hands back a part of the shelf s with these bytes, and leaves the number k and the place p in the two that are lent for them.
 pub record FetchCalled (s : List ℕ) (party name : ℕ) (part : List ℕ) (k p : ℕ) : Type 0 where
   pub number_before : ℕ
   pub place_before : ℕ
   pub call : Call 3 λ κs at.
-      fetch.Learnt κs (at 0 holds s, (party, (name, (at 1 holds number_before, (at 2 holds place_before, tt))))) (at 3 holds part)
-      (at 0 holds s, (party, (name, (at 1 holds k, (at 2 holds p, tt)))))
+      fetch.Learnt κs (at 0 holds s, (party, (name, (at 1 lends number_before, (at 2 lends place_before, tt))))) (at 3 holds part)
+      (at 0 holds s, (party, (name, (at 1 lends k, (at 2 lends p, tt)))))
 
 -- `withdraw` of a party's name on the lent shelf s answers r and leaves s'.
 pub record WithdrawCalled (s : List ℕ) (party name : ℕ) (r : Shelved) (s' : List ℕ) : Type 0 where
-  pub call : Call 1 λ κs at. withdraw.Learnt κs (at 0 holds s, (party, (name, tt))) r (at 0 holds s', (party, (name, tt)))
+  pub call : Call 1 λ κs at. withdraw.Learnt κs (at 0 lends s, (party, (name, tt))) r (at 0 lends s', (party, (name, tt)))
 
 -- `alike` of two blocks on the lent bytes run answers r and leaves run'.
 pub record AlikeCalled (first second run : List ℕ) (r : Likeness) (run' : List ℕ) : Type 0 where
   pub call : Call 3 λ κs at.
-      alike.Learnt κs (at 0 holds first, (at 1 holds second, (at 2 holds run, tt))) r (at 0 holds first, (at 1 holds second, (at 2 holds run', tt)))
+      alike.Learnt κs (at 0 holds first, (at 1 holds second, (at 2 lends run, tt))) r (at 0 holds first, (at 1 holds second, (at 2 lends run', tt)))
 
 -- `double_loops` of the block b into the lent bytes out answers r and leaves out'.
 pub record DoubleCalled (b out : List ℕ) (r : Wrote) (out' : List ℕ) : Type 0 where
-  pub call : Call 2 λ κs at. double_loops.Learnt κs (at 0 holds b, (at 1 holds out, tt)) r (at 0 holds b, (at 1 holds out', tt))
+  pub call : Call 2 λ κs at. double_loops.Learnt κs (at 0 holds b, (at 1 lends out, tt)) r (at 0 holds b, (at 1 lends out', tt))
 
 -- `convert` of the block b into the lent bytes out answers r and leaves out'.
 pub record ConvertCalled (b out : List ℕ) (r : Wrote) (out' : List ℕ) : Type 0 where
-  pub call : Call 2 λ κs at. convert.Learnt κs (at 0 holds b, (at 1 holds out, tt)) r (at 0 holds b, (at 1 holds out', tt))
+  pub call : Call 2 λ κs at. convert.Learnt κs (at 0 holds b, (at 1 lends out, tt)) r (at 0 holds b, (at 1 lends out', tt))
 
 -- `write_text` of the block b into the lent bytes out answers r and leaves out'.
 pub record WriteTextCalled (b out : List ℕ) (r : Wrote) (out' : List ℕ) : Type 0 where
-  pub call : Call 2 λ κs at. write_text.Learnt κs (at 0 holds b, (at 1 holds out, tt)) r (at 0 holds b, (at 1 holds out', tt))
+  pub call : Call 2 λ κs at. write_text.Learnt κs (at 0 holds b, (at 1 lends out, tt)) r (at 0 holds b, (at 1 lends out', tt))
 
 -- `read_text` of a text into the lent bytes out answers r and leaves out'.
 pub record ReadTextCalled (text out : List ℕ) (r : Wrote) (out' : List ℕ) : Type 0 where
-  pub call : Call 2 λ κs at. read_text.Learnt κs (at 0 holds text, (at 1 holds out, tt)) r (at 0 holds text, (at 1 holds out', tt))
+  pub call : Call 2 λ κs at. read_text.Learnt κs (at 0 holds text, (at 1 lends out, tt)) r (at 0 holds text, (at 1 lends out', tt))
 
 -- `maze` of the block b with the inputs of a set present answers r.
 pub record MazeCalled (b : List ℕ) (set : ℕ) (r : Maze) : Type 0 where
