@@ -25,7 +25,6 @@ use Rattle.foldheron.proofs.Owed.{check_told_apart}
 use Rattle.records.specs.Numerals.{Bytes}
 use Rattle.writing.specs.Written.{written}
 use Rattle.writing.specs.declared.Wrote.{Wrote}
-use Rattle.writing.specs.declared.Wrote.TheVariants as Wrote
 use Rattle.writing.specs.Answers.{Writing, writes, refuses, roomed, wrote_values, wrote_owed, out_owed}
 use Rattle.doubled.specs.Copies.{within_limits}
 use Rattle.everyday.specs.Statements.{Everyday}

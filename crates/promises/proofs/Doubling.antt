@@ -34,7 +34,6 @@ use Rattle.foldheron.proofs.Owed.{check_told_apart}
 use Rattle.records.specs.Numerals.{Bytes, in_bytes}
 use Rattle.writing.specs.Written.{operand_bytes, shaped_bytes, records, header_bytes, block_bytes, written}
 use Rattle.writing.specs.declared.Wrote.{Wrote}
-use Rattle.writing.specs.declared.Wrote.TheVariants as Wrote
 use Rattle.copies.proofs.double_loops.Kinds as double_kinds
 use Rattle.copies.proofs.double_loops.Reads as double_reads
 use Rattle.copies.proofs.double_loops.Statement as double_statement

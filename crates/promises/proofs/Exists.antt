@@ -8,7 +8,6 @@ use lib.Dec.{eqb, ltb}
 use lib.ListN.{length, get_or, take}
 use borrow.Author.Tests.{ltb-true}
 use Rattle.rules.specs.Statements.{Stmt, nothing, pause, emit, present?◌then◌else◌, suspend◌on◌, ◌⨾◌, loop, ◌parallel◌, trap, exit, local}
-use Rattle.rules.specs.States.{State}
 use Rattle.rules.specs.Rounds.{answered, not_constructive}
 use Rattle.block.specs.Format.{Good, Reading, good, turned_down, reading, preorder, numbered, bytes, offset}
 use Rattle.block.specs.Told.{summary_of}
@@ -18,12 +17,9 @@ use Rattle.tables.proofs.Places.{all_counted}
 use Rattle.reaction.specs.Instants.{Verdict, refused, clash, reacted, told, told_refusal, verdict}
 use Rattle.refusals.specs.declared.Why.TheVariants as Why
 use Rattle.block.specs.declared.whole.Checked.{Checked}
-use Rattle.block.specs.declared.whole.Checked.TheVariants as Checked
 use Rattle.foldheron.specs.declared.Begun.{Begun}
-use Rattle.foldheron.specs.declared.Begun.TheVariants as Begun
 use Rattle.reaction.specs.declared.Given.{Given}
 use Rattle.reaction.specs.declared.Instant.{Instant}
-use Rattle.reaction.specs.declared.Instant.TheVariants as Instant
 use Rattle.refusals.specs.Refusals.{number, why_of}
 use Rattle.refusals.proofs.Laws.{number_back, of_a_block}
 use Rattle.foldheron.specs.Answers.{check_values, check_owed, begun_values, begun_owed, absent_part, part_owed}

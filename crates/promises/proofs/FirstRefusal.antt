@@ -5,7 +5,7 @@ use mathlib.Core.Logic.{◌⊎◌, inl, inr, ⊎_elim, ◌≢◌}
 use mathlib.Core.Bool.{Bool, true, false, cond, true≢false, ◌||◌}
 use mathlib.Core.List.{List, [], ◌∷◌, ◌++◌}
 use mathlib.Core.Option.{Option, none, some}
-use Prim.Native.Nat.{ℕ, zero, suc, ◌+◌, ◌≤◌, ◌<◌}
+use Prim.Native.Nat.{ℕ, zero, suc, ◌≤◌, ◌<◌}
 use native.Mathlib.Omega.{arith}
 use lib.Dec.{T, eqb, ltb}
 use lib.ListN.{length}
@@ -19,7 +19,7 @@ use Rattle.records.specs.StateRecord.{version_in, statements_in, Found, not_a_st
 use Rattle.records.specs.LogRecord.{no_room}
 use Rattle.records.proofs.Reading.{found_sized, named_version, named_statements, named_not}
 use Rattle.reaction.specs.Fronts.{STATE, OTHER_BLOCK, INPUT, Front, stopped, clashing, ready, wrong_inputs, try_inputs, try_clash, clash_tried, try_names, try_state, try_block, front}
-use Rattle.reaction.specs.Instants.{CLASH, ROOM, Verdict, clash, reacted, block_of, goes_on, verdict, told, heard_of}
+use Rattle.reaction.specs.Instants.{CLASH, ROOM, Verdict, reacted, block_of, goes_on, verdict, told, heard_of}
 use Rattle.reaction.specs.declared.Given.{Given}
 use Rattle.foldheron.specs.declared.Part.{Part}
 use Rattle.foldheron.specs.Answers.{check_owed, begun_owed, state_owed, absent_part, part_owed}

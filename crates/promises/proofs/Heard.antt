@@ -1,6 +1,6 @@
 -- Inputs not heard yet, on the caller's bytes: an answer given with some of them unknown is the answer with more of them heard, by the theorem of
 -- the rules; and an input set is two sets with no unknowns, since the tests and the rules come to the same with both. Assumes nothing.
-use mathlib.Core.Path.{◌≡◌, refl, sym, ap, ap₂, ◌∙◌, subst, subst⁻¹}
+use mathlib.Core.Path.{◌≡◌, refl, sym, ap, ◌∙◌, subst, subst⁻¹}
 use mathlib.Core.Bool.{Bool, true, false, not, cond, ◌&&◌}
 use mathlib.Core.List.{List}
 use mathlib.Core.Option.{Option, none, some}

@@ -1,6 +1,6 @@
 -- One instant on bytes: with a good block, a record found legal and a declared input set no test fails, so the verdict is the rules' answer;
 -- demand 3 says the rest of it, and a legal state's record is found legal again. Assumes nothing.
-use mathlib.Core.Path.{◌≡◌, refl, ap, ap₂, ◌∙◌, subst⁻¹}
+use mathlib.Core.Path.{◌≡◌, ap, ap₂, ◌∙◌, subst⁻¹}
 use mathlib.Core.Bool.{Bool, false, cond}
 use mathlib.Core.List.{List}
 use Prim.Native.Nat.{ℕ, ◌+◌, ◌≤◌}
@@ -15,7 +15,7 @@ use Rattle.block.specs.Format.{Good, good, reading}
 use Rattle.block.proofs.GoodReadings.{sound}
 use Rattle.records.specs.StateRecord.{state_record}
 use Rattle.records.proofs.Reading.{named_version, named_statements}
-use Rattle.reaction.specs.Fronts.{OTHER_BLOCK, Front, stopped, ready, try_inputs, try_clash, clash_tried, try_names, try_state, try_block, front}
+use Rattle.reaction.specs.Fronts.{OTHER_BLOCK, stopped, ready, try_inputs, try_clash, clash_tried, try_names, try_state, try_block, front}
 use Rattle.reaction.specs.Instants.{block_of, Verdict, reacted, goes_on, verdict, told, state_after, heard_of}
 use Rattle.promises.specs.Promised.{Holds, Inputs, input_set, rules_answer, PromisedAnswer, Promised}
 use Rattle.promises.proofs.Records.{inputs_pass, checked, held_is_legal, held_version_fits, legal_is_held}

@@ -30,7 +30,7 @@ use Rattle.foldheron.proofs.Calls.{Leaves, leaves}
 use Rattle.promises.specs.Calls as calls
 use Rattle.promises.specs.Calls.{Calls, CalledFor, LoggedFor, with_set, with_two, went_on, LoggedCalls, no_call, one_more}
 use Rattle.promises.specs.Demand1.{record_of, records, block_read, written_from, LoggedRun}
-use Rattle.promises.proofs.Learnt.{logged_answer, logged_end, logged_state, logged_log}
+use Rattle.promises.proofs.Learnt.{logged_answer, logged_end, logged_log}
 use Rattle.promises.proofs.Runs.{same_verdict}
 
 -- A refusal leaves every byte and gives end 0.

@@ -24,10 +24,8 @@ use Rattle.records.specs.StateRecord.{Found, not_a_state, state, read_state, nam
 use Rattle.reaction.specs.Fronts.{OTHER_BLOCK, stopped, ready, wrong_inputs, try_inputs, try_clash, clash_tried, try_names, try_state, try_block, front}
 use Rattle.reaction.specs.Instants.{Verdict, refused, clash, reacted, Told, told, block_of, goes_on, verdict, heard_of}
 use Rattle.refusals.specs.declared.Why.{Why}
-use Rattle.refusals.specs.declared.Why.TheVariants as Why
 use Rattle.reaction.specs.declared.Given.{Given}
 use Rattle.reaction.specs.declared.Instant.{Instant}
-use Rattle.reaction.specs.declared.Instant.TheVariants as Instant
 use Rattle.refusals.specs.Refusals.{number, why_of}
 use Rattle.refusals.proofs.Laws.{why_back, numbers_differ, number_above}
 use Rattle.reaction.specs.Answers.{instant_told}

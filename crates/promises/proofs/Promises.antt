@@ -3,7 +3,7 @@
 -- answers and leaves is known by its own contract (`specs/Calls`). Each theorem is proved in the file that the `use` lines name: Good gives the
 -- conditions on the tree, no test of the call then fails, and demand 3 of the rules says the rest. Assumes nothing.
 use mathlib.Core.Path.{◌≡◌}
-use mathlib.Core.Bool.{Bool, false, not, ◌&&◌}
+use mathlib.Core.Bool.{false, not, ◌&&◌}
 use mathlib.Core.List.{List, map}
 use Prim.Native.Nat.{ℕ, ◌+◌, ◌*◌, ◌≤◌}
 use lib.Dec.{ltb}

@@ -18,9 +18,9 @@ use Rattle.block.specs.Format.{Reading, good, turned_down, reading}
 use Rattle.block.proofs.GoodReadings.{numbers}
 use Rattle.records.specs.Numerals.{Bytes}
 use Rattle.shelf.specs.Entries.{QUOTA_SIZE, Entry, size, in_use, own, taken, find, entries}
-use Rattle.shelf.specs.Calls.{PARTY, SHELF, TAKEN, QUOTA, ABSENT, Call, install, fetch, withdraw, party_of, name_of, ShelfAnswer, refused, done, entry, installed}
+use Rattle.shelf.specs.Calls.{PARTY, TAKEN, QUOTA, Call, install, fetch, withdraw, party_of, name_of, ShelfAnswer, refused, done, entry, installed}
 use Rattle.shelf.specs.Calls.{fetched, withdrawn, told_by, told_on, told, left}
-use Rattle.shelf.specs.Histories.{is_of, shelf_after, told_to, Named, Said, said}
+use Rattle.shelf.specs.Histories.{is_of, shelf_after, told_to, Named, said}
 use Rattle.shelf.specs.Answered.{shelved_values, shelved_owed}
 use Rattle.shelf.specs.declared.Shelved.{Shelved}
 use Rattle.shelf.specs.declared.Shelved.TheVariants.{Done, TurnedDown}
@@ -29,7 +29,7 @@ use Rattle.shelf.proofs.OnlyShelf.{only_shelf, no_shelf}
 use Rattle.shelf.proofs.Told.{install_answers, withdraw_answers, install_empty, withdraw_empty, fetch_leaves}
 use Rattle.promises.specs.Tests.{Test, First}
 use Rattle.promises.specs.Demand1.{one_to_8, block_tests}
-use Rattle.promises.specs.Shelves.{ShelfOf, NoShelf, NameTaken, OverQuota, NameAbsent, party_test, shelf_test, taken_test, quota_test, absent_test}
+use Rattle.promises.specs.Shelves.{ShelfOf, NameTaken, OverQuota, NameAbsent, party_test, shelf_test, taken_test, quota_test, absent_test}
 use Rattle.promises.specs.Shelves.{install_tests, fetch_tests, withdraw_tests, PlacedInBlock}
 use Rattle.promises.specs.Shelves.{answer_of, ShelfCalled, installs, fetches, withdraws, ShelfCalls, no_call, one_more, told_party, heard}
 use Rattle.promises.proofs.Learnt.{install_says, fetch_part, fetch_number, fetch_place, withdraw_says}

@@ -13,7 +13,6 @@ use Rattle.block.specs.Format.{Good, Reading, good, turned_down, reading}
 use Rattle.block.proofs.GoodReadings.{numbers}
 use Rattle.records.specs.Numerals.{Bytes}
 use Rattle.writing.specs.declared.Wrote.{Wrote}
-use Rattle.writing.specs.declared.Wrote.TheVariants as Wrote
 use Rattle.writing.specs.Answers.{Writing, writes, refuses, roomed, wrote_values, wrote_owed, out_owed}
 use Rattle.text.specs.Reader.{text_read}
 use Rattle.write_text.specs.WriteText.{text_writing, text_writing_of}

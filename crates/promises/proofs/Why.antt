@@ -11,7 +11,6 @@ use lib.ListN.{get_or}
 use borrow.Author.Tests.{ne_eqb}
 use Rattle.refusals.specs.Refusals.{number, why_of}
 use Rattle.refusals.specs.declared.Why.{Why}
-use Rattle.refusals.specs.declared.Why.TheVariants as Why
 use Rattle.refusals.proofs.Laws.{why_back, numbers_differ, number_above}
 use Rattle.rules.specs.Statements.{Block}
 use Rattle.rules.specs.Events.{Hearing}
@@ -30,7 +29,6 @@ use Rattle.reaction.specs.Instants.{CLASH, NOT_CONSTRUCTIVE, block_of, heard_of,
 use Rattle.reaction.specs.declared.Given.TheVariants.{Two}
 use Rattle.reaction.proofs.Cases.{by_front}
 use Rattle.foldheron.specs.declared.say_why.Reason.{Reason}
-use Rattle.foldheron.specs.declared.say_why.Reason.TheVariants as Reason
 use Rattle.foldheron.specs.Reasons.{QUESTION, reason_values, named_owed, past_tests, reason_owed}
 use Rattle.promises.specs.Tests.{First}
 use Rattle.promises.specs.Demand1.{IsSo, NotSo, question_test, reason_tests, number_in, place_in, first_in, second_in, PairOf, PlacedBy, in_block, at_0}

@@ -19,7 +19,7 @@ use Rattle.records.specs.Numerals.{Bytes}
 use Rattle.records.specs.StateRecord.{state, state_record, read_state, names_block, first_clash}
 use Rattle.reaction.specs.Instants.{NOT_CONSTRUCTIVE, block_of, reacted, Told, told, state_after, log_by, end_by, verdict, heard_of}
 use Rattle.reaction.specs.declared.Given.{Given}
-use Rattle.reaction.specs.declared.Given.TheVariants.{All, Two}
+use Rattle.reaction.specs.declared.Given.TheVariants.{All}
 use Rattle.reaction.specs.declared.Instant.{Instant}
 use Rattle.foldheron.specs.declared.Logged.{Logged}
 use Rattle.reaction.specs.Answers.{instant_told}

@@ -4,7 +4,6 @@ use Rattle.std.proofs.Math.Option.{some}
 use Rattle.block.specs.Format.{Good, good, reading}
 use Rattle.writing.specs.Answers.{writes}
 use Rattle.writing.specs.declared.Wrote.{Wrote}
-use Rattle.writing.specs.declared.Wrote.TheVariants as Wrote
 use Rattle.text.specs.Tokens.{tokens}
 use Rattle.text.specs.Grammar.{Text, spelt}
 use Rattle.text.specs.Meaning.{Blocked, text_means}
