@@ -22,7 +22,7 @@ use Rattle.foldheron.specs.Answers.{check_values, begun_values, state_owed, part
 use Rattle.reaction.specs.Answers.{instant_told}
 use Rattle.foldheron.proofs.Owed.{check_told_apart, begun_told_apart}
 use Rattle.refusals.proofs.number_of.Kinds as number_of_kinds
-use Rattle.refusals.proofs.number_of.Reads as number_of_lem
+use Rattle.refusals.proofs.number_of.Reads as refusal_number
 use Rattle.refusals.proofs.number_of.Statement as number_of_statement
 use Rattle.refusals.proofs.number_of.Met as number_of_met
 use Rattle.foldheron.proofs.check.Kinds as check_kinds
@@ -97,7 +97,7 @@ excerpt_returns = record { nothing_asked = λ κs a. tt; returns = λ M. excerpt
 pub part_of_returns : Returns 1 part_of_kinds.ps part_of.Asked part_of_statement.statement
 part_of_returns = record { nothing_asked = λ κs a. tt; returns = λ M. part_of_met.met }
 
-pub number_of_returns : Returns 0 number_of_kinds.ps number_of_lem.Asked number_of_statement.statement
+pub number_of_returns : Returns 0 number_of_kinds.ps refusal_number.Asked number_of_statement.statement
 number_of_returns = record { nothing_asked = λ κs a. tt; returns = λ M. number_of_met.met }
 
 -- and for all that is lent there is exactly one answer, with exactly one content of each lent byte afterwards.
