@@ -1,42 +1,44 @@
 // Input sets, a buffer of them at a time.
-ghost use Rattle.std.specs.Prelude.{◌+◌, ◌*◌, ◌≤◌, length};
-ghost use Rattle.io.specs.Counts.{IsPrefixLen};
+ghost use Rattle.std.specs.Prelude.{◌+◌, ◌≤◌, length};
 
-use crate::{file, line, write};
+use crate::{Failure, line};
+use std::io::Read;
 
-// A proved loop has to end, and nothing says that a file does: the buffers are counted down from 2^54. At 512 sets each
+// A proved loop has to end, and nothing says that a file does: the buffers are counted up to 2^54. At 512 sets each
 // that is a cap of 2^63 instants, beyond any run, and the numbers of the lines fit.
 const BUFFERS: u64 = 0x40_0000_0000_0000;
 
 // Runs all the sets of a file.
-pub fn run_all(block: &[u8], state: &mut [u8], fd: i32, path: &[u8]) {
-    let mut left = BUFFERS;
-    let mut ran: u64 = 0;
-    while left > 0 {
-        if !run_some(block, state, fd, path, ran) {
-            return;
+pub fn run_all(
+    out: &impl Print,
+    block: &[u8],
+    state: &mut [u8],
+    inputs: &mut impl Read,
+) -> Result<(), Failure> {
+    for buffer in 0..BUFFERS {
+        if !run_some(out, block, state, inputs, buffer * 512)? {
+            break;
         }
-        left -= 1;
-        ran += 512;
     }
+    Ok(())
 }
 
 // Reads up to 512 sets, after `ran` that were run, runs them and writes their lines. Answers whether to go on.
-fn run_some(block: &[u8], state: &mut [u8], fd: i32, path: &[u8], ran: u64) -> bool
+fn run_some(
+    out: &impl Print,
+    block: &[u8],
+    state: &mut [u8],
+    inputs: &mut impl Read,
+    ran: u64,
+) -> Result<bool, Failure>
     requires { ran ≤ 9223372036854775808 }
 {
     let mut space = [0u8; 4096];
-    let filled = file::fill(fd, path, &mut space);
-    if filled.is_failed {
-        return false;
-    }
-    let n = filled.count;
-    let mut out = io::large_buffer();
-    let end = run_sets(block, state, &space[..n], &mut out, ran);
-    if !write(&out[..end]) {
-        return false;
-    }
-    n == 4096
+    let n = reading::read_full(inputs, &mut space).map_err(Failure::Inputs)?;
+    let mut text = [0u8; 65536];
+    let end = run_sets(block, state, &space[..n], &mut text, ran);
+    out.write_all(&text[..end]).map_err(Failure::Output)?;
+    Ok(n == 4096)
 }
 
 // Runs the sets, at most 512, and puts their lines into `out`, and `short` where 1 to 7 bytes are left.
@@ -44,16 +46,14 @@ fn run_sets(block: &[u8], state: &mut [u8], sets: &[u8], out: &mut [u8], ran: u6
     requires sets_len_bound { length sets.now ≤ 4096 }
     requires in_bounds { 64518 ≤ length out.old }
     requires ran_bound { ran ≤ 9223372036854775808 }
-    ensures { IsPrefixLen result out.new }
+    ensures { result ≤ length out.new }
 {
     let count = sets.len() / 8;
     let mut end = 0;
-    let mut i = 0;
-    while i < count {
+    for i in 0..count {
         let line = line::react(block, state, set_at(sets, i * 8));
         let numbers = line::numbers(ran + (i as u64) + 1, line);
         end = lines::put_line(out, end, &numbers);
-        i += 1;
     }
     if count * 8 < sets.len() {
         end = lines::put_short(out, end);
