@@ -3,18 +3,26 @@
 use checking::lines::word;
 use checking::{number, say};
 use foldheron::{Maze, Rooms};
+use std::io;
 
-pub(crate) fn ask(name: &[u8], given: &[u16], block: &[u8]) {
+pub(crate) fn ask(out: &impl Print, name: &[u8], given: &[u16], block: &[u8]) -> io::Result<()> {
     let answer = foldheron::maze(block, inputs_of(given));
     match answer {
-        Maze::Rooms(rooms) => ended(name, given, rooms),
-        Maze::Refused(why, place) => told(name, given, number(why), place),
+        Maze::Rooms(rooms) => ended(out, name, given, rooms),
+        Maze::Refused(why, place) => told(out, name, given, number(why), place),
     }
 }
 
 // The number and the place of an answer.
-pub(crate) fn told(name: &[u8], given: &[u16], came: u64, place: usize) {
+pub(crate) fn told(
+    out: &impl Print,
+    name: &[u8],
+    given: &[u16],
+    came: u64,
+    place: usize,
+) -> io::Result<()> {
     say(
+        out,
         name,
         came,
         place,
@@ -30,27 +38,25 @@ pub(crate) fn inputs_of(given: &[u16]) -> u64 {
     word(given, 3) as u64
 }
 
-fn ended(name: &[u8], given: &[u16], rooms: Rooms) {
-    told(name, given, 0, 0);
+fn ended(out: &impl Print, name: &[u8], given: &[u16], rooms: Rooms) -> io::Result<()> {
+    told(out, name, given, 0, 0)?;
     let wrong = otherwise(given, rooms.winning, rooms.losing, rooms.drawn);
-    say(b"  rooms that end otherwise ", wrong, 0, 0, 0)
+    say(out, b"  rooms that end otherwise ", wrong, 0, 0, 0)
 }
 
 // 0 where every signal's room ends as given and no other bit is set, 1 where a signal's does not, 2 where another bit is.
 fn otherwise(given: &[u16], winning: u64, losing: u64, drawn: u64) -> u64 {
     let count = word(given, 5);
-    let mut i: u16 = 0;
     let mut w = winning;
     let mut l = losing;
     let mut d = drawn;
-    while i < count {
+    for i in 0..count {
         if !ends(end_of(given, i), w % 2, l % 2, d % 2) {
             return 1;
         }
         w = w / 2;
         l = l / 2;
         d = d / 2;
-        i += 1;
     }
     if alone(0, w, l, d) { 0 } else { 2 }
 }

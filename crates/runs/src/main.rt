@@ -46,14 +46,12 @@ fn line_end(list: &[u8], from: usize) -> usize
     requires { from ≤ length list.now }
     ensures { (from ≤ result) × (result ≤ length list.now) }
 {
-    let mut i = from;
-    while i < list.len() {
+    for i in from..list.len() {
         if list[i] == b'\n' {
-            break;
+            return i;
         }
-        i += 1;
     }
-    i
+    list.len()
 }
 
 // Answers how many runs failed, 0 or 1.
