@@ -1,7 +1,6 @@
 -- `pages::narrow` is safe: the page has room for the longest record. Assumes nothing.
 use native.Mathlib.Omega.{arith}
 use Rattle.block.proofs.Offsets.{length_small}
-use borrow.Author.Rules.{rules}
 use Rattle.checking.proofs.pages.narrow.Goals as goal
 
 pub put_record-requires : goal.put_record-requires
