@@ -10,8 +10,8 @@
 ghost use Rattle.std.specs.Prelude.{◌≤◌, length, IfOk};
 
 mod file;
+mod inputs;
 mod line;
-mod sets;
 
 use line::Begun;
 use std::io;
@@ -69,7 +69,7 @@ fn run_inputs(
     inputs_file: &str,
 ) -> Result<(), Failure> {
     match file::open(rt, inputs_file).map_err(Failure::Inputs)? {
-        Some(mut inputs) => sets::run_all(rt, block, state, &mut inputs),
+        Some(mut inputs) => inputs::run_all(rt, block, state, &mut inputs),
         None => Ok(()),
     }
 }

@@ -2,7 +2,7 @@
 // one of its two files, may be missing. Where a run fails, standard error says where and why, the others go on, and the status is 1.
 #![tactic(auto)]
 
-ghost use Rattle.std.specs.Prelude.{◌×◌, ◌+◌, ◌≤◌, length, IfOk};
+ghost use Rattle.std.specs.Prelude.{◌≤◌, length, IfOk};
 
 use anyhow::{Context, Result, ensure};
 use std::alloc::Global;
@@ -55,11 +55,7 @@ fn line_end(list: &[u8], from: usize) -> usize
 }
 
 // Answers how many runs failed, 0 or 1.
-fn run_folder(
-    rt: &(impl Files + Print + Eprint),
-    alloc: Global,
-    name: &[u8],
-) -> io::Result<usize>
+fn run_folder(rt: &(impl Files + Print + Eprint), alloc: Global, name: &[u8]) -> io::Result<usize>
     ensures { IfOk result (λ n. n ≤ 1) }
 {
     rt.write_all(b"== ")?;
