@@ -1,6 +1,6 @@
 // Corridors. The numbers of a case after the place: the inputs as of a maze, the room (0 a signal's, 1 a part's, 2 a gate, 3 the dungeon) with its two numbers, which of its
 // corridors; and what is expected: 0 a visible one, 1 a secret one, 2 no more, 3 no such room, and the room it leads to.
-use crate::mazes::{inputs_of, told};
+use crate::rooms::{inputs_of, told};
 use checking::lines::word;
 use checking::{number, say};
 use foldheron::{Corridor, Room};

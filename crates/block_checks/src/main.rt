@@ -7,7 +7,7 @@
 #![tactic(auto)]
 
 mod corridors;
-mod mazes;
+mod rooms;
 mod written;
 
 use checking::lines::{bar_after, between, numbers, part, word};
@@ -23,7 +23,7 @@ fn case(out: &impl Print, text: &[u8], from: usize) -> io::Result<usize> {
     let name = between(text, from, bar);
     let block = part(&page, first.count);
     match word(&given, 0) {
-        12 => mazes::ask(out, name, &given, block)?,
+        12 => rooms::ask(out, name, &given, block)?,
         15 => corridors::ask(out, name, &given, block)?,
         13 => return with_second(out, text, first.at, name, &given, block),
         _ => return with_bytes(out, text, first.at, name, &given, block, b""),

@@ -95,7 +95,7 @@ fn told(
     count: usize,
     size: usize,
 ) -> io::Result<()> {
-    crate::mazes::told(out, name, given, came, place)?;
+    crate::rooms::told(out, name, given, came, place)?;
     say(
         out,
         b"  of the second, and bytes ",
