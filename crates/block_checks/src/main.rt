@@ -7,14 +7,14 @@
 #![tactic(auto)]
 
 mod corridors;
-mod mazes;
+mod rooms;
 mod written;
 
 use checking::lines::{bar_after, between, numbers, part, word};
 use checking::pages::made;
-use libc::STDIN_FILENO;
+use std::io;
 
-fn case(text: &[u8], from: usize) -> usize {
+fn case(out: &impl Print, text: &[u8], from: usize) -> io::Result<usize> {
     let bar = bar_after(text, from);
     let mut given = [0u16; 128];
     let line = numbers(text, bar + 2, &mut given);
@@ -23,18 +23,26 @@ fn case(text: &[u8], from: usize) -> usize {
     let name = between(text, from, bar);
     let block = part(&page, first.count);
     match word(&given, 0) {
-        12 => mazes::ask(name, &given, block),
-        15 => corridors::ask(name, &given, block),
-        13 => return with_second(text, first.at, name, &given, block),
-        _ => return with_bytes(text, first.at, name, &given, block, b""),
+        12 => rooms::ask(out, name, &given, block)?,
+        15 => corridors::ask(out, name, &given, block)?,
+        13 => return with_second(out, text, first.at, name, &given, block),
+        _ => return with_bytes(out, text, first.at, name, &given, block, b""),
     }
-    first.at
+    Ok(first.at)
 }
 
-fn with_second(text: &[u8], from: usize, name: &[u8], given: &[u16], block: &[u8]) -> usize {
+fn with_second(
+    out: &impl Print,
+    text: &[u8],
+    from: usize,
+    name: &[u8],
+    given: &[u16],
+    block: &[u8],
+) -> io::Result<usize> {
     let mut page = [0u8; 4096];
     let second = made(text, from, &mut page);
     with_bytes(
+        out,
         text,
         second.at,
         name,
@@ -45,33 +53,35 @@ fn with_second(text: &[u8], from: usize, name: &[u8], given: &[u16], block: &[u8
 }
 
 fn with_bytes(
+    out: &impl Print,
     text: &[u8],
     from: usize,
     name: &[u8],
     given: &[u16],
     block: &[u8],
     second: &[u8],
-) -> usize {
+) -> io::Result<usize> {
     let mut page = [0u8; 4096];
     let bytes = made(text, from, &mut page);
-    written::ask(name, given, block, second, part(&page, bytes.count));
-    bytes.at
+    written::ask(out, name, given, block, second, part(&page, bytes.count))?;
+    Ok(bytes.at)
 }
 
 // Every case of the text.
-fn cases(text: &[u8]) {
+fn cases(out: &impl Print, text: &[u8]) -> io::Result<()> {
     let mut at: usize = 0;
     while at < text.len() {
-        let next = case(text, at);
+        let next = case(out, text, at)?;
         if next <= at {
-            return;
+            return Ok(());
         }
         at = next;
     }
+    Ok(())
 }
 
-fn main() {
-    let mut text = io::large_buffer();
-    let n = io::read_full(STDIN_FILENO, &mut text);
-    cases(part(&text, n));
+fn main(rt: HostRuntime) -> io::Result<()> {
+    let mut text = [0u8; 65536];
+    let n = reading::read_full(&mut rt.stdin(), &mut text)?;
+    cases(&rt, part(&text, n))
 }

@@ -3,46 +3,90 @@
 use checking::lines::word;
 use checking::{number, say};
 use foldheron::{Likeness, Wrote};
+use std::io;
 
-pub(crate) fn ask(name: &[u8], given: &[u16], block: &[u8], second: &[u8], bytes: &[u8]) {
-    let mut out = [165u8; 4096];
-    ask_front(name, given, block, second, bytes.len(), &mut out);
-    say(b"  bytes otherwise ", otherwise(&out, bytes), 0, 0, 0)
+pub(crate) fn ask(
+    out: &impl Print,
+    name: &[u8],
+    given: &[u16],
+    block: &[u8],
+    second: &[u8],
+    bytes: &[u8],
+) -> io::Result<()> {
+    let mut lent = [165u8; 4096];
+    ask_front(out, name, given, block, second, bytes.len(), &mut lent)?;
+    say(out, b"  bytes otherwise ", otherwise(&lent, bytes), 0, 0, 0)
 }
 
-fn ask_front(name: &[u8], given: &[u16], block: &[u8], second: &[u8], size: usize, out: &mut [u8]) {
+fn ask_front(
+    out: &impl Print,
+    name: &[u8],
+    given: &[u16],
+    block: &[u8],
+    second: &[u8],
+    size: usize,
+    lent: &mut [u8],
+) -> io::Result<()> {
     let room = word(given, 3) as usize;
-    if room <= out.len() {
-        ask_into(name, given, block, second, size, &mut out[..room]);
+    if room <= lent.len() {
+        ask_into(out, name, given, block, second, size, &mut lent[..room])?;
     }
+    Ok(())
 }
 
-fn ask_into(name: &[u8], given: &[u16], block: &[u8], second: &[u8], size: usize, out: &mut [u8]) {
+fn ask_into(
+    out: &impl Print,
+    name: &[u8],
+    given: &[u16],
+    block: &[u8],
+    second: &[u8],
+    size: usize,
+    lent: &mut [u8],
+) -> io::Result<()> {
     match word(given, 0) {
-        13 => compared(name, given, size, foldheron::alike(block, second, out)),
-        14 => wrote(name, given, size, foldheron::double_loops(block, out)),
-        _ => wrote(name, given, size, foldheron::convert(block, out)),
+        13 => compared(
+            out,
+            name,
+            given,
+            size,
+            foldheron::alike(block, second, lent),
+        ),
+        14 => wrote(out, name, given, size, foldheron::double_loops(block, lent)),
+        _ => wrote(out, name, given, size, foldheron::convert(block, lent)),
     }
 }
 
-fn compared(name: &[u8], given: &[u16], size: usize, answer: Likeness) {
+fn compared(
+    out: &impl Print,
+    name: &[u8],
+    given: &[u16],
+    size: usize,
+    answer: Likeness,
+) -> io::Result<()> {
     match answer {
-        Likeness::Alike => told(name, given, 0, 0, 0, 0, size),
-        Likeness::Different(length) => told(name, given, 0, 0, 0, length, size),
-        Likeness::First(why, place) => told(name, given, number(why), place, 0, 0, size),
-        Likeness::Second(why, place) => told(name, given, number(why), place, 1, 0, size),
-        Likeness::Refused(why) => told(name, given, number(why), 0, 0, 0, size),
+        Likeness::Alike => told(out, name, given, 0, 0, 0, 0, size),
+        Likeness::Different(length) => told(out, name, given, 0, 0, 0, length, size),
+        Likeness::First(why, place) => told(out, name, given, number(why), place, 0, 0, size),
+        Likeness::Second(why, place) => told(out, name, given, number(why), place, 1, 0, size),
+        Likeness::Refused(why) => told(out, name, given, number(why), 0, 0, 0, size),
     }
 }
 
-fn wrote(name: &[u8], given: &[u16], size: usize, answer: Wrote) {
+fn wrote(
+    out: &impl Print,
+    name: &[u8],
+    given: &[u16],
+    size: usize,
+    answer: Wrote,
+) -> io::Result<()> {
     match answer {
-        Wrote::Bytes(count) => told(name, given, 0, 0, 0, count, size),
-        Wrote::Refused(why, place) => told(name, given, number(why), place, 0, 0, size),
+        Wrote::Bytes(count) => told(out, name, given, 0, 0, 0, count, size),
+        Wrote::Refused(why, place) => told(out, name, given, number(why), place, 0, 0, size),
     }
 }
 
 fn told(
+    out: &impl Print,
     name: &[u8],
     given: &[u16],
     came: u64,
@@ -50,9 +94,10 @@ fn told(
     second: u64,
     count: usize,
     size: usize,
-) {
-    crate::mazes::told(name, given, came, place);
+) -> io::Result<()> {
+    crate::rooms::told(out, name, given, came, place)?;
     say(
+        out,
         b"  of the second, and bytes ",
         second,
         count,
@@ -62,13 +107,11 @@ fn told(
 }
 
 // 0 where the bytes are those expected and then 165 alone, else 1.
-fn otherwise(out: &[u8], bytes: &[u8]) -> u64 {
-    let mut i: usize = 0;
-    while i < out.len() {
-        if out[i] != expected(bytes, i) {
+fn otherwise(lent: &[u8], bytes: &[u8]) -> u64 {
+    for i in 0..lent.len() {
+        if lent[i] != expected(bytes, i) {
             return 1;
         }
-        i += 1;
     }
     0
 }

@@ -1,68 +1,89 @@
 // The calls that take blocks alone, with no state.
-use printing::{put, put_numbers, put_until};
+use printing::{put_numbers, put_until};
+use std::io;
 
 // What is lent for an output holds this byte, with which none ends.
 const LENT: u8 = 165;
 
-pub fn maze(block: &[u8], inputs: u64) {
+pub fn maze(out: &impl Print, block: &[u8], inputs: u64) -> io::Result<()> {
     let numbers = answers::blocks::maze(block, inputs);
-    put(b"maze");
-    put_numbers(&numbers, 5);
+    print!(out; "maze")?;
+    put_numbers(out, &numbers, 5)
 }
 
 // A call that writes an output, into so many bytes; the line of one that lends more than there is stays empty.
-pub fn written(kind: u64, block: &[u8], beside: &[u8], size: usize) {
-    let mut out = [LENT; 65536];
-    written_front(kind, block, beside, &mut out, size);
+pub fn written(
+    out: &impl Print,
+    kind: u64,
+    block: &[u8],
+    beside: &[u8],
+    size: usize,
+) -> io::Result<()> {
+    let mut lent = [LENT; 65536];
+    written_front(out, kind, block, beside, &mut lent, size)
 }
 
-fn written_front(kind: u64, block: &[u8], beside: &[u8], out: &mut [u8], size: usize) {
-    if size <= out.len() {
-        written_into(kind, block, beside, &mut out[..size]);
+fn written_front(
+    out: &impl Print,
+    kind: u64,
+    block: &[u8],
+    beside: &[u8],
+    lent: &mut [u8],
+    size: usize,
+) -> io::Result<()> {
+    if size <= lent.len() {
+        written_into(out, kind, block, beside, &mut lent[..size])?;
     }
+    Ok(())
 }
 
-fn written_into(kind: u64, block: &[u8], beside: &[u8], out: &mut [u8]) {
+fn written_into(
+    out: &impl Print,
+    kind: u64,
+    block: &[u8],
+    beside: &[u8],
+    lent: &mut [u8],
+) -> io::Result<()> {
     match kind {
-        13 => alike(block, beside, out),
-        14 => copies(block, out),
-        15 => read_text(block, out),
-        16 => write_text(block, out),
-        _ => convert(block, out),
+        13 => alike(out, block, beside, lent),
+        14 => copies(out, block, lent),
+        15 => read_text(out, block, lent),
+        16 => write_text(out, block, lent),
+        _ => convert(out, block, lent),
     }
 }
 
-fn alike(first: &[u8], second: &[u8], run: &mut [u8]) {
+fn alike(out: &impl Print, first: &[u8], second: &[u8], run: &mut [u8]) -> io::Result<()> {
     let numbers = answers::blocks::alike(first, second, run);
-    put(b"alike");
-    put_numbers(&numbers, 4);
-    put_until(run, LENT);
+    print!(out; "alike")?;
+    put_numbers(out, &numbers, 4)?;
+    put_until(out, run, LENT)
 }
 
-fn copies(block: &[u8], out: &mut [u8]) {
-    let numbers = answers::blocks::copies(block, out);
-    put(b"copies");
-    put_numbers(&numbers, 3);
-    put_until(out, LENT);
+fn copies(out: &impl Print, block: &[u8], lent: &mut [u8]) -> io::Result<()> {
+    let numbers = answers::blocks::copies(block, lent);
+    print!(out; "copies")?;
+    put_numbers(out, &numbers, 3)?;
+    put_until(out, lent, LENT)
 }
 
-fn convert(block: &[u8], out: &mut [u8]) {
-    let numbers = answers::blocks::convert(block, out);
-    put(b"convert");
-    put_numbers(&numbers, 3);
-    put_until(out, LENT);
+fn convert(out: &impl Print, block: &[u8], lent: &mut [u8]) -> io::Result<()> {
+    let numbers = answers::blocks::convert(block, lent);
+    print!(out; "convert")?;
+    put_numbers(out, &numbers, 3)?;
+    put_until(out, lent, LENT)
 }
 
-fn read_text(text: &[u8], block: &mut [u8]) {
+fn read_text(out: &impl Print, text: &[u8], block: &mut [u8]) -> io::Result<()> {
     let numbers = answers::blocks::read_text(text, block);
-    put(b"readtext");
-    put_numbers(&numbers, 3);
-    put_until(block, LENT);
+    print!(out; "readtext")?;
+    put_numbers(out, &numbers, 3)?;
+    put_until(out, block, LENT)
 }
 
-fn write_text(block: &[u8], text: &mut [u8]) {
+fn write_text(out: &impl Print, block: &[u8], text: &mut [u8]) -> io::Result<()> {
     let numbers = answers::blocks::write_text(block, text);
-    put(b"writetext");
-    put_numbers(&numbers, 3);
-    put_until(text, LENT);
+    print!(out; "writetext")?;
+    put_numbers(out, &numbers, 3)?;
+    put_until(out, text, LENT)
 }

@@ -4,8 +4,8 @@
 pub mod lines;
 pub mod pages;
 
-use libc::STDOUT_FILENO;
 use refusals::Why;
+use std::io;
 
 pub fn number(w: Why) -> u64 {
     match w {
@@ -39,18 +39,20 @@ pub fn number(w: Why) -> u64 {
 }
 
 // A line: what came, and whether it was expected.
-pub fn say(name: &[u8], came: u64, place: usize, number: u64, at: usize) {
-    io::write_all(STDOUT_FILENO, name);
-    io::print_decimal(STDOUT_FILENO, came);
-    io::write_all(STDOUT_FILENO, b" ");
-    io::print_decimal(STDOUT_FILENO, place as u64);
-    if came == number {
-        if place == at {
-            io::write_all(STDOUT_FILENO, b" as expected\n");
-            return;
-        }
+pub fn say(
+    out: &impl Print,
+    name: &[u8],
+    came: u64,
+    place: usize,
+    number: u64,
+    at: usize,
+) -> io::Result<()> {
+    out.write_all(name)?;
+    if came == number && place == at {
+        println!(out; "{came} {place} as expected")
+    } else {
+        println!(out; "{came} {place} NOT AS EXPECTED")
     }
-    io::write_all(STDOUT_FILENO, b" NOT AS EXPECTED\n");
 }
 
 fn wide(x: u8) -> u64 {

@@ -12,12 +12,10 @@ pub struct Line {
 pub fn bar_after(text: &[u8], from: usize) -> usize
     ensures { result ≤ length text.now }
 {
-    let mut at = from;
-    while at < text.len() {
-        if text[at] == 124 {
+    for at in from..text.len() {
+        if text[at] == b'|' {
             return at;
         }
-        at += 1;
     }
     text.len()
 }

@@ -71,10 +71,8 @@ fn narrow(page: &mut [u8], at: usize, kind: u16, operand: u16) -> usize {
 // The same record so many times, while there is room.
 fn repeated(page: &mut [u8], at: usize, times: u16, kind: u16, operand: u16) -> usize {
     let mut to = at;
-    let mut i: u16 = 0;
-    while i < times {
+    for _ in 0..times {
         to = statement(page, to, kind, operand);
-        i += 1;
     }
     to
 }
@@ -109,10 +107,8 @@ fn records_2(page: &mut [u8], given: &[u16], count: usize) -> usize {
 // Bytes as they are given.
 fn bytes(page: &mut [u8], given: &[u16], count: usize) -> usize {
     let mut at: usize = 0;
-    let mut i: usize = 3;
-    while i < count {
+    for i in 3..count {
         at = put(page, at, (word(given, i) % 256) as u8);
-        i += 1;
     }
     at
 }

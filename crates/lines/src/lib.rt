@@ -2,35 +2,17 @@
 #![tactic(auto)]
 
 ghost use Rattle.std.specs.Prelude.{◌+◌, ◌≤◌, length};
-ghost use Rattle.io.specs.Counts.{IsPrefixLen};
+
+use itoa::Buffer;
 
 // Bytes as they are.
 fn put(out: &mut [u8], at: usize, bytes: &[u8]) -> usize
     requires { at + length bytes.now ≤ length out.old }
     ensures { result ≤ at + length bytes.now }
 {
-    let mut i = 0;
-    while i < bytes.len() {
-        out[at + i] = bytes[i];
-        i += 1;
-    }
-    at + i
-}
-
-// The first `count` of the digits.
-fn put_digits(out: &mut [u8], at: usize, digits: &[u8; 20], count: usize) -> usize
-    requires { at + 20 ≤ length out.old }
-    ensures { result ≤ at + 20 }
-{
-    let mut i = 0;
-    while i < 20 {
-        if i == count {
-            break;
-        }
-        out[at + i] = digits[i];
-        i += 1;
-    }
-    at + i
+    let end = at + bytes.len();
+    out[at..end].copy_from_slice(bytes);
+    end
 }
 
 // A number in decimal and the byte after it: at most 21 bytes.
@@ -38,9 +20,8 @@ fn put_number(out: &mut [u8], at: usize, n: u64, after: u8) -> usize
     requires { at + 21 ≤ length out.old }
     ensures { result ≤ at + 21 }
 {
-    let mut digits = [0u8; 20];
-    let count = io::decimal(n, &mut digits);
-    let end = put_digits(out, at, &digits, count);
+    let mut digits = Buffer::new();
+    let end = put(out, at, digits.format(n).as_bytes());
     out[end] = after;
     end + 1
 }
@@ -51,10 +32,8 @@ pub fn put_line(out: &mut [u8], at: usize, numbers: &[u64; 6]) -> usize
     ensures { result ≤ at + 126 }
 {
     let mut end = at;
-    let mut i = 0;
-    while i < 6 {
+    for i in 0..6usize {
         end = put_number(out, end, numbers[i], after(i));
-        i += 1;
     }
     end
 }
@@ -75,7 +54,7 @@ pub fn put_short(out: &mut [u8], at: usize) -> usize
 // The line of a block that is turned down: at most 48 bytes.
 pub fn put_block(out: &mut [u8], number: u16, place: usize) -> usize
     requires { 48 ≤ length out.old }
-    ensures { IsPrefixLen result out.new }
+    ensures { result ≤ length out.new }
 {
     let a = put(out, 0, b"block ");
     let b = put_number(out, a, number as u64, b' ');

@@ -1,66 +1,50 @@
-// The text of a line, written to standard output as it comes. Where standard output fails, it fails for the line's end too, which alone is looked at.
+// The text of a line, written to an output as it comes. A write that fails ends it, and its error is answered.
 #![tactic(auto)]
 
-ghost use Rattle.std.specs.Prelude.{◌≤◌, ◌<◌};
-ghost use Rattle.io.specs.Counts.{IsPrefixLen};
+ghost use Rattle.std.specs.Prelude.{◌≤◌, ◌<◌, length, IfOk};
 
-use libc::STDOUT_FILENO;
+use std::io;
 
-// Bytes as they are; tells whether they were written.
-pub fn put(bytes: &[u8]) -> bool {
-    io::write_all(STDOUT_FILENO, bytes)
-}
-
-// A number, in hex.
-fn put_hex(n: u64) {
-    io::print_hex(STDOUT_FILENO, n, 1);
-}
-
-// A space and a number.
-fn put_number(n: u64) {
-    put(b" ");
-    put_hex(n);
+// A space and a number in hex.
+fn put_number(out: &impl Print, n: u64) -> io::Result<()> {
+    print!(out; " {n:x}")
 }
 
 // The first `count` of the numbers.
-pub fn put_numbers(numbers: &[u64; 11], count: usize)
+pub fn put_numbers(out: &impl Print, numbers: &[u64; 11], count: usize) -> io::Result<()>
     requires { count ≤ 11 }
 {
-    let mut i = 0;
-    while i < count {
-        put_number(numbers[i]);
-        i += 1;
+    for i in 0..count {
+        put_number(out, numbers[i])?;
     }
+    Ok(())
 }
 
 // A space and bytes, two digits each; a dash for none.
-pub fn put_bytes(bytes: &[u8]) {
-    put(b" ");
-    if bytes.len() == 0 {
-        put(b"-");
-        return;
+pub fn put_bytes(out: &impl Print, bytes: &[u8]) -> io::Result<()> {
+    if bytes.is_empty() {
+        return print!(out; " -");
     }
-    put_digits(bytes);
+    print!(out; " ")?;
+    put_digits(out, bytes)
 }
 
 // The digits of the bytes, 4,096 at a time.
-fn put_digits(bytes: &[u8]) {
-    let mut digits = io::buffer();
-    let mut count: usize = 0;
-    let mut i: usize = 0;
-    while i < bytes.len() {
-        count = two_more(&mut digits, count, bytes[i]);
-        i += 1;
+fn put_digits(out: &impl Print, bytes: &[u8]) -> io::Result<()> {
+    let mut digits = [0u8; 4096];
+    let mut count = 0;
+    for byte in bytes {
+        count = two_more(out, &mut digits, count, *byte)?;
     }
-    put_front(&digits, count);
+    put_front(out, &digits, count)
 }
 
 // The two digits of a byte behind those that are there, which are written before where there is no room.
-fn two_more(digits: &mut [u8], count: usize, byte: u8) -> usize {
-    let at = room_for_two(digits, count);
+fn two_more(out: &impl Print, digits: &mut [u8], count: usize, byte: u8) -> io::Result<usize> {
+    let at = room_for_two(out, digits, count)?;
     store(digits, at, digit(byte / 16));
     store(digits, at + 1, digit(byte % 16));
-    at + 2
+    Ok(at + 2)
 }
 
 fn store(digits: &mut [u8], at: usize, digit: u8) {
@@ -69,40 +53,40 @@ fn store(digits: &mut [u8], at: usize, digit: u8) {
     }
 }
 
-fn room_for_two(digits: &[u8], count: usize) -> usize
-    ensures { result ≤ 4094 }
+fn room_for_two(out: &impl Print, digits: &[u8], count: usize) -> io::Result<usize>
+    ensures { IfOk result (λ at. at ≤ 4094) }
 {
     if count <= 4094 {
-        return count;
+        return Ok(count);
     }
-    put_front(digits, count);
-    0
+    put_front(out, digits, count)?;
+    Ok(0)
 }
 
 // So many of the digits; they are never more than there are.
-fn put_front(digits: &[u8], count: usize) {
+fn put_front(out: &impl Print, digits: &[u8], count: usize) -> io::Result<()> {
     if count <= digits.len() {
-        put(&digits[..count]);
+        out.write_all(&digits[..count])?;
     }
+    Ok(())
 }
 
 // A digit below 16.
 fn digit(d: u8) -> u8
     requires { d < 16 }
 {
-    if d < 10 { 48 + d } else { 87 + d }
+    if d < 10 { b'0' + d } else { b'a' + (d - 10) }
 }
 
 // Bytes up to the last that is not the rest's, and how many of the rest come after it.
-pub fn put_until(bytes: &[u8], rest: u8) {
+pub fn put_until(out: &impl Print, bytes: &[u8], rest: u8) -> io::Result<()> {
     let stands = standing(bytes, rest);
-    put_bytes(&bytes[..stands]);
-    put(b"+");
-    put_hex((bytes.len() - stands) as u64);
+    put_bytes(out, &bytes[..stands])?;
+    print!(out; "+{:x}", bytes.len() - stands)
 }
 
 fn standing(bytes: &[u8], rest: u8) -> usize
-    ensures { IsPrefixLen result bytes.now }
+    ensures { result ≤ length bytes.now }
 {
     let mut count = bytes.len();
     while 0 < count {

@@ -5,159 +5,215 @@
 use checking::pages::{state_of, tested};
 use checking::{number, say};
 use foldheron::{Asked, Reason};
+use std::io;
 
-fn told(name: &[u8], answer: Reason, expected: u64, at: usize) {
+fn told(out: &impl Print, name: &[u8], answer: Reason, expected: u64, at: usize) -> io::Result<()> {
     match answer {
-        Reason::Statement(n) => say(name, 0, n, expected, at),
-        Reason::Clash(first, second) => clashed(name, first, second, expected),
-        Reason::Refused(w, place) => say(name, number(w), place, expected, at),
+        Reason::Statement(n) => say(out, name, 0, n, expected, at),
+        Reason::Clash(first, second) => clashed(out, name, first, second, expected),
+        Reason::Refused(w, place) => say(out, name, number(w), place, expected, at),
     }
 }
 
 // The pair of the one clash here.
-fn clashed(name: &[u8], first: u16, second: u16, expected: u64) {
-    say(name, 10, 0, expected, 0);
-    say(b"  its pair ", first as u64, second as usize, 0, 1);
+fn clashed(
+    out: &impl Print,
+    name: &[u8],
+    first: u16,
+    second: u16,
+    expected: u64,
+) -> io::Result<()> {
+    say(out, name, 10, 0, expected, 0)?;
+    say(out, b"  its pair ", first as u64, second as usize, 0, 1)
 }
 
 // A question about the first instant of present 0 then emit 1 else nothing.
-fn on_fresh(name: &[u8], present: u64, absent: u64, asked: Asked, expected: u64, at: usize) {
+fn on_fresh(
+    out: &impl Print,
+    name: &[u8],
+    present: u64,
+    absent: u64,
+    asked: Asked,
+    expected: u64,
+    at: usize,
+) -> io::Result<()> {
     let good = tested();
     let state = state_of(5, 3, 0, 0);
     told(
+        out,
         name,
         foldheron::reason(&good, &state, present, absent, asked),
         expected,
         at,
-    );
+    )
 }
 
 // On a state as it is.
-fn on_state(name: &[u8], block: &[u8], state: &[u8], expected: u64) {
+fn on_state(
+    out: &impl Print,
+    name: &[u8],
+    block: &[u8],
+    state: &[u8],
+    expected: u64,
+) -> io::Result<()> {
     told(
+        out,
         name,
         foldheron::reason(block, state, 1, 1, Asked::Refused),
         expected,
         0,
-    );
+    )
 }
 
 // BROKEN, STATE and OTHER BLOCK, each before INPUT, which comes here too.
-fn before_the_inputs() {
+fn before_the_inputs(out: &impl Print) -> io::Result<()> {
     let good = tested();
     let state = state_of(5, 3, 0, 0);
-    on_state(b"a bad block ", b"\x0e", &state, 1);
+    on_state(out, b"a bad block ", b"\x0e", &state, 1)?;
     on_state(
+        out,
         b"an old record of 22 bytes ",
         &good,
         b"\x16\x00\x02\x00\x00\x00\x00\x00\x00\x00\x00\x00\x00\x00\x00\x00\x00\x00\x00\x00\x00\x00",
         9,
-    );
+    )?;
     let other = state_of(6, 3, 0, 0);
-    on_state(b"another version ", &good, &other, 17);
-    on_state(b"an input in both sets ", &good, &state, 11);
+    on_state(out, b"another version ", &good, &other, 17)?;
+    on_state(out, b"an input in both sets ", &good, &state, 11)
 }
 
 // CLASH with its pair, before INPUT: both pauses of pause; pause.
-fn clash() {
+fn clash(out: &impl Print) -> io::Result<()> {
     let both = state_of(5, 3, 1, 3);
     on_state(
+        out,
         b"two pauses of a sequence ",
         b"\x0e\x00\x01\x00\x01\x00\x05\x00\x00\x00\x00\x00\x00\x00\x04\x00\x15\x00\x04\x00\x11\x00\x04\x00\x11\x00",
         &both,
         10,
-    );
+    )
 }
 
 // INPUT, before QUESTION.
-fn inputs() {
-    on_fresh(b"no such input present ", 2, 0, Asked::Refused, 11, 0);
-    on_fresh(b"no such input absent ", 0, 2, Asked::Present(9), 11, 0);
+fn inputs(out: &impl Print) -> io::Result<()> {
+    on_fresh(out, b"no such input present ", 2, 0, Asked::Refused, 11, 0)?;
+    on_fresh(
+        out,
+        b"no such input absent ",
+        0,
+        2,
+        Asked::Present(9),
+        11,
+        0,
+    )
 }
 
 // With the input present the instant is answered, and with it not heard refused with 13.
-fn refused() {
-    on_fresh(b"why refused, of one that is ", 0, 0, Asked::Refused, 0, 0);
+fn refused(out: &impl Print) -> io::Result<()> {
     on_fresh(
+        out,
+        b"why refused, of one that is ",
+        0,
+        0,
+        Asked::Refused,
+        0,
+        0,
+    )?;
+    on_fresh(
+        out,
         b"why refused, of one that is answered ",
         1,
         0,
         Asked::Refused,
         16,
         0,
-    );
+    )
 }
 
-fn present() {
-    on_fresh(b"why output 1 is present ", 1, 0, Asked::Present(1), 0, 1);
-    on_fresh(b"  an input ", 1, 0, Asked::Present(0), 16, 0);
-    on_fresh(b"  no signal ", 1, 0, Asked::Present(2), 16, 0);
+fn present(out: &impl Print) -> io::Result<()> {
     on_fresh(
+        out,
+        b"why output 1 is present ",
+        1,
+        0,
+        Asked::Present(1),
+        0,
+        1,
+    )?;
+    on_fresh(out, b"  an input ", 1, 0, Asked::Present(0), 16, 0)?;
+    on_fresh(out, b"  no signal ", 1, 0, Asked::Present(2), 16, 0)?;
+    on_fresh(
+        out,
         b"  an output that is absent ",
         0,
         1,
         Asked::Present(1),
         16,
         0,
-    );
+    )?;
     on_fresh(
+        out,
         b"  of an instant refused with 13 ",
         0,
         0,
         Asked::Present(1),
         16,
         0,
-    );
+    )
 }
 
 // A local: local 0 (emit 0).
-fn of_a_local() {
+fn of_a_local(out: &impl Print) -> io::Result<()> {
     let state = state_of(5, 2, 0, 0);
     let block =
         b"\x0e\x00\x01\x00\x01\x00\x05\x00\x00\x00\x00\x00\x01\x00\x06\x00\x1a\x00\x00\x00\x06\x00\x12\x00\x00\x00";
     told(
+        out,
         b"  a local ",
         foldheron::reason(block, &state, 0, 0, Asked::Present(0)),
         16,
         0,
-    );
+    )
 }
 
-fn not_executed() {
+fn not_executed(out: &impl Print) -> io::Result<()> {
     on_fresh(
+        out,
         b"why emit 1 was not executed ",
         0,
         1,
         Asked::NotExecuted(1),
         0,
         1,
-    );
-    on_fresh(b"  no emit ", 0, 1, Asked::NotExecuted(2), 16, 0);
-    on_fresh(b"  no statement ", 0, 1, Asked::NotExecuted(3), 16, 0);
+    )?;
+    on_fresh(out, b"  no emit ", 0, 1, Asked::NotExecuted(2), 16, 0)?;
+    on_fresh(out, b"  no statement ", 0, 1, Asked::NotExecuted(3), 16, 0)?;
     on_fresh(
+        out,
         b"  one that was executed ",
         1,
         0,
         Asked::NotExecuted(1),
         16,
         0,
-    );
+    )?;
     on_fresh(
+        out,
         b"  of an instant refused with 13 ",
         0,
         0,
         Asked::NotExecuted(1),
         16,
         0,
-    );
+    )
 }
 
-fn main() {
-    before_the_inputs();
-    clash();
-    inputs();
-    refused();
-    present();
-    of_a_local();
-    not_executed();
+fn main(rt: HostRuntime) -> io::Result<()> {
+    before_the_inputs(&rt)?;
+    clash(&rt)?;
+    inputs(&rt)?;
+    refused(&rt)?;
+    present(&rt)?;
+    of_a_local(&rt)?;
+    not_executed(&rt)
 }

@@ -1,31 +1,44 @@
 // Runs each folder of a list, one name to a line in the file `folders`: a heading, and then what the run prints. A folder, or
-// one of its two files, may be missing.
+// one of its two files, may be missing. Where a run fails, standard error says where and why, the others go on, and the status is 1.
 #![tactic(auto)]
 
-ghost use Rattle.std.specs.Prelude.{◌≤◌, length};
-ghost use Rattle.io.specs.Counts.{IsPrefixLen};
+ghost use Rattle.std.specs.Prelude.{◌≤◌, length, IfOk};
 
-use libc::STDOUT_FILENO;
+use anyhow::{Context, Result, ensure};
+use std::alloc::Global;
+use std::rt::Files;
+use std::{fs, io};
 
-fn main() {
-    let mut list = io::buffer();
-    let fd = os::open_read(b"folders");
-    if fd < 0 {
-        os::fail(b"folders");
-        return;
-    }
-    let n = io::read_full(fd, &mut list);
-    libc::close(fd);
-    run_folders(&list[..n]);
+fn main(rt: HostRuntime) -> Result<()> {
+    let mut list = [0u8; 4096];
+    let n = read_list(&rt, &mut list).context("folders")?;
+    let failed = run_folders(&rt, rt.alloc(), &list[..n])?;
+    ensure!(failed == 0, "runs that failed: {failed}");
+    Ok(())
 }
 
-fn run_folders(list: &[u8]) {
+// Puts the list into the buffer, as far as it has room, and answers how many bytes stand there.
+fn read_list(files: &impl Files, list: &mut [u8]) -> io::Result<usize>
+    ensures { IfOk result (λ n. n ≤ length list.new) }
+{
+    let mut file = fs::open(files, "folders")?;
+    reading::read_full(&mut file, list)
+}
+
+// Answers how many runs failed.
+fn run_folders(
+    rt: &(impl Files + Print + Eprint),
+    alloc: Global,
+    list: &[u8],
+) -> io::Result<usize> {
+    let mut failed = 0;
     let mut at = 0;
     while at < list.len() {
         let end = line_end(list, at);
-        run_folder(&list[at..end]);
+        failed += run_folder(rt, alloc, &list[at..end])?;
         at = end + 1;
     }
+    Ok(failed)
 }
 
 // Where the line that holds `from` ends.
@@ -33,48 +46,35 @@ fn line_end(list: &[u8], from: usize) -> usize
     requires { from ≤ length list.now }
     ensures { (from ≤ result) × (result ≤ length list.now) }
 {
-    let mut i = from;
-    while i < list.len() {
+    for i in from..list.len() {
         if list[i] == b'\n' {
-            break;
+            return i;
         }
-        i += 1;
     }
-    i
+    list.len()
 }
 
-fn run_folder(name: &[u8]) {
-    io::write_all(STDOUT_FILENO, b"== ");
-    io::write_all(STDOUT_FILENO, name);
-    io::write_all(STDOUT_FILENO, b"\n");
-    let mut block = io::buffer();
-    let b = path(&mut block, name, b"/block.bin");
-    let mut inputs = io::buffer();
-    let i = path(&mut inputs, name, b"/inputs.bin");
-    running::run(&block[..b], &inputs[..i]);
-}
-
-// The folder's name and the file's. What does not fit is left out, and such a path is too long to be opened.
-fn path(out: &mut [u8], folder: &[u8], file: &[u8]) -> usize
-    ensures { IsPrefixLen result out.new }
+// Answers how many runs failed, 0 or 1.
+fn run_folder(rt: &(impl Files + Print + Eprint), alloc: Global, name: &[u8]) -> io::Result<usize>
+    ensures { IfOk result (λ n. n ≤ 1) }
 {
-    let at = put(out, 0, folder);
-    put(out, at, file)
-}
-
-fn put(out: &mut [u8], at: usize, bytes: &[u8]) -> usize
-    requires { at ≤ length out.old }
-    ensures { IsPrefixLen result out.new }
-{
-    let mut end = at;
-    let mut i = 0;
-    while i < bytes.len() {
-        if out.len() <= end {
-            break;
+    rt.write_all(b"== ")?;
+    rt.write_all(name)?;
+    rt.write_all(b"\n")?;
+    match run_named(rt, alloc, name) {
+        Ok(()) => Ok(0),
+        Err(e) => {
+            eprintln!(rt; "{}: {e}", name.escape_ascii())?;
+            Ok(1)
         }
-        out[end] = bytes[i];
-        end += 1;
-        i += 1;
     }
-    end
+}
+
+// Runs a folder; its name has to be UTF-8, as each path here.
+fn run_named(rt: &(impl Files + Print), alloc: Global, name: &[u8]) -> Result<()> {
+    let folder = str::from_utf8(name)?;
+    let block = format!(in alloc; "{folder}/block.bin")?;
+    let inputs = format!(in alloc; "{folder}/inputs.bin")?;
+    running::run(rt, block.as_str(), inputs.as_str())?;
+    Ok(())
 }

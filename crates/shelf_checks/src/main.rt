@@ -8,18 +8,19 @@ use checking::lines::{bar_after, between, numbers, part, word};
 use checking::pages::{made, tested};
 use checking::{byte, changed, number, say};
 use foldheron::Shelved;
-use libc::STDIN_FILENO;
+use std::io;
 
 // An answer without a part.
-fn said(name: &[u8], given: &[u16], answer: Shelved) {
+fn said(out: &impl Print, name: &[u8], given: &[u16], answer: Shelved) -> io::Result<()> {
     match answer {
-        Shelved::Done => told(name, given, 0, 0),
-        Shelved::TurnedDown(w, place) => told(name, given, number(w), place),
+        Shelved::Done => told(out, name, given, 0, 0),
+        Shelved::TurnedDown(w, place) => told(out, name, given, number(w), place),
     }
 }
 
-fn told(name: &[u8], given: &[u16], came: u64, place: usize) {
+fn told(out: &impl Print, name: &[u8], given: &[u16], came: u64, place: usize) -> io::Result<()> {
     say(
+        out,
         name,
         came,
         place,
@@ -29,56 +30,68 @@ fn told(name: &[u8], given: &[u16], came: u64, place: usize) {
 }
 
 // The number of a fetch and the size of its part; then the place.
-fn fetched(name: &[u8], given: &[u16], shelf: &[u8]) {
+fn fetched(out: &impl Print, name: &[u8], given: &[u16], shelf: &[u8]) -> io::Result<()> {
     let mut came: u16 = 99;
     let mut place: usize = 99;
     let cut = foldheron::fetch(shelf, word(given, 3), word(given, 4), &mut came, &mut place);
-    told(name, given, came as u64, cut.len());
-    say(b"  its place ", 0, place, 0, 0)
+    told(out, name, given, came as u64, cut.len())?;
+    say(out, b"  its place ", 0, place, 0, 0)
 }
 
 // Installs a block under the names from 0 on, so many, and gives back how many went in.
 fn filled(shelf: &mut [u8], block: &[u8], count: u16) -> u16 {
-    let mut name: u16 = 0;
-    while name < count {
+    for name in 0..count {
         match foldheron::install(shelf, 0, name, block) {
-            Shelved::Done => name += 1,
+            Shelved::Done => {}
             Shelved::TurnedDown(_, _) => return name,
         }
     }
-    name
+    count
 }
 
-fn put(name: &[u8], given: &[u16], shelf: &mut [u8], block: &[u8]) {
+fn put(
+    out: &impl Print,
+    name: &[u8],
+    given: &[u16],
+    shelf: &mut [u8],
+    block: &[u8],
+) -> io::Result<()> {
     if word(given, 0) == 3 {
         let count = filled(shelf, block, word(given, 3));
-        told(name, given, count as u64, block.len());
-        return;
+        return told(out, name, given, count as u64, block.len());
     }
     said(
+        out,
         name,
         given,
         foldheron::install(shelf, word(given, 3), word(given, 4), block),
     )
 }
 
-fn put_next(text: &[u8], from: usize, name: &[u8], given: &[u16], shelf: &mut [u8]) -> usize {
+fn put_next(
+    out: &impl Print,
+    text: &[u8],
+    from: usize,
+    name: &[u8],
+    given: &[u16],
+    shelf: &mut [u8],
+) -> io::Result<usize> {
     let mut page = [0u8; 512];
     let block = made(text, from, &mut page);
-    put(name, given, shelf, part(&page, block.count));
-    block.at
+    put(out, name, given, shelf, part(&page, block.count))?;
+    Ok(block.at)
 }
 
-fn case(text: &[u8], from: usize, shelf: &mut [u8]) -> usize {
+fn case(out: &impl Print, text: &[u8], from: usize, shelf: &mut [u8]) -> io::Result<usize> {
     let bar = bar_after(text, from);
     let mut given = [0u16; 16];
     let line = numbers(text, bar + 2, &mut given);
     let name = between(text, from, bar);
     if is_install(word(&given, 0)) {
-        return put_next(text, line.at, name, &given, shelf);
+        return put_next(out, text, line.at, name, &given, shelf);
     }
-    other(name, &given, shelf);
-    line.at
+    other(out, name, &given, shelf)?;
+    Ok(line.at)
 }
 
 fn is_install(what: u16) -> bool {
@@ -89,18 +102,22 @@ fn is_install(what: u16) -> bool {
     }
 }
 
-fn other(name: &[u8], given: &[u16], shelf: &mut [u8]) {
+fn other(out: &impl Print, name: &[u8], given: &[u16], shelf: &mut [u8]) -> io::Result<()> {
     let at = word(given, 3) as usize;
     match word(given, 0) {
-        1 => changed(shelf, at, (word(given, 1) % 256) as u8),
-        2 => told(name, given, byte(shelf, at), 0),
-        10 => fetched(name, given, shelf),
-        _ => withdrawn(name, given, shelf),
+        1 => {
+            changed(shelf, at, (word(given, 1) % 256) as u8);
+            Ok(())
+        }
+        2 => told(out, name, given, byte(shelf, at), 0),
+        10 => fetched(out, name, given, shelf),
+        _ => withdrawn(out, name, given, shelf),
     }
 }
 
-fn withdrawn(name: &[u8], given: &[u16], shelf: &mut [u8]) {
+fn withdrawn(out: &impl Print, name: &[u8], given: &[u16], shelf: &mut [u8]) -> io::Result<()> {
     said(
+        out,
         name,
         given,
         foldheron::withdraw(shelf, word(given, 3), word(given, 4)),
@@ -108,31 +125,43 @@ fn withdrawn(name: &[u8], given: &[u16], shelf: &mut [u8]) {
 }
 
 // Every case of the text.
-fn cases(text: &[u8], shelf: &mut [u8]) {
+fn cases(out: &impl Print, text: &[u8], shelf: &mut [u8]) -> io::Result<()> {
     let mut at: usize = 0;
     while at < text.len() {
-        let next = case(text, at, shelf);
+        let next = case(out, text, at, shelf)?;
         if next <= at {
-            return;
+            return Ok(());
         }
         at = next;
     }
+    Ok(())
 }
 
 // Another number of bytes than 65,536.
-fn sizes(shelf: &mut [u8]) {
+fn sizes(out: &impl Print, shelf: &mut [u8]) -> io::Result<()> {
     let refused = [10u16, 19, 0, 0, 7];
-    fetched(b"a shelf of 65,535 bytes ", &refused, part(shelf, 65535));
-    fetched(b"fetch from no byte ", &refused, part(shelf, 0));
+    fetched(
+        out,
+        b"a shelf of 65,535 bytes ",
+        &refused,
+        part(shelf, 65535),
+    )?;
+    fetched(out, b"fetch from no byte ", &refused, part(shelf, 0))?;
     let mut longer = [0u8; 65537];
     let good = tested();
-    put(b"a shelf of 65,537 bytes ", &refused, &mut longer, &good);
+    put(
+        out,
+        b"a shelf of 65,537 bytes ",
+        &refused,
+        &mut longer,
+        &good,
+    )
 }
 
-fn main() {
-    let mut text = io::large_buffer();
-    let n = io::read_full(STDIN_FILENO, &mut text);
-    let mut shelf = io::large_buffer();
-    sizes(&mut shelf);
-    cases(part(&text, n), &mut shelf);
+fn main(rt: HostRuntime) -> io::Result<()> {
+    let mut text = [0u8; 65536];
+    let n = reading::read_full(&mut rt.stdin(), &mut text)?;
+    let mut shelf = [0u8; 65536];
+    sizes(&rt, &mut shelf)?;
+    cases(&rt, part(&text, n), &mut shelf)
 }

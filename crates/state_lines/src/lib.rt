@@ -1,68 +1,91 @@
 // The lines of the calls on one block, with or without a state and a log.
 #![tactic(auto)]
 
-use printing::{put, put_bytes, put_numbers};
+use printing::{put_bytes, put_numbers};
+use std::io;
 
-pub fn check(block: &[u8]) {
+pub fn check(out: &impl Print, block: &[u8]) -> io::Result<()> {
     let numbers = answers::check(block);
-    put(b"check");
-    put_numbers(&numbers, 8);
+    print!(out; "check")?;
+    put_numbers(out, &numbers, 8)
 }
 
-pub fn fresh(block: &[u8], state: &mut [u8]) {
+pub fn fresh(out: &impl Print, block: &[u8], state: &mut [u8]) -> io::Result<()> {
     let numbers = answers::fresh(block, state);
-    put(b"fresh");
-    put_numbers(&numbers, 2);
-    put_bytes(state);
+    print!(out; "fresh")?;
+    put_numbers(out, &numbers, 2)?;
+    put_bytes(out, state)
 }
 
-pub fn instant(block: &[u8], state: &mut [u8], inputs: u64) {
+pub fn instant(out: &impl Print, block: &[u8], state: &mut [u8], inputs: u64) -> io::Result<()> {
     let numbers = answers::instant(block, state, inputs);
-    put(b"instant");
-    put_numbers(&numbers, 10);
-    put_bytes(state);
+    print!(out; "instant")?;
+    put_numbers(out, &numbers, 10)?;
+    put_bytes(out, state)
 }
 
-pub fn logged(block: &[u8], state: &mut [u8], inputs: u64, log: &mut [u8], end: u64) {
+pub fn logged(
+    out: &impl Print,
+    block: &[u8],
+    state: &mut [u8],
+    inputs: u64,
+    log: &mut [u8],
+    end: u64,
+) -> io::Result<()> {
     let numbers = answers::logged(block, state, inputs, log, end);
-    put(b"logged");
-    put_numbers(&numbers, 11);
-    put_bytes(state);
-    put_bytes(log);
+    print!(out; "logged")?;
+    put_numbers(out, &numbers, 11)?;
+    put_bytes(out, state)?;
+    put_bytes(out, log)
 }
 
-pub fn excerpt(block: &[u8], n: u64) {
+pub fn excerpt(out: &impl Print, block: &[u8], n: u64) -> io::Result<()> {
     let mut numbers = [0u64; 11];
     let part = answers::excerpt(block, n, &mut numbers);
-    put(b"excerpt");
-    put_numbers(&numbers, 2);
-    put_bytes(part);
+    print!(out; "excerpt")?;
+    put_numbers(out, &numbers, 2)?;
+    put_bytes(out, part)
 }
 
-pub fn heard(block: &[u8], state: &mut [u8], present: u64, absent: u64) {
+pub fn heard(
+    out: &impl Print,
+    block: &[u8],
+    state: &mut [u8],
+    present: u64,
+    absent: u64,
+) -> io::Result<()> {
     let numbers = answers::heard(block, state, present, absent);
-    put(b"heard");
-    put_numbers(&numbers, 10);
-    put_bytes(state);
+    print!(out; "heard")?;
+    put_numbers(out, &numbers, 10)?;
+    put_bytes(out, state)
 }
 
 pub fn heard_logged(
+    out: &impl Print,
     block: &[u8],
     state: &mut [u8],
     present: u64,
     absent: u64,
     log: &mut [u8],
     end: u64,
-) {
+) -> io::Result<()> {
     let numbers = answers::heard_logged(block, state, present, absent, log, end);
-    put(b"heardlogged");
-    put_numbers(&numbers, 11);
-    put_bytes(state);
-    put_bytes(log);
+    print!(out; "heardlogged")?;
+    put_numbers(out, &numbers, 11)?;
+    put_bytes(out, state)?;
+    put_bytes(out, log)
 }
 
-pub fn reason(block: &[u8], state: &[u8], present: u64, absent: u64, question: u64, about: u64) {
+pub fn reason(
+    out: &impl Print,
+    block: &[u8],
+    state: &[u8],
+    present: u64,
+    absent: u64,
+    question: u64,
+    about: u64,
+) -> io::Result<()> {
     let numbers = answers::reason(block, state, present, absent, question, about);
-    put(b"reason");
-    put_numbers(&numbers, 5);
+    print!(out; "reason")?;
+    put_numbers(out, &numbers, 5)
 }

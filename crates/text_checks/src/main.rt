@@ -11,23 +11,21 @@ use checking::lines::{bar_after, between, numbers, part, word};
 use checking::pages::made;
 use checking::{number, say};
 use foldheron::Wrote;
-use libc::STDIN_FILENO;
+use std::io;
 
 // The place of the next '#', or the end.
 fn mark_after(text: &[u8], from: usize) -> usize
     ensures { result ≤ length text.now }
 {
-    let mut at = from;
-    while at < text.len() {
-        if text[at] == 35 {
+    for at in from..text.len() {
+        if text[at] == b'#' {
             return at;
         }
-        at += 1;
     }
     text.len()
 }
 
-fn case(text: &[u8], from: usize) -> usize {
+fn case(out: &impl Print, text: &[u8], from: usize) -> io::Result<usize> {
     let bar = bar_after(text, from);
     let mut given = [0u16; 128];
     let line = numbers(text, bar + 2, &mut given);
@@ -35,67 +33,108 @@ fn case(text: &[u8], from: usize) -> usize {
     let block = made(text, line.at, &mut page);
     let end = mark_after(text, block.at);
     ask(
+        out,
         between(text, from, bar),
         &given,
         part(&page, block.count),
         between(text, block.at, end),
-    );
-    end + 2
+    )?;
+    Ok(end + 2)
 }
 
-fn ask(name: &[u8], given: &[u16], block: &[u8], said: &[u8]) {
-    let mut out = [165u8; 4096];
-    ask_front(name, given, block, said, &mut out);
+fn ask(out: &impl Print, name: &[u8], given: &[u16], block: &[u8], said: &[u8]) -> io::Result<()> {
+    let mut lent = [165u8; 4096];
+    ask_front(out, name, given, block, said, &mut lent)?;
     match word(given, 0) {
-        15 => holds(&out, block),
-        _ => holds(&out, said),
+        15 => holds(out, &lent, block),
+        _ => holds(out, &lent, said),
     }
 }
 
-fn holds(out: &[u8], bytes: &[u8]) {
-    say(b"  bytes otherwise ", otherwise(out, bytes), 0, 0, 0)
+fn holds(out: &impl Print, lent: &[u8], bytes: &[u8]) -> io::Result<()> {
+    say(out, b"  bytes otherwise ", otherwise(lent, bytes), 0, 0, 0)
 }
 
-fn ask_front(name: &[u8], given: &[u16], block: &[u8], said: &[u8], out: &mut [u8]) {
+fn ask_front(
+    out: &impl Print,
+    name: &[u8],
+    given: &[u16],
+    block: &[u8],
+    said: &[u8],
+    lent: &mut [u8],
+) -> io::Result<()> {
     let room = word(given, 3) as usize;
-    if room <= out.len() {
-        ask_into(name, given, block, said, &mut out[..room]);
+    if room <= lent.len() {
+        ask_into(out, name, given, block, said, &mut lent[..room])?;
     }
+    Ok(())
 }
 
-fn ask_into(name: &[u8], given: &[u16], block: &[u8], said: &[u8], out: &mut [u8]) {
+fn ask_into(
+    out: &impl Print,
+    name: &[u8],
+    given: &[u16],
+    block: &[u8],
+    said: &[u8],
+    lent: &mut [u8],
+) -> io::Result<()> {
     match word(given, 0) {
-        15 => told(name, given, foldheron::read_text(said, out), block.len()),
-        _ => told(name, given, foldheron::write_text(block, out), said.len()),
+        15 => told(
+            out,
+            name,
+            given,
+            foldheron::read_text(said, lent),
+            block.len(),
+        ),
+        _ => told(
+            out,
+            name,
+            given,
+            foldheron::write_text(block, lent),
+            said.len(),
+        ),
     }
 }
 
-fn told(name: &[u8], given: &[u16], answer: Wrote, size: usize) {
+fn told(
+    out: &impl Print,
+    name: &[u8],
+    given: &[u16],
+    answer: Wrote,
+    size: usize,
+) -> io::Result<()> {
     match answer {
-        Wrote::Bytes(count) => tell(name, given, 0, 0, count, size),
-        Wrote::Refused(why, place) => tell(name, given, number(why), place, 0, size),
+        Wrote::Bytes(count) => tell(out, name, given, 0, 0, count, size),
+        Wrote::Refused(why, place) => tell(out, name, given, number(why), place, 0, size),
     }
 }
 
-fn tell(name: &[u8], given: &[u16], came: u64, place: usize, count: usize, size: usize) {
+fn tell(
+    out: &impl Print,
+    name: &[u8],
+    given: &[u16],
+    came: u64,
+    place: usize,
+    count: usize,
+    size: usize,
+) -> io::Result<()> {
     say(
+        out,
         name,
         came,
         place,
         word(given, 1) as u64,
         word(given, 2) as usize,
-    );
-    say(b"  bytes written ", 0, count, 0, size)
+    )?;
+    say(out, b"  bytes written ", 0, count, 0, size)
 }
 
 // 0 where the bytes are those expected and then 165 alone, else 1.
-fn otherwise(out: &[u8], bytes: &[u8]) -> u64 {
-    let mut i: usize = 0;
-    while i < out.len() {
-        if out[i] != expected(bytes, i) {
+fn otherwise(lent: &[u8], bytes: &[u8]) -> u64 {
+    for i in 0..lent.len() {
+        if lent[i] != expected(bytes, i) {
             return 1;
         }
-        i += 1;
     }
     0
 }
@@ -105,19 +144,20 @@ fn expected(bytes: &[u8], i: usize) -> u8 {
 }
 
 // Every case of the text.
-fn cases(text: &[u8]) {
+fn cases(out: &impl Print, text: &[u8]) -> io::Result<()> {
     let mut at: usize = 0;
     while at < text.len() {
-        let next = case(text, at);
+        let next = case(out, text, at)?;
         if next <= at {
-            return;
+            return Ok(());
         }
         at = next;
     }
+    Ok(())
 }
 
-fn main() {
-    let mut text = io::large_buffer();
-    let n = io::read_full(STDIN_FILENO, &mut text);
-    cases(part(&text, n));
+fn main(rt: HostRuntime) -> io::Result<()> {
+    let mut text = [0u8; 65536];
+    let n = reading::read_full(&mut rt.stdin(), &mut text)?;
+    cases(&rt, part(&text, n))
 }
