@@ -11,27 +11,27 @@ use crate::values::signal_bit;
 
 /// What every such module begins with: the definitions that the rows are written in.
 const HEAD: &str = "-- Random blocks with the answers of the reference evaluator, and with all their coherent reactions. Assumes nothing.
-use mathlib.Core.Path.{_≡_, refl}
+use mathlib.Core.Path.{◌≡◌, refl}
 use mathlib.Core.Bool.{true, false}
-use mathlib.Core.List.{List, [], _∷_, map}
-use Rattle·sets.specs.Numbers.{members, listed, some-to, maxima, down, downs, lowest}
-use Rattle·rules.specs.Statements.{depth, code, nothing, pause, emit, present?_then_else_, suspend_on_, _⨾_, loop, _parallel_, trap, exit, local, pauses}
-use Rattle·rules.specs.Events.{present, absent, unknown, event}
-use Rattle·rules.specs.Instant.{any, active, held, started, resumed}
-use Rattle·rules.specs.MustCan.{gives}
-use Rattle·rules.specs.States.{fresh, finished, phase-of, active-of, step, kept, next}
-use Rattle·rules.specs.Rounds.{marks, round, begin, undecided, all-same, settle, final-of, answer, react}
-use Rattle·rules.specs.Coherence.{execute, world}
-use Rattle·rules.proofs.Cases.{Row, row, active-on, ends, waits, stuck, answers}
-use Rattle·rules.proofs.AllRuns.{assigned, runs, all-outs, outs-agree, reactions}
-use Rattle·rules.proofs.CoherentTable.{LawRow, law, finishes, stays-on, coherent-of}
+use mathlib.Core.List.{List, [], ◌∷◌, map}
+use Rattle.sets.specs.Numbers.{members, listed, some_to, maxima, down, downs, lowest}
+use Rattle.rules.specs.Statements.{depth, code, nothing, pause, emit, present?◌then◌else◌, suspend◌on◌, ◌⨾◌, loop, ◌parallel◌, trap, exit, local, pauses}
+use Rattle.rules.specs.Events.{present, absent, unknown, event}
+use Rattle.rules.specs.Instant.{any, active, held, started, resumed}
+use Rattle.rules.specs.MustCan.{gives}
+use Rattle.rules.specs.States.{fresh, finished, phase_of, active_of, step, kept, next}
+use Rattle.rules.specs.Rounds.{marks, round, begin, undecided, all_same, settle, final_of, answer, react}
+use Rattle.rules.specs.Coherence.{execute, world}
+use Rattle.rules.proofs.Cases.{Row, row, active_on, ends, waits, stuck, answers}
+use Rattle.rules.proofs.AllRuns.{assigned, runs, all_outs, outs_agree, reactions}
+use Rattle.rules.proofs.CoherentTable.{LawRow, law, finishes, stays_on, coherent_of}
 ";
 
 /// All that has to be opened for an answer to be computed.
-const OPENED: &str = "unfolding react listed members pauses phase-of active-of undecided gives kept started resumed any active held code marks round begin all-same settle final-of answer some-to maxima down downs lowest step next event";
+const OPENED: &str = "unfolding react listed members pauses phase_of active_of undecided gives kept started resumed any active held code marks round begin all_same settle final_of answer some_to maxima down downs lowest step next event";
 
 /// All that has to be opened for the coherent reactions to be computed.
-const LAW_OPENED: &str = "unfolding reactions listed members pauses phase-of active-of runs assigned execute all-outs outs-agree started resumed any active held code down step next world";
+const LAW_OPENED: &str = "unfolding reactions listed members pauses phase_of active_of runs assigned execute all_outs outs_agree started resumed any active held code down step next world";
 
 /// How many rows one statement of equality takes.
 const TOGETHER: usize = 20;
@@ -43,14 +43,14 @@ pub fn print_module(count: usize, seed: u64) {
     let rows = some_rows(count, seed);
     print_equal("rows", "Row", "answers", "told", OPENED, &rows.iter().map(in_proof).collect::<Vec<String>>());
     let laws: Vec<String> = rows.iter().chain(&law_rows((count + 3) / 4, seed)).map(law).collect();
-    print_equal("laws", "LawRow", "coherent-of", "coherent", LAW_OPENED, &laws);
+    print_equal("laws", "LawRow", "coherent_of", "coherent", LAW_OPENED, &laws);
 }
 
 /// Prints lists of rows, and of each that what is computed is what the rows tell.
 fn print_equal(name: &str, of: &str, computed: &str, told: &str, opened: &str, rows: &[String]) {
     for (n, lines) in rows.chunks(TOGETHER).enumerate() {
         println!("abbrev {name}{n} : List {of}\n{name}{n} = {} ∷ []\n", lines.join("\n    ∷ "));
-        println!("{name}-agree{n} : map {computed} {name}{n} ≡ map (λ r. r .{told}) {name}{n}\n{opened}\n{name}-agree{n} = refl\n");
+        println!("{name}_agree{n} : map {computed} {name}{n} ≡ map (λ r. r.{told}) {name}{n}\n{opened}\n{name}_agree{n} = refl\n");
     }
 }
 
@@ -73,7 +73,7 @@ fn law(row: &Row) -> String {
 fn lawful(row: &Row, outcome: &Outcome) -> String {
     let outs = list(present(row, outcome).map(|present| present.to_string()));
     match outcome.code {
-        1 => format!("stays-on {outs} {}", list_of(outcome.kept)),
+        1 => format!("stays_on {outs} {}", list_of(outcome.kept)),
         _ => format!("finishes {outs}"),
     }
 }
@@ -88,7 +88,7 @@ fn instant(row: &Row) -> String {
     let state = match row.phase {
         Phase::Fresh => "fresh".to_string(),
         Phase::Finished => "finished".to_string(),
-        Phase::Running(active) => format!("(active-on {})", list_of(active)),
+        Phase::Running(active) => format!("(active_on {})", list_of(active)),
     };
     let mut pauses = 0;
     let mut statement = String::new();
