@@ -9,7 +9,7 @@ use Rattle.rules.specs.States.{State}
 use Rattle.rules.specs.Rounds.{Answer, answered, not_constructive, react}
 use Rattle.rules.specs.Coherence.{world, Coherent}
 use Rattle.rules.specs.Taken.{Wanted, taken}
-use Rattle.rules.specs.Executed.{ran}
+use Rattle.theorems.specs.Executed.{ran}
 use Rattle.rules.specs.Reasons.{Asked}
 use Rattle.theorems.specs.Order.{Choice}
 use Rattle.theorems.specs.Why.{TrueReason}

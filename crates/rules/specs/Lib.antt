@@ -7,5 +7,4 @@ pub mod Rounds
 pub mod Loops
 pub mod Coherence
 pub mod Taken
-pub mod Executed
 pub mod Reasons

@@ -15,7 +15,7 @@ use Rattle.rules.specs.MustCan.{must, Given, choose, gives}
 use Rattle.rules.specs.States.{executed_as, kept_by}
 use Rattle.rules.specs.Coherence.{Locals, assigning, execute, LocalsAgree}
 use Rattle.rules.specs.Taken.{Wanted, wants, wants_test, itself_if, taken_started, taken_resumed}
-use Rattle.rules.specs.Executed.{chosen_by, ran_started, ran_resumed}
+use Rattle.theorems.specs.Executed.{chosen_by, ran_started, ran_resumed}
 use Rattle.theorems.specs.Order.{Below, ◌⊑◌, whole}
 use Rattle.theorems.proofs.Exact.{FirstOrBoth, first_or_both}
 use Rattle.theorems.proofs.Sound.{not_both, giving_whole, executed_below, if_so, sound, code_of_run}

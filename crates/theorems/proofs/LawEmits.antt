@@ -15,7 +15,7 @@ use Rattle.rules.specs.States.{State, fresh, running, finished, Legal, step}
 use Rattle.rules.specs.Rounds.{answered}
 use Rattle.rules.specs.Coherence.{Locals, Execution, run_on, assigning, execute, world, Coherent}
 use Rattle.rules.specs.Taken.{every, emit_of, itself_if, taken}
-use Rattle.rules.specs.Executed.{chosen_by, ran_started, ran_resumed, ran}
+use Rattle.theorems.specs.Executed.{chosen_by, ran_started, ran_resumed, ran}
 use Rattle.theorems.specs.Order.{Choice}
 use Rattle.theorems.specs.Checked.{Checked, StandsIn, itself, in_then, in_else, in_suspend, in_first, in_second, in_loop, in_left, in_right, in_trap, in_local}
 use Rattle.theorems.specs.Reactions.{Some}

@@ -22,7 +22,7 @@ use Rattle.rules.specs.States.{State, fresh, running, finished, step, kept}
 use Rattle.rules.specs.Rounds.{final_of, Answer, answered, not_constructive, code_width, answer, same, outputs_with, react}
 use Rattle.rules.specs.Coherence.{Locals, LocalsAgree, world, Coherent}
 use Rattle.rules.specs.Taken.{Wanted, every, emit_of, undecided_test, taken}
-use Rattle.rules.specs.Executed.{ran}
+use Rattle.theorems.specs.Executed.{ran}
 use Rattle.rules.specs.Reasons.{Asked, refused, is_present, not_executed, is_emit, on_path, cut_off, where_so, reason_from, reason_of}
 use Rattle.rules.proofs.RoundLaws.{same_is}
 use Rattle.rules.proofs.Preorder.{all_counted, some_statement}
