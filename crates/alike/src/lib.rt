@@ -20,7 +20,7 @@ use block::whole::{Checked, Summary, read_block};
 use refusals::Why;
 
 // Two blocks are alike, or different with the size of the run that shows it; or the first or the second block is turned down and where, or the call.
-#[derive(Drop)]
+#[derive(Clone, Copy)]
 pub enum Likeness {
     Alike,
     Different(usize),

@@ -11,7 +11,7 @@ use pairs::rows::{Pair, add, find, pair_at};
 use pairs::steps::one_instant;
 
 // Where the search is: the pair and the set of the next step, how many pairs were found, where the level ends, and whether a pair was left out.
-#[derive(Drop)]
+#[derive(Clone, Copy)]
 pub(crate) struct Search {
     pub at: usize,
     pub set: u8,
@@ -21,7 +21,7 @@ pub(crate) struct Search {
 }
 
 // On with another step, or the end: no difference, or too many pairs.
-#[derive(Drop)]
+#[derive(Clone, Copy)]
 pub(crate) enum Turn {
     On(Search),
     Same,
@@ -29,7 +29,7 @@ pub(crate) enum Turn {
 }
 
 // How the search ends; a difference with the pair and the set that show it.
-#[derive(Drop)]
+#[derive(Clone, Copy)]
 pub(crate) enum Ended {
     Same,
     Over,

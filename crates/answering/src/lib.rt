@@ -7,7 +7,7 @@ use state_lines::{check, excerpt, fresh, heard, heard_logged, instant, logged, r
 use std::io;
 
 // A case: which call it is, how many bytes are lent to it, and its numbers.
-#[derive(Drop)]
+#[derive(Clone, Copy)]
 pub struct Case {
     pub kind: u64,
     pub state: usize,

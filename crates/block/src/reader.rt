@@ -11,7 +11,7 @@ use crate::{Context, Cursor, Declared};
 use tables::kinds::{Wire, shape_of};
 
 // What has been read after a statement, or the number and the place of the first record at fault.
-#[derive(Drop)]
+#[derive(Clone, Copy)]
 pub enum Read {
     Got(Cursor),
     Refused(u16, usize),

@@ -27,7 +27,7 @@ pub struct Summary {
 }
 
 // A good block, or why it is turned down and where.
-#[derive(Drop)]
+#[derive(Clone, Copy)]
 pub enum Checked {
     Good(Summary),
     Refused(Why, usize),

@@ -26,7 +26,7 @@ pub struct Sizes {
 }
 
 // A statement that was read: what had been read after it, its codes, the offset of its lowest endless loop (0 where it has none), and what its conversion takes.
-#[derive(Drop)]
+#[derive(Clone, Copy)]
 pub struct Measured {
     pub after: Cursor,
     pub codes: u32,
@@ -35,14 +35,14 @@ pub struct Measured {
 }
 
 // That, or the number and the place of the first record at fault.
-#[derive(Drop)]
+#[derive(Clone, Copy)]
 pub enum Found {
     Got(Measured),
     Refused(u16, usize),
 }
 
 // What a block declares and how many bytes its conversion has, or why it is turned down and where.
-#[derive(Drop)]
+#[derive(Clone, Copy)]
 pub enum Scanned {
     Good(Declared, usize),
     Refused(Why, usize),

@@ -13,7 +13,7 @@ use tables::kinds::{Depth, Wire, wide_shape_of};
 use writing::put_record;
 
 // A record's kind and operand, the place behind it, and how many statements stand below it.
-#[derive(Drop)]
+#[derive(Clone, Copy)]
 pub struct Head {
     pub kind: u16,
     pub operand: u16,
@@ -29,7 +29,7 @@ pub struct Marks {
 }
 
 // The first byte not read yet, and the place where the next record is written.
-#[derive(Drop)]
+#[derive(Clone, Copy)]
 pub struct Spot {
     pub at: usize,
     pub to: usize,

@@ -10,7 +10,7 @@ use tables::kinds::wide;
 use writing::put_record;
 
 // Where the next record is written, and the next local's number.
-#[derive(Drop)]
+#[derive(Clone, Copy)]
 pub struct Spot {
     pub to: usize,
     pub next: u16,

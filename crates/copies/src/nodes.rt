@@ -7,7 +7,7 @@ ghost use Rattle.copies.specs.Nodes.{Lies, Somewhere, Parts};
 use tables::loops::second_at;
 
 // No child, one child, a loop's child that is copied twice, or two children, each by its number.
-#[derive(Drop)]
+#[derive(Clone, Copy)]
 pub enum Node {
     Leaf,
     Over(usize),

@@ -31,7 +31,7 @@ pub enum Phase {
 }
 
 // Where the rounds end: the outputs' marks, and how many rounds there were.
-#[derive(Drop)]
+#[derive(Clone, Copy)]
 pub struct Ended {
     pub marks: Heard,
     pub rounds: u16,

@@ -42,14 +42,14 @@ pub use write_text::write_text;
 pub use writing::Wrote;
 
 // A fresh state was written, or why it was not and where.
-#[derive(Drop)]
+#[derive(Clone, Copy)]
 pub enum Begun {
     Fresh,
     TurnedDown(Why, usize),
 }
 
 // Where a part of a block lies, by its offset and size; or the number and place of a refusal, with no size.
-#[derive(Drop)]
+#[derive(Clone, Copy)]
 pub struct Part {
     pub number: u16,
     pub place: usize,
@@ -58,7 +58,7 @@ pub struct Part {
 }
 
 // The same as an instant, and the log's new end beside it, 0 where nothing was logged.
-#[derive(Drop)]
+#[derive(Clone, Copy)]
 pub struct Logged {
     pub answer: Instant,
     pub end: usize,

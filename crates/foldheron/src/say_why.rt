@@ -7,7 +7,7 @@ use reasons::lowest::Named;
 use refusals::Why;
 
 // The statement that is the reason, a clash with its pair, or why none is named and where.
-#[derive(Drop)]
+#[derive(Clone, Copy)]
 pub enum Reason {
     Statement(usize),
     Clash(u16, u16),

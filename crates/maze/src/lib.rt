@@ -9,7 +9,7 @@ pub mod ways;
 use refusals::Why;
 
 // The signals whose rooms win, lose and draw, as bits by signal number.
-#[derive(Drop)]
+#[derive(Clone, Copy)]
 pub struct Rooms {
     pub winning: u64,
     pub losing: u64,
@@ -17,14 +17,14 @@ pub struct Rooms {
 }
 
 // The maze's rooms, or why the call is turned down and where.
-#[derive(Drop)]
+#[derive(Clone, Copy)]
 pub enum Maze {
     Rooms(Rooms),
     Refused(Why, usize),
 }
 
 // A room: a signal's; a part's, by its statement's number, as a signal's room sees it; a test's gate, by the test's number, as a signal's room sees it; the dungeon.
-#[derive(Drop)]
+#[derive(Clone, Copy)]
 pub enum Room {
     Signal(usize),
     Part(usize, usize),
@@ -33,7 +33,7 @@ pub enum Room {
 }
 
 // A corridor and where it leads; none of that number; no such room; or why the call is turned down and where.
-#[derive(Drop)]
+#[derive(Clone, Copy)]
 pub enum Corridor {
     Visible(Room),
     Secret(Room),

@@ -15,7 +15,7 @@ use crate::rows::Pair;
 use evaluate::rounds::{Phase, Reacted, all_heard, react};
 
 // Whether both are told alike, and the pair that they go on from.
-#[derive(Drop)]
+#[derive(Clone, Copy)]
 pub struct Step {
     pub alike: bool,
     pub next: Pair,

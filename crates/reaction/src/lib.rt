@@ -34,7 +34,7 @@ pub struct Reaction {
 }
 
 // An instant that is not constructive: the outputs known present and absent, how many are undecided, the rounds.
-#[derive(Drop)]
+#[derive(Clone, Copy)]
 pub struct Doubt {
     pub present: u64,
     pub absent: u64,
@@ -43,7 +43,7 @@ pub struct Doubt {
 }
 
 // What an instant comes to: the rules' reaction, a clash with its pair, or why it is turned down and where.
-#[derive(Drop)]
+#[derive(Clone, Copy)]
 pub enum Instant {
     Answered(Reaction),
     NotConstructive(Doubt),
@@ -59,7 +59,7 @@ pub enum Given {
 }
 
 // What the tests before the rules come to: one of them turns the instant down, or all are passed, with the block and the phase that were found.
-#[derive(Drop)]
+#[derive(Clone, Copy)]
 pub enum Met {
     Refused(Why, usize),
     Clash(u16, u16),
@@ -67,14 +67,14 @@ pub enum Met {
 }
 
 // The same, and beside it the active pauses of the state (none where it was not found).
-#[derive(Drop)]
+#[derive(Clone, Copy)]
 pub struct Grounds {
     pub met: Met,
     pub active: [u64; 2],
 }
 
 // The answer, and beside it the phase and the pauses of the next state and what was heard of the inputs (0 and none where there is none).
-#[derive(Drop)]
+#[derive(Clone, Copy)]
 pub struct Outcome {
     pub answer: Instant,
     pub phase: u16,

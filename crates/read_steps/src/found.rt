@@ -7,7 +7,7 @@ use crate::levels::{Level, level_at};
 use text::tokens::{same_word, token_at};
 
 // A signal with its number, a trap with the depth of an exit of it, or neither.
-#[derive(Drop)]
+#[derive(Clone, Copy)]
 pub enum Found {
     Nothing,
     Signal(usize),
@@ -48,7 +48,7 @@ fn inside(text: &[u8], l: Level, name: usize, f: Found) -> Found
 }
 
 // How many names of the header were passed, and the last of them that is the one looked for, as its number and one more; 0 for none.
-#[derive(Drop)]
+#[derive(Clone, Copy)]
 struct Passed {
     count: usize,
     found: usize,

@@ -6,7 +6,7 @@ use crate::found::Found;
 
 // A fault; another state; a record at the end; a record and a new level, of a kind, with the next state; one bracket; the innermost level
 // closed; a sequence, a parallel, the second part of a present, and the signal of a suspend.
-#[derive(Drop)]
+#[derive(Clone, Copy)]
 pub enum Move {
     Fault,
     To(u16),

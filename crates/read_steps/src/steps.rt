@@ -22,7 +22,7 @@ pub struct Stage {
 }
 
 // The state after a step: 0 goes on, 1 is a fault, 2 has over 1,024 places open.
-#[derive(Drop)]
+#[derive(Clone, Copy)]
 pub struct Stepped {
     pub answer: u16,
     pub stage: Stage,

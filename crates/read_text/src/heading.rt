@@ -22,7 +22,7 @@ pub struct Reader {
 }
 
 // The reader after a token: 0 goes on, 1 is a fault, 2 has over 1,024 places open.
-#[derive(Drop)]
+#[derive(Clone, Copy)]
 pub struct Taken {
     pub answer: u16,
     pub reader: Reader,

@@ -12,7 +12,7 @@ use read_steps::steps::Stage;
 use text::tokens::{Token, token_at};
 
 // A whole text read: 0 for a block, 1 for a fault at a place, 2 for over 1,024 places open; and the reader at its end.
-#[derive(Drop)]
+#[derive(Clone, Copy)]
 pub struct Whole {
     pub answer: u16,
     pub place: usize,

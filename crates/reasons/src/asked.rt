@@ -23,7 +23,7 @@ use tables::kinds::wide;
 use words::events::Heard;
 
 // Why the instant was refused, why this signal is present, why this statement was not executed.
-#[derive(Drop)]
+#[derive(Clone, Copy)]
 pub enum Asked {
     Refused,
     Present(usize),

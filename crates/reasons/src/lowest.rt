@@ -4,7 +4,7 @@ ghost use Rattle.sets.specs.Numbers.{lowest};
 ghost use Rattle.reasons.specs.Taking.{named_of, marked_in, passes, cut_rows};
 
 // A statement's number, or none.
-#[derive(Drop)]
+#[derive(Clone, Copy)]
 pub enum Named {
     Statement(usize),
     Nothing,

@@ -12,7 +12,7 @@ use crate::bits::{bit_beyond, has};
 use tables::loops::second_at;
 
 // The first bad pair, or none.
-#[derive(Drop)]
+#[derive(Clone, Copy)]
 pub enum Clash {
     None,
     Pair(u16, u16),

@@ -14,7 +14,7 @@ const SIZE: usize = 26;
 const KIND: u64 = 2;
 
 // A state by its phase's number, 0 fresh, 1 running, 2 finished, and its active pauses; phase 3 is no state.
-#[derive(Drop)]
+#[derive(Clone, Copy)]
 pub struct Held {
     pub phase: u16,
     pub active: [u64; 2],

@@ -5,7 +5,7 @@ ghost use Rattle.std.specs.Prelude.{◌≡◌};
 ghost use Rattle.refusals.specs.Refusals.{number, why_of};
 
 // Why a call is turned down.
-#[derive(Drop)]
+#[derive(Clone, Copy)]
 pub enum Why {
     Broken,
     Kind,

@@ -23,14 +23,14 @@ use records::parts::cut;
 use refusals::Why;
 
 // The call was done, or why it was turned down and where, with every lent byte as it was.
-#[derive(Drop)]
+#[derive(Clone, Copy)]
 pub enum Shelved {
     Done,
     TurnedDown(Why, usize),
 }
 
 // A block on the shelf by its offset and size; or the number of a refusal, with no size.
-#[derive(Drop)]
+#[derive(Clone, Copy)]
 struct Found {
     number: u16,
     offset: usize,

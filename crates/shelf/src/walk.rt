@@ -12,7 +12,7 @@ use block::whole::{Checked, read_block};
 use records::numerals::number_at;
 
 // How many bytes a shelf's entries use; or that the bytes are no shelf's.
-#[derive(Drop)]
+#[derive(Clone, Copy)]
 pub enum Walked {
     InUse(usize),
     NoShelf,

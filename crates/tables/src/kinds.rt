@@ -28,7 +28,7 @@ pub fn wide(x: u16) -> usize
 }
 
 // What the records of a kind have: their length, how many operands, and how many children the statement has.
-#[derive(Drop)]
+#[derive(Clone, Copy)]
 pub struct Shape {
     pub length: u16,
     pub operands: u16,
@@ -36,7 +36,7 @@ pub struct Shape {
 }
 
 // The shape of an allowed kind, or that there is no such kind.
-#[derive(Drop)]
+#[derive(Clone, Copy)]
 pub enum Wire {
     Allowed(Shape),
     Unknown,

@@ -10,7 +10,7 @@ use tables::codes::code_bit;
 use tables::kinds::Code;
 
 // A statement's must codes, and the pauses that it keeps.
-#[derive(Drop)]
+#[derive(Clone, Copy)]
 pub struct Kept {
     pub codes: u32,
     pub pauses: [u64; 2],

@@ -14,7 +14,7 @@ use refusals::Why;
 use tables::kinds::{Wire, shape_of};
 
 // So many bytes were written, or why not and where, with every lent byte as it was.
-#[derive(Drop)]
+#[derive(Clone, Copy)]
 pub enum Wrote {
     Bytes(usize),
     Refused(Why, usize),
