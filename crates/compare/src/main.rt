@@ -5,6 +5,6 @@
 use anyhow::Result;
 
 fn main(rt: HostRuntime) -> Result<()> {
-    comparing::answer(&rt, "calls.bin")?;
+    comparing::answer(&rt, b"calls.bin")?;
     Ok(())
 }

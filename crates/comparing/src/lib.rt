@@ -1,8 +1,8 @@
 // Answers the cases of a file, each with a line on an output. reference/README.md says how cases and lines are written.
 //
 // Memory is constant: one case is held at a time, with a block and a shelf or second block of at most 131,072 bytes each, a state of at most 64 and a log of at
-// most 512. A file that ends within a case, or holds a longer one, gets the line `cut`, and nothing after that is read. A file that cannot be opened or read, and
-// output that cannot be written, end the answers with an error that says which and why.
+// most 512. A file that ends within a case, or holds a longer one, gets the line `cut`, and nothing after that is read. A file that cannot be opened or read, as one whose
+// name is not UTF-8, and output that cannot be written, end the answers with an error that says which and why.
 #![tactic(auto)]
 
 mod head;
@@ -10,9 +10,9 @@ mod head;
 ghost use Rattle.std.specs.Prelude.{◌≡◌, length};
 
 use answering::Case;
+use std::io;
 use std::io::Read;
 use std::rt::Files;
-use std::{fs, io};
 use thiserror::Error;
 
 // What could not be opened, read or written, and why.
@@ -25,8 +25,8 @@ pub enum Failure {
 }
 
 // Answers every case of a file.
-pub fn answer(rt: &(impl Files + Print), path: &str) -> Result<(), Failure> {
-    let mut cases = fs::open(rt, path).map_err(Failure::Cases)?;
+pub fn answer(rt: &(impl Files + Print), path: &[u8]) -> Result<(), Failure> {
+    let mut cases = reading::open(rt, path).map_err(Failure::Cases)?;
     answer_all(rt, &mut cases)
 }
 

@@ -5,6 +5,6 @@
 use anyhow::Result;
 
 fn main(rt: HostRuntime) -> Result<()> {
-    running::run(&rt, "block.bin", "inputs.bin")?;
+    running::run(&rt, b"block.bin", b"inputs.bin")?;
     Ok(())
 }

@@ -5,14 +5,14 @@
 ghost use Rattle.std.specs.Prelude.{◌≤◌, length, IfOk};
 
 use anyhow::{Context, Result, ensure};
-use std::alloc::Global;
+use running::Failure;
 use std::rt::Files;
 use std::{fs, io};
 
 fn main(rt: HostRuntime) -> Result<()> {
     let mut list = [0u8; 4096];
     let n = read_list(&rt, &mut list).context("folders")?;
-    let failed = run_folders(&rt, rt.alloc(), &list[..n])?;
+    let failed = run_folders(&rt, &list[..n])?;
     ensure!(failed == 0, "runs that failed: {failed}");
     Ok(())
 }
@@ -26,16 +26,12 @@ fn read_list(files: &impl Files, list: &mut [u8]) -> io::Result<usize>
 }
 
 // Answers how many runs failed.
-fn run_folders(
-    rt: &(impl Files + Print + Eprint),
-    alloc: Global,
-    list: &[u8],
-) -> io::Result<usize> {
+fn run_folders(rt: &(impl Files + Print + Eprint), list: &[u8]) -> io::Result<usize> {
     let mut failed = 0;
     let mut at = 0;
     while at < list.len() {
         let end = line_end(list, at);
-        failed += run_folder(rt, alloc, &list[at..end])?;
+        failed += run_folder(rt, &list[at..end])?;
         at = end + 1;
     }
     Ok(failed)
@@ -55,13 +51,13 @@ fn line_end(list: &[u8], from: usize) -> usize
 }
 
 // Answers how many runs failed, 0 or 1.
-fn run_folder(rt: &(impl Files + Print + Eprint), alloc: Global, name: &[u8]) -> io::Result<usize>
+fn run_folder(rt: &(impl Files + Print + Eprint), name: &[u8]) -> io::Result<usize>
     ensures { IfOk result (λ n. n ≤ 1) }
 {
     rt.write_all(b"== ")?;
     rt.write_all(name)?;
     rt.write_all(b"\n")?;
-    match run_named(rt, alloc, name) {
+    match run_named(rt, name) {
         Ok(()) => Ok(0),
         Err(e) => {
             eprintln!(rt; "{}: {e}", name.escape_ascii())?;
@@ -71,10 +67,29 @@ fn run_folder(rt: &(impl Files + Print + Eprint), alloc: Global, name: &[u8]) ->
 }
 
 // Runs a folder; its name has to be UTF-8, as each path here.
-fn run_named(rt: &(impl Files + Print), alloc: Global, name: &[u8]) -> Result<()> {
-    let folder = str::from_utf8(name)?;
-    let block = format!(in alloc; "{folder}/block.bin")?;
-    let inputs = format!(in alloc; "{folder}/inputs.bin")?;
-    running::run(rt, block.as_str(), inputs.as_str())?;
-    Ok(())
+fn run_named(rt: &(impl Files + Print), name: &[u8]) -> Result<(), Failure> {
+    let mut block = [0u8; 4096];
+    let b = path(&mut block, name, b"/block.bin");
+    let mut inputs = [0u8; 4096];
+    let i = path(&mut inputs, name, b"/inputs.bin");
+    running::run(rt, &block[..b], &inputs[..i])
+}
+
+// The folder's name and the file's. What does not fit is left out, and such a path is too long to be opened.
+fn path(out: &mut [u8], folder: &[u8], file: &[u8]) -> usize
+    ensures { result ≤ length out.new }
+{
+    let at = put(out, 0, folder);
+    put(out, at, file)
+}
+
+// Puts the bytes at `at`, as far as there is room, and answers where they end.
+fn put(out: &mut [u8], at: usize, bytes: &[u8]) -> usize
+    requires { at ≤ length out.old }
+    ensures { result ≤ length out.new }
+{
+    let count = bytes.len().min(out.len() - at);
+    let end = at + count;
+    out[at..end].copy_from_slice(&bytes[..count]);
+    end
 }
