@@ -2,7 +2,7 @@
 use foldheron::{Code, Instant, number_of};
 
 // What a run begins with.
-#[derive(Drop)]
+#[derive(Clone, Copy)]
 pub enum Begun {
     Ready,
     // The block is turned down: the number and the place.
@@ -11,7 +11,7 @@ pub enum Begun {
 
 // The numbers of one line but for the first, in their order: refusal or 0, code, present outputs, active pauses (of a 13,
 // undecided outputs), rounds.
-#[derive(Drop)]
+#[derive(Clone, Copy)]
 pub struct Line {
     pub refusal: u16,
     pub code: Code,
