@@ -1,5 +1,5 @@
 -- No two different answers, or lent bytes afterwards, meet the contract of `alike`. Assumes nothing.
-use mathlib.Core.Path.{◌≡◌, refl, sym, ap, ap₂, ◌∙◌, subst}
+use mathlib.Core.Path.{◌≡◌, refl, sym, ap, ◌∙◌, subst}
 use mathlib.Core.Bool.{Bool, true, false, cond, ◌&&◌}
 use mathlib.Core.List.{List, ◌++◌}
 use Prim.Native.Nat.{ℕ, ◌^◌, ◌≤◌}
@@ -15,8 +15,8 @@ use Rattle.pairs.specs.Runs.{Run, size, bytes_of, Comparison}
 use Rattle.pairs.specs.Blocks.{comparison}
 use Rattle.alike.specs.Ends.{most}
 use Rattle.alike.specs.Calls.{Front, first_stopped, second_stopped, stopped, ready, try_both, try_second, try_first, front, Compared, Owed}
-use Rattle.alike.specs.declared.Likeness.{Likeness}
-use Rattle.alike.specs.declared.Likeness.TheVariants as told
+use Rattle.std.specs.Prelude.{Option, None, Some, Result, Ok, Err}
+use Rattle.alike.specs.declared.NotCompared.{NotCompared}
 use Rattle.alike.proofs.Order.{one_first}
 
 -- which front it is, and its first block
@@ -52,31 +52,23 @@ module _ (g h : Good) where
 
 -- Two blocks compared have one answer.
 module _ (m : Comparison) (few : m.sets ≤ 256) (run x y : List ℕ) where
-  one_compared : (a b : Likeness) → Compared m a run x → Compared m b run y → (a ≡ b) × (x ≡ y)
+  one_compared : (a b : Result (Option ℕ) NotCompared) → Compared m a run x → Compared m b run y → (a ≡ b) × (x ≡ y)
   unfolding Compared
-  one_compared told.Alike told.Alike c d = (refl, c.2 ∙ sym d.2)
-  one_compared told.Alike (told.Different n) c d = absurd (of_false (c.0.none_shows d.0 d.1.is_input) d.1.is_shown)
-  one_compared told.Alike (told.First w at) c d = absurd d
-  one_compared told.Alike (told.Second w at) c d = absurd d
-  one_compared told.Alike (told.Refused w) c d = absurd (c.1 d.1)
-  one_compared (told.Different n) told.Alike c d = absurd (of_false (d.0.none_shows c.0 c.1.is_input) c.1.is_shown)
-  one_compared (told.Different n) (told.Different k) c d =
+  one_compared (Ok None) (Ok None) c d = (refl, c.2 ∙ sym d.2)
+  one_compared (Ok None) (Ok (Some n)) c d = absurd (of_false (c.0.none_shows d.0 d.1.is_input) d.1.is_shown)
+  one_compared (Ok None) (Err e) c d = absurd (c.1 d.1)
+  one_compared (Ok (Some n)) (Ok None) c d = absurd (of_false (d.0.none_shows c.0 c.1.is_input) c.1.is_shown)
+  one_compared (Ok (Some n)) (Ok (Some k)) c d =
       let e : c.0 ≡ d.0 = one_first m few c.0 d.0 c.1 d.1 in (
-        ap told.Different (c.3 ∙ ap size e ∙ sym d.3),
+        ap (λ (i : ℕ). Ok (Some i)) (c.3 ∙ ap size e ∙ sym d.3),
         c.4 ∙ ap (λ (w : Run). bytes_of w ++ drop (size w) run) e ∙ sym d.4,
       )
-  one_compared (told.Different n) (told.First w at) c d = absurd d
-  one_compared (told.Different n) (told.Second w at) c d = absurd d
-  one_compared (told.Different n) (told.Refused w) c d = absurd (c.2 d.1)
-  one_compared (told.First w at) b c d = absurd c
-  one_compared (told.Second w at) b c d = absurd c
-  one_compared (told.Refused w) told.Alike c d = absurd (d.1 c.1)
-  one_compared (told.Refused w) (told.Different n) c d = absurd (d.2 c.1)
-  one_compared (told.Refused w) (told.First v at) c d = absurd d
-  one_compared (told.Refused w) (told.Second v at) c d = absurd d
-  one_compared (told.Refused w) (told.Refused v) c d = (ap told.Refused (c.0 ∙ sym d.0), c.2 ∙ sym d.2)
+  one_compared (Ok (Some n)) (Err e) c d = absurd (c.2 d.1)
+  one_compared (Err e) (Ok None) c d = absurd (d.1 c.1)
+  one_compared (Err e) (Ok (Some n)) c d = absurd (d.2 c.1)
+  one_compared (Err e) (Err f) c d = (ap Err (c.0 ∙ sym d.0), c.2 ∙ sym d.2)
 
-one_owed : (f : Front) → ((g h : Good) → f ≡ ready g h → g.header.inputs ≤ 6) → (a b : Likeness) (run x y : List ℕ) → Owed f a run x → Owed f b run y → (a ≡ b) × (x ≡ y)
+one_owed : (f : Front) → ((g h : Good) → f ≡ ready g h → g.header.inputs ≤ 6) → (a b : Result (Option ℕ) NotCompared) (run x y : List ℕ) → Owed f a run x → Owed f b run y → (a ≡ b) × (x ≡ y)
 unfolding Owed
 one_owed (first_stopped n at) few a b run x y c d = (c.0 ∙ sym d.0, c.1 ∙ sym d.1)
 one_owed (second_stopped n at) few a b run x y c d = (c.0 ∙ sym d.0, c.1 ∙ sym d.1)
@@ -87,7 +79,7 @@ one_owed (ready g h) few a b run x y c d =
     one_compared (comparison (block_of g) (block_of h)) (omega (arith, e)) run x y a b c d
 
 -- The contract settles the answer and every lent byte.
-pub one_likeness : (first second run : List ℕ) (a b : Likeness) (x y : List ℕ)
+pub one_likeness : (first second run : List ℕ) (a b : Result (Option ℕ) NotCompared) (x y : List ℕ)
     → Owed (front first second run) a run x → Owed (front first second run) b run y → (a ≡ b) × (x ≡ y)
 one_likeness first second run a b x y c d =
     one_owed (front first second run) (λ g h. ready_few g h (reading first) (reading second) (length run)) a b run x y c d

@@ -3,14 +3,14 @@
 use mathlib.Core.Path.{◌≡◌, refl, sym, ap, ap₂, ◌∙◌, subst}
 use mathlib.Core.Logic.{◌⊎◌, inl, inr}
 use mathlib.Core.Bool.{Bool, true, false, cond, ◌||◌, true≢false}
-use Prim.Native.Nat.{ℕ, zero, suc, ◌+◌, ◌*◌, ◌≤◌, ◌<◌}
+use Prim.Native.Nat.{ℕ, suc, ◌+◌, ◌*◌, ◌≤◌, ◌<◌}
 use native.Mathlib.Omega.{arith}
 use native.Mathlib.Decide.{dec_le, dec_lt}
 use lib.Dec.{T, eqb}
 use borrow.Author.Tests.{eq-eqb, ne_eqb}
 use Rattle.sets.proofs.Members.{of_true, of_false, or_right}
 use Rattle.pairs.specs.Runs.{Run, start, ◌▸◌, size, Comparison, Input, reach, shows, First, Short, Over, Same}
-use Rattle.alike.proofs.Order.{rank, rank_start, rank_more, rank_some, shorter_first, size_rank, first_of}
+use Rattle.alike.proofs.Order.{rank, rank_more, rank_some, size_rank, first_of}
 use Rattle.alike.proofs.Pigeons.{no_places}
 
 size_more : (r : Run) (s : ℕ) → size (r ▸ s) ≡ suc (size r)

@@ -1,13 +1,13 @@
 -- The call on the bytes of two blocks and the lent bytes of a run: the tests in their order, the answer, and every lent byte. Assumes nothing.
-use Rattle.std.specs.Prelude.{◌≡◌, cond, ◌&&◌, List, ◌++◌, ℕ, eqb, ltb, length, drop}
+use Rattle.std.specs.Prelude.{◌≡◌, cond, ◌&&◌, List, ◌++◌, ℕ, Option, None, Some, Result, Ok, Err, eqb, ltb, length, drop}
 use Rattle.refusals.specs.Refusals.{why_of}
 use Rattle.block.specs.Format.{Good, Reading, good, turned_down, reading}
 use Rattle.reaction.specs.Instants.{ROOM, block_of}
 use Rattle.pairs.specs.Runs.{Run, size, bytes_of, Comparison, First, Over, Same}
 use Rattle.pairs.specs.Blocks.{comparison}
 use Rattle.alike.specs.Ends.{most}
-use Rattle.alike.specs.declared.Likeness.{Likeness}
-use Rattle.alike.specs.declared.Likeness.TheVariants as told
+use Rattle.alike.specs.declared.NotCompared.{NotCompared}
+use Rattle.alike.specs.declared.NotCompared.TheVariants.{First as TheFirst, Second as TheSecond, Both}
 
 abbrev pub INTERFACE : ℕ
 INTERFACE = 23
@@ -47,17 +47,15 @@ abbrev pub front : List ℕ → List ℕ → List ℕ → Front
 front first second run = try_first (reading first) (reading second) (length run)
 
 -- Two blocks compared: alike, or different with the first of the shortest runs written in front of the lent bytes, or over 1,024 pairs.
-unfoldable pub Compared : Comparison → Likeness → List ℕ → List ℕ → Type 0
-Compared m told.Alike before after = Same m × (Over most m → ⊥) × (after ≡ before)
-Compared m (told.Different n) before after =
+unfoldable pub Compared : Comparison → Result (Option ℕ) NotCompared → List ℕ → List ℕ → Type 0
+Compared m (Ok None) before after = Same m × (Over most m → ⊥) × (after ≡ before)
+Compared m (Ok (Some n)) before after =
     (w : Run) × First m w × (Over most m → ⊥) × (n ≡ size w) × (after ≡ bytes_of w ++ drop (size w) before)
-Compared m (told.First w at) before after = ⊥
-Compared m (told.Second w at) before after = ⊥
-Compared m (told.Refused w) before after = (w ≡ why_of PAIRS) × Over most m × (after ≡ before)
+Compared m (Err e) before after = (e ≡ Both (why_of PAIRS)) × Over most m × (after ≡ before)
 
 -- The answer and the lent bytes afterwards: a refusal leaves every byte.
-unfoldable pub Owed : Front → Likeness → List ℕ → List ℕ → Type 0
-Owed (first_stopped n at) a before after = (a ≡ told.First (why_of n) at) × (after ≡ before)
-Owed (second_stopped n at) a before after = (a ≡ told.Second (why_of n) at) × (after ≡ before)
-Owed (stopped n) a before after = (a ≡ told.Refused (why_of n)) × (after ≡ before)
+unfoldable pub Owed : Front → Result (Option ℕ) NotCompared → List ℕ → List ℕ → Type 0
+Owed (first_stopped n at) a before after = (a ≡ Err (TheFirst (record { why = why_of n; place = at }))) × (after ≡ before)
+Owed (second_stopped n at) a before after = (a ≡ Err (TheSecond (record { why = why_of n; place = at }))) × (after ≡ before)
+Owed (stopped n) a before after = (a ≡ Err (Both (why_of n))) × (after ≡ before)
 Owed (ready g h) a before after = Compared (comparison (block_of g) (block_of h)) a before after

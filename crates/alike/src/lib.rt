@@ -7,150 +7,82 @@ mod written;
 
 ghost use Rattle.std.specs.Prelude.{◌≡◌, ◌+◌, ◌≤◌, length};
 ghost use Rattle.rules.specs.Statements.{Stmt};
-ghost use Rattle.tables.specs.Table.{table_of};
-ghost use Rattle.block.specs.Format.{Good, reading};
+ghost use Rattle.block.specs.Format.{Good};
 ghost use Rattle.forms.specs.Forms.{At, Placed};
 ghost use Rattle.reaction.specs.Outcomes.{Opened};
 ghost use Rattle.pairs.specs.Blocks.{comparison};
-ghost use Rattle.alike.specs.Calls.{try_both, try_second, front, Compared, Owed};
+ghost use Rattle.alike.specs.Calls.{try_both, front, Compared, Owed};
 
-use crate::search::{Ended, search_all};
+use crate::search::{Link, search_all};
 use crate::written::write_run;
-use block::whole::{Checked, Summary, read_block};
-use refusals::Why;
+use block::whole::{Summary, read_block};
+use refusals::{Refused, Why};
+use tables::Table;
 
-// Two blocks are alike, or different with the size of the run that shows it; or the first or the second block is turned down and where, or the call.
-#[derive(Clone, Copy)]
-pub enum Likeness {
-    Alike,
-    Different(usize),
-    First(Why, usize),
-    Second(Why, usize),
-    Refused(Why),
+// Why two blocks are not compared: the first or the second is turned down, or the call.
+#[derive(Clone, Copy, Debug, PartialEq, Eq)]
+pub enum NotCompared {
+    First(Refused),
+    Second(Refused),
+    Both(Why),
 }
 
 // The search, and its run written: PAIRS is the one refusal left.
 fn compared(
-    kinds: &[u16; 512],
-    operands: &[u16; 512],
-    sizes: &[u16; 512],
-    kinds2: &[u16; 512],
-    operands2: &[u16; 512],
-    sizes2: &[u16; 512],
+    table: &Table,
+    other: &Table,
     inputs: u16,
     outputs: u16,
     run: &mut [u8],
-) -> Likeness
-    requires inputs_bound { (inputs ≤ 6) × (inputs + outputs ≤ 64) × Placed (table_of kinds.now operands.now sizes.now) 0 × Placed (table_of kinds2.now operands2.now sizes2.now) 0 }
+) -> Result<Option<usize>, NotCompared>
+    requires inputs_bound { (inputs ≤ 6) × (inputs + outputs ≤ 64) × Placed table.now 0 × Placed other.now 0 }
     requires in_bounds { 1024 ≤ length run.old }
-    ensures { (t u : Stmt) → At (table_of kinds.now operands.now sizes.now) 0 t
-        → At (table_of kinds2.now operands2.now sizes2.now) 0 u
+    ensures { (t u : Stmt) → At table.now 0 t
+        → At other.now 0 u
         → Compared (comparison (record { inputs = inputs; outputs = outputs; body = t }) (record { inputs = inputs; outputs = outputs; body = u }))
         result run.old run.new }
 {
-    let mut lows = [0u64; 1024];
-    let mut highs = [0u64; 1024];
-    let mut lows2 = [0u64; 1024];
-    let mut highs2 = [0u64; 1024];
-    let mut phases = [0u8; 1024];
-    let mut parents = [0u16; 1024];
-    let mut sets = [0u8; 1024];
-    let ended = search_all(
-        kinds,
-        operands,
-        sizes,
-        kinds2,
-        operands2,
-        sizes2,
-        inputs,
-        outputs,
-        &mut lows,
-        &mut highs,
-        &mut lows2,
-        &mut highs2,
-        &mut phases,
-        &mut parents,
-        &mut sets,
-    );
-    match ended {
-        Ended::Same => Likeness::Alike,
-        Ended::Over => Likeness::Refused(Why::Pairs),
-        Ended::Different(at, set) => {
-            Likeness::Different(write_run(&parents, &sets, at, set, run))
-        }
-    }
+    let mut links = [Link { parent: 0, set: 0 }; 1024];
+    let found = search_all(table, other, inputs, outputs, &mut links).map_err(NotCompared::Both)?;
+    let Some(last) = found else {
+        return Ok(None);
+    };
+    Ok(Some(write_run(&links, last, run)))
 }
 
 // Two blocks that were read: INTERFACE, WIDE and ROOM, then the search.
 fn tested(
-    kinds: &[u16; 512],
-    operands: &[u16; 512],
-    sizes: &[u16; 512],
+    table: &Table,
     s: Summary,
-    kinds2: &[u16; 512],
-    operands2: &[u16; 512],
-    sizes2: &[u16; 512],
+    other: &Table,
     t: Summary,
     run: &mut [u8],
-) -> Likeness
-    requires { ((g : Good) × Opened (table_of kinds.now operands.now sizes.now) s g) × ((h : Good) × Opened (table_of kinds2.now operands2.now sizes2.now) t h) }
-    ensures { (g h : Good) → Opened (table_of kinds.now operands.now sizes.now) s g
-        → Opened (table_of kinds2.now operands2.now sizes2.now) t h
+) -> Result<Option<usize>, NotCompared>
+    requires { ((g : Good) × Opened table.now s g) × ((h : Good) × Opened other.now t h) }
+    ensures { (g h : Good) → Opened table.now s g
+        → Opened other.now t h
         → Owed (try_both g h (length run.old)) result run.old run.new }
 {
-    if s.inputs != t.inputs {
-        return Likeness::Refused(Why::Interface);
-    }
-    if s.outputs != t.outputs {
-        return Likeness::Refused(Why::Interface);
+    if s.inputs != t.inputs || s.outputs != t.outputs {
+        return Err(NotCompared::Both(Why::Interface));
     }
     if 6 < s.inputs {
-        return Likeness::Refused(Why::Wide);
+        return Err(NotCompared::Both(Why::Wide));
     }
     if run.len() < 1024 {
-        return Likeness::Refused(Why::Room);
+        return Err(NotCompared::Both(Why::Room));
     }
-    compared(
-        kinds, operands, sizes, kinds2, operands2, sizes2, s.inputs, s.outputs, run,
-    )
-}
-
-// The second block, where the first was read.
-fn against(
-    kinds: &[u16; 512],
-    operands: &[u16; 512],
-    sizes: &[u16; 512],
-    s: Summary,
-    second: &[u8],
-    run: &mut [u8],
-) -> Likeness
-    requires { (g : Good) × Opened (table_of kinds.now operands.now sizes.now) s g }
-    ensures { (g : Good) → Opened (table_of kinds.now operands.now sizes.now) s g
-        → Owed (try_second g (reading second.now) (length run.old)) result run.old run.new }
-{
-    let mut kinds2 = [0u16; 512];
-    let mut operands2 = [0u16; 512];
-    let mut sizes2 = [0u16; 512];
-    let checked = read_block(second, &mut kinds2, &mut operands2, &mut sizes2);
-    match checked {
-        Checked::Refused(why, place) => Likeness::Second(why, place),
-        Checked::Good(t) => tested(
-            kinds, operands, sizes, s, &kinds2, &operands2, &sizes2, t, run,
-        ),
-    }
+    compared(table, other, s.inputs, s.outputs, run)
 }
 
 // Tells whether two blocks are told alike in every instant under every input run from fresh. If not, the first in numeric order of the shortest
-// runs that show it goes to the front of the lent bytes, one byte a set. 1 to 8 for the first block, then the second, 23, 24, 12, 25.
-pub fn alike(first: &[u8], second: &[u8], run: &mut [u8]) -> Likeness
+// runs that show it goes to the front of the lent bytes, one byte a set, and its size is told. 1 to 8 for the first block, then the second, 23, 24, 12, 25.
+pub fn alike(first: &[u8], second: &[u8], run: &mut [u8]) -> Result<Option<usize>, NotCompared>
     ensures { Owed (front first.now second.now run.old) result run.old run.new }
 {
-    let mut kinds = [0u16; 512];
-    let mut operands = [0u16; 512];
-    let mut sizes = [0u16; 512];
-    let checked = read_block(first, &mut kinds, &mut operands, &mut sizes);
-    match checked {
-        Checked::Refused(why, place) => Likeness::First(why, place),
-        Checked::Good(s) => against(&kinds, &operands, &sizes, s, second, run),
-    }
+    let mut table = Table::empty();
+    let s = read_block(first, &mut table).map_err(NotCompared::First)?;
+    let mut other = Table::empty();
+    let t = read_block(second, &mut other).map_err(NotCompared::Second)?;
+    tested(&table, s, &other, t, run)
 }

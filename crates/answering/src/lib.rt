@@ -3,86 +3,82 @@
 #![tactic(auto)]
 
 use block_lines::{blocks, shelves};
+pub use state_lines::Asked;
 use state_lines::{check, excerpt, fresh, heard, heard_logged, instant, logged, reason};
 use std::io;
 
-// A case: which call it is, how many bytes are lent to it, and its numbers.
+// A call and its numbers.
 #[derive(Clone, Copy)]
-pub struct Case {
-    pub kind: u64,
-    pub state: usize,
-    pub log: usize,
-    pub block: usize,
-    // Of a call on a shelf the party.
-    pub inputs: u64,
-    // The end of a log, the number of an excerpt, what a question is about, a name on a shelf, or how many bytes are lent for an output.
-    pub other: u64,
-    // The inputs absent, or the size of a shelf or of the second block.
-    pub third: u64,
-    // Which question, or how many bytes of a shelf stand in the file, before the zeros; of a second block all.
-    pub fourth: u64,
+pub enum Call {
+    Check,
+    Fresh,
+    Instant(u64),
+    // The inputs, and the log's end.
+    Logged(u64, u64),
+    // The statement.
+    Excerpt(u64),
+    // The inputs present, and the inputs absent.
+    Heard(u64, u64),
+    HeardLogged(u64, u64, u64),
+    Reason(u64, u64, Asked),
+    // The party, and the name.
+    Install(u16, u16),
+    Fetch(u16, u16),
+    Withdraw(u16, u16),
+    Maze(u64),
+    // How many bytes are lent for the output.
+    Alike(usize),
+    DoubleLoops(usize),
+    ReadText(usize),
+    WriteText(usize),
+    Convert(usize),
 }
 
-// Answers a call that takes no shelf and no second block.
-pub fn answer(
-    out: &impl Print,
-    case: Case,
-    block: &[u8],
-    state: &mut [u8],
-    log: &mut [u8],
-) -> io::Result<()> {
-    line(out, case, block, state, log)?;
+// The bytes that are lent to a call, none of those that it does not take.
+#[derive(Drop)]
+pub struct Lent<'a> {
+    pub block: &'a [u8],
+    pub state: &'a mut [u8],
+    pub log: &'a mut [u8],
+    // A shelf, or the second block.
+    pub beside: &'a mut [u8],
+}
+
+// Answers a call, or says that there is none.
+pub fn answer(out: &impl Print, call: Option<Call>, lent: Lent<'_>) -> io::Result<()> {
+    line(out, call, lent)?;
     println!(out)
 }
 
-fn line(
-    out: &impl Print,
-    case: Case,
-    block: &[u8],
-    state: &mut [u8],
-    log: &mut [u8],
-) -> io::Result<()> {
-    let kind = case.kind;
-    let inputs = case.inputs;
-    let other = case.other;
-    let third = case.third;
-    match kind {
-        1 => check(out, block),
-        2 => fresh(out, block, state),
-        3 => instant(out, block, state, inputs),
-        4 => logged(out, block, state, inputs, log, other),
-        5 => excerpt(out, block, other),
-        6 => heard(out, block, state, inputs, third),
-        7 => heard_logged(out, block, state, inputs, third, log, other),
-        8 => reason(out, block, state, inputs, third, case.fourth, other),
-        12 => blocks::maze(out, block, inputs),
-        14..=17 => blocks::written(out, kind, block, b"", other as usize),
-        _ => no_call(out),
+fn line(out: &impl Print, call: Option<Call>, lent: Lent<'_>) -> io::Result<()> {
+    let Some(call) = call else {
+        return print!(out; "no such call");
+    };
+    let Lent {
+        block,
+        state,
+        log,
+        beside,
+    } = lent;
+    match call {
+        Call::Check => check(out, block),
+        Call::Fresh => fresh(out, block, state),
+        Call::Instant(inputs) => instant(out, block, state, inputs),
+        Call::Logged(inputs, end) => logged(out, block, state, inputs, log, end),
+        Call::Excerpt(n) => excerpt(out, block, n),
+        Call::Heard(present, absent) => heard(out, block, state, present, absent),
+        Call::HeardLogged(present, absent, end) => {
+            heard_logged(out, block, state, present, absent, log, end)
+        }
+        Call::Reason(present, absent, asked) => reason(out, block, state, present, absent, asked),
+        Call::Install(party, name) => shelves::install(out, beside, party, name, block),
+        Call::Fetch(party, name) => shelves::fetch(out, beside, party, name),
+        Call::Withdraw(party, name) => shelves::withdraw(out, beside, party, name),
+        Call::Maze(inputs) => blocks::maze(out, block, inputs),
+        Call::Alike(room) => blocks::alike(out, block, beside, room),
+        Call::DoubleLoops(room) => blocks::copies(out, block, room),
+        Call::ReadText(room) => blocks::read_text(out, block, room),
+        Call::WriteText(room) => blocks::write_text(out, block, room),
+        Call::Convert(room) => blocks::convert(out, block, room),
     }
-}
-
-// The same for a call that takes a shelf or a second block beside the first.
-pub fn answer_beside(
-    out: &impl Print,
-    case: Case,
-    block: &[u8],
-    beside: &mut [u8],
-) -> io::Result<()> {
-    line_beside(out, case, block, beside)?;
-    println!(out)
-}
-
-fn line_beside(out: &impl Print, case: Case, block: &[u8], beside: &mut [u8]) -> io::Result<()> {
-    let kind = case.kind;
-    match kind {
-        9 => shelves::install(out, beside, case.inputs, case.other, block),
-        10 => shelves::fetch(out, beside, case.inputs, case.other),
-        11 => shelves::withdraw(out, beside, case.inputs, case.other),
-        13 => blocks::written(out, kind, block, beside, case.other as usize),
-        _ => no_call(out),
-    }
-}
-
-fn no_call(out: &impl Print) -> io::Result<()> {
-    print!(out; "no such call")
 }

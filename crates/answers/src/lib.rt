@@ -1,97 +1,121 @@
-// The answers of the calls on no shelf as numbers, in the order of a line of the comparison: a refusal's number comes first, 0 where there is none, and what is
-// not named is 0.
+// The answers of the calls on no shelf as numbers, in the order of a line of the comparison: a refusal's number comes first, 0 where there is none, and then its
+// place. What an answer does not have is 0.
 #![tactic(auto)]
+
+ghost use Rattle.std.specs.Prelude.{◌≤◌};
 
 pub mod blocks;
 
-use foldheron::{Asked, Begun, Checked, Doubt, Instant, Reaction, Reason, Summary, number_of};
+pub use foldheron::Asked;
+use foldheron::{Logged, Reaction, Refused, Stopped, Unanswered, number_of};
 
-// The places of all answers, of a check's and of an instant's.
-const NUMBER: usize = 0;
+// Number and place of a refusal, in front of what its call would answer.
+pub(crate) fn refused<const N: usize>(r: Refused) -> [u64; N]
+    requires { 2 ≤ N }
+{
+    let mut numbers = [0; N];
+    numbers[0] = number_of(r.why).into();
+    numbers[1] = r.place as u64;
+    numbers
+}
 
-const PLACE: usize = 1;
-
-const VERSION: usize = 2;
-
-const INPUTS: usize = 3;
-
-const OUTPUTS: usize = 4;
-
-const LOCALS: usize = 5;
-
-const STATEMENTS: usize = 6;
-
-const PAUSES: usize = 7;
-
-// The pair of a clash.
-const FIRST: usize = 2;
-
-const SECOND: usize = 3;
-
-// Of a reason.
-const STATEMENT: usize = 4;
-
-const PRESENT: usize = 4;
-
-const ABSENT: usize = 5;
-
-const UNDECIDED: usize = 6;
-
-const CODE: usize = 7;
-
-const ROUNDS: usize = 8;
-
-const ACTIVE: usize = 9;
-
-const END: usize = 10;
-
-// NUMBER to PAUSES.
-pub fn check(block: &[u8]) -> [u64; 11] {
-    let answer = foldheron::check(block);
-    match answer {
-        Checked::Good(summary) => good(summary),
-        Checked::Refused(why, place) => refused(number_of(why), place),
+// Number, place, version, inputs, outputs, locals, statements, pauses.
+pub fn check(block: &[u8]) -> [u64; 8] {
+    match foldheron::check(block) {
+        Ok(s) => [
+            0,
+            0,
+            s.version.into(),
+            s.inputs.into(),
+            s.outputs.into(),
+            s.locals.into(),
+            s.statements as u64,
+            s.pauses.into(),
+        ],
+        Err(r) => refused(r),
     }
 }
 
-fn good(s: Summary) -> [u64; 11] {
-    let mut n = [0u64; 11];
-    n[VERSION] = s.version as u64;
-    n[INPUTS] = s.inputs as u64;
-    n[OUTPUTS] = s.outputs as u64;
-    n[LOCALS] = s.locals as u64;
-    n[STATEMENTS] = s.statements as u64;
-    n[PAUSES] = s.pauses as u64;
-    n
-}
-
-// NUMBER and PLACE.
-pub fn fresh(block: &[u8], state: &mut [u8]) -> [u64; 11] {
-    let answer = foldheron::fresh(block, state);
-    match answer {
-        Begun::Fresh => refused(0, 0),
-        Begun::TurnedDown(why, place) => refused(number_of(why), place),
+// Number and place.
+pub fn fresh(block: &[u8], state: &mut [u8]) -> [u64; 2] {
+    match foldheron::fresh(block, state) {
+        Ok(()) => [0, 0],
+        Err(r) => refused(r),
     }
 }
 
-// NUMBER to ACTIVE.
-pub fn instant(block: &[u8], state: &mut [u8], inputs: u64) -> [u64; 11] {
-    numbers(foldheron::instant(block, state, inputs), 0)
+// Number, place, the pair of a clash, what is present and absent, how many are undecided, code, rounds, active pauses.
+fn numbers(answer: Result<Reaction, Unanswered>) -> [u64; 10] {
+    match answer {
+        Ok(r) => [
+            0,
+            0,
+            0,
+            0,
+            r.present,
+            0,
+            0,
+            r.code.0.into(),
+            r.rounds.into(),
+            r.active.into(),
+        ],
+        Err(Unanswered::NotConstructive(d)) => [
+            13,
+            0,
+            0,
+            0,
+            d.present,
+            d.absent,
+            d.undecided.into(),
+            0,
+            d.rounds.into(),
+            0,
+        ],
+        Err(Unanswered::Clash(first, second)) => [
+            10,
+            0,
+            first.into(),
+            second.into(),
+            0,
+            0,
+            0,
+            0,
+            0,
+            0,
+        ],
+        Err(Unanswered::Refused(r)) => refused(r),
+    }
 }
 
-// NUMBER to END, the log's new end.
-pub fn logged(block: &[u8], state: &mut [u8], inputs: u64, log: &mut [u8], end: u64) -> [u64; 11] {
-    let logged = foldheron::instant_logged(block, state, inputs, log, end as usize);
-    let answer = logged.answer;
-    numbers(answer, logged.end as u64)
+pub fn instant(block: &[u8], state: &mut [u8], inputs: u64) -> [u64; 10] {
+    numbers(foldheron::instant(block, state, inputs))
 }
 
-// As `instant`, for the inputs present and the inputs absent.
-pub fn heard(block: &[u8], state: &mut [u8], present: u64, absent: u64) -> [u64; 11] {
-    numbers(foldheron::instant_heard(block, state, present, absent), 0)
+// The same for the inputs present and the inputs absent.
+pub fn heard(block: &[u8], state: &mut [u8], present: u64, absent: u64) -> [u64; 10] {
+    numbers(foldheron::instant_heard(block, state, present, absent))
 }
 
-// As `logged`.
+// The same, and the log's new end: 0 where nothing was logged.
+fn with_end(answer: Result<Logged, Unanswered>) -> ([u64; 10], u64) {
+    match answer {
+        Ok(logged) => (numbers(Ok(logged.reaction)), logged.end as u64),
+        Err(unanswered) => (numbers(Err(unanswered)), 0),
+    }
+}
+
+// The same as `instant`, and the log's new end.
+pub fn logged(
+    block: &[u8],
+    state: &mut [u8],
+    inputs: u64,
+    log: &mut [u8],
+    end: u64,
+) -> ([u64; 10], u64) {
+    with_end(foldheron::instant_logged(block, state, inputs, log, end as usize))
+}
+
+// The same as `heard`, and the log's new end.
 pub fn heard_logged(
     block: &[u8],
     state: &mut [u8],
@@ -99,98 +123,23 @@ pub fn heard_logged(
     absent: u64,
     log: &mut [u8],
     end: u64,
-) -> [u64; 11] {
-    let logged = foldheron::instant_heard_logged(block, state, present, absent, log, end as usize);
-    let answer = logged.answer;
-    numbers(answer, logged.end as u64)
+) -> ([u64; 10], u64) {
+    with_end(foldheron::instant_heard_logged(block, state, present, absent, log, end as usize))
 }
 
-// The part; of the numbers it sets NUMBER and PLACE. What the call writes them into holds something else before.
-pub fn excerpt<'a>(block: &'a [u8], n: u64, numbers: &mut [u64; 11]) -> &'a [u8] {
-    let mut number = u16::MAX;
-    let mut place = usize::MAX;
-    let part = foldheron::excerpt(block, n as usize, &mut number, &mut place);
-    numbers[NUMBER] = number as u64;
-    numbers[PLACE] = place as u64;
-    part
-}
-
-// NUMBER to SECOND, and STATEMENT.
-pub fn reason(
-    block: &[u8],
-    state: &[u8],
-    present: u64,
-    absent: u64,
-    question: u64,
-    about: u64,
-) -> [u64; 11] {
-    let answer = foldheron::reason(block, state, present, absent, asked(question, about));
-    match answer {
-        Reason::Statement(n) => named(n),
-        Reason::Clash(first, second) => clashed(first, second, 0),
-        Reason::Refused(why, place) => refused(number_of(why), place),
+// Number and place, and the part; a refusal hands none back.
+pub fn excerpt(block: &[u8], n: u64) -> ([u64; 2], &[u8]) {
+    match foldheron::excerpt(block, n as usize) {
+        Ok(part) => ([0, 0], part),
+        Err(r) => (refused(r), &block[..0]),
     }
 }
 
-// The questions by their numbers, and what they are about.
-fn asked(question: u64, about: u64) -> Asked {
-    match question {
-        0 => Asked::Refused,
-        1 => Asked::Present(about as usize),
-        _ => Asked::NotExecuted(about as usize),
+// Number, place, the pair of a clash, the statement.
+pub fn reason(block: &[u8], state: &[u8], present: u64, absent: u64, asked: Asked) -> [u64; 5] {
+    match foldheron::reason(block, state, present, absent, asked) {
+        Ok(n) => [0, 0, 0, 0, n as u64],
+        Err(Stopped::Clash(first, second)) => [10, 0, first.into(), second.into(), 0],
+        Err(Stopped::Refused(r)) => refused(r),
     }
-}
-
-fn named(statement: usize) -> [u64; 11] {
-    let mut n = [0u64; 11];
-    n[STATEMENT] = statement as u64;
-    n
-}
-
-fn numbers(answer: Instant, end: u64) -> [u64; 11] {
-    match answer {
-        Instant::Answered(r) => answered(r, end),
-        Instant::NotConstructive(d) => doubted(d, end),
-        Instant::Clash(first, second) => clashed(first, second, end),
-        Instant::Refused(why, place) => {
-            let mut n = refused(number_of(why), place);
-            n[END] = end;
-            n
-        }
-    }
-}
-
-fn answered(r: Reaction, end: u64) -> [u64; 11] {
-    let mut n = [0u64; 11];
-    n[PRESENT] = r.present;
-    n[CODE] = r.code.0 as u64;
-    n[ROUNDS] = r.rounds as u64;
-    n[ACTIVE] = r.active as u64;
-    n[END] = end;
-    n
-}
-
-fn doubted(d: Doubt, end: u64) -> [u64; 11] {
-    let mut n = refused(13, 0);
-    n[PRESENT] = d.present;
-    n[ABSENT] = d.absent;
-    n[UNDECIDED] = d.undecided as u64;
-    n[ROUNDS] = d.rounds as u64;
-    n[END] = end;
-    n
-}
-
-fn clashed(first: u16, second: u16, end: u64) -> [u64; 11] {
-    let mut n = refused(10, 0);
-    n[FIRST] = first as u64;
-    n[SECOND] = second as u64;
-    n[END] = end;
-    n
-}
-
-pub(crate) fn refused(number: u16, place: usize) -> [u64; 11] {
-    let mut n = [0u64; 11];
-    n[NUMBER] = number as u64;
-    n[PLACE] = place as u64;
-    n
 }

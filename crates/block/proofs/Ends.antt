@@ -6,85 +6,85 @@ use mathlib.Core.List.{List}
 use Prim.Native.Nat.{ℕ, ◌+◌, ◌≤◌, ◌<◌}
 use native.Mathlib.Nat.{zero-add}
 use native.Mathlib.Omega.{arith}
+use native.Mathlib.Decide.{ℕ_discrete}
 use lib.Dec.{eqb}
 use lib.ListN.{length}
 use borrow.Author.Tests.{eq-eqb, ne_eqb, lt-ltb, le-ltb}
-use Rattle.refusals.specs.Refusals.{number, first_with, why_of}
-use Rattle.refusals.specs.declared.Why.{Why}
+use Rattle.refusals.specs.Refusals.{number, first_with}
 use Rattle.refusals.specs.declared.Why.TheVariants.{Limit, Shape, Loop}
-use Rattle.sets.specs.Numbers.{lowest}
 use Rattle.sets.proofs.Members.{ext, of_false}
 use Rattle.sets.proofs.Words.{bits_zero}
-use Rattle.sets.proofs.Counts.{lowest_some}
 use Rattle.rules.specs.Statements.{Stmt}
-use Rattle.tables.specs.Table.{Table, Has, statements}
-use Rattle.block.specs.Format.{Header, Around, Sofar, Got, got, Reading, turned_down, header, header_fault, read, ended, loops_checked, offset, numbered}
-use Rattle.tables.specs.Codes.{endless}
+use Rattle.tables.specs.Table.{Has, statements}
+use Rattle.tables.specs.declared.Table.{Table}
+use Rattle.block.specs.Format.{Header, Around, Sofar, Got, got, refused, Reading, turned_down, header, header_fault, read, ended, loops_checked, offset}
 use Rattle.block.specs.Format.{reading, outermost}
 use Rattle.tables.specs.Codes.{lowest_endless}
-use Rattle.block.specs.Told.{header_of, sofar_of, around_of, Built, Full, Reads, Ready, summary_of, answer_to, InTable, ReadWhole}
-use Rattle.tables.specs.Codes.{Tabled, number_or}
+use Rattle.block.specs.Told.{header_of, sofar_of, around_of, Built, Full, Reads, Ready, refusal_of, tested, told, summary_of, answer_to, InTable, ReadWhole}
+use Rattle.tables.specs.Codes.{Tabled, found}
 use Rattle.block.specs.declared.Declared.{Declared}
 use Rattle.block.specs.declared.Cursor.{Cursor}
 use Rattle.block.specs.declared.Context.{Context}
-use Rattle.block.specs.declared.reader.Read.{Read}
-use Rattle.block.specs.declared.reader.Read.TheVariants.{Got as GotTo, Refused}
-use Rattle.block.specs.declared.whole.Checked.{Checked}
-use Rattle.block.specs.declared.whole.Checked.TheVariants.{Good as GoodBlock, Refused as RefusedBlock}
+use Rattle.block.specs.declared.whole.Summary.{Summary}
+use Rattle.std.specs.Prelude.{Result, Ok, Err, Some, None, ⊤}
+use Rattle.refusals.specs.declared.Refused.{Refused}
 use Rattle.block.proofs.Parse.{parsed}
 use Rattle.block.proofs.Trees.{Tree, tree}
-use Rattle.block.proofs.Ways.{was_refused, was_got}
+use Rattle.block.proofs.Ways.{tests_refused, tests_passed, was_got}
 use Rattle.block.proofs.GoodReadings.{header_fits, outermost_fits, begun_counts, reading_is}
 
 -- After the tree.
 module _ (b : List ℕ) (h : Header) (t : Stmt) (r : Sofar) where
-  pub end_bytes : (r.place ≡ length b → ⊥) → RefusedBlock Shape r.place ≡ answer_to (ended b h (got t r))
+  pub end_shape : (r.place ≡ length b → r.locals ≡ h.locals → ⊥) → Err (record { why = Shape; place = r.place }) ≡ answer_to (ended b h (got t r))
   unfolding ended answer_to first_with number
-  end_bytes n = sym (simp (ne_eqb r.place (length b) n))
-
-  pub end_locals : r.place ≡ length b → (r.locals ≡ h.locals → ⊥) → RefusedBlock Shape r.place ≡ answer_to (ended b h (got t r))
-  unfolding ended answer_to first_with number
-  end_locals e n = sym (simp (eq-eqb r.place (length b) e, ne_eqb r.locals h.locals n))
+  end_shape n = go (ℕ_discrete r.place (length b))
+    where
+      go : Dec (r.place ≡ length b) → Err (record { why = Shape; place = r.place }) ≡ answer_to (ended b h (got t r))
+      go (yes e) = sym (simp (eq-eqb r.place (length b) e, ne_eqb r.locals h.locals (n e)))
+      go (no e) = sym (simp (ne_eqb r.place (length b) e))
 
   module _ (e : r.place ≡ length b) (l : r.locals ≡ h.locals) where
-    pub end_loop : (n at : ℕ) → lowest_endless t ≡ some n → at ≡ offset t n → RefusedBlock Loop at ≡ answer_to (ended b h (got t r))
+    pub end_loop : (n at : ℕ) → lowest_endless t ≡ some n → at ≡ offset t n → Err (record { why = Loop; place = at }) ≡ answer_to (ended b h (got t r))
     unfolding ended answer_to first_with number loops_checked
     end_loop n at o f = sym (simp (eq-eqb r.place (length b) e, eq-eqb r.locals h.locals l, o, f))
 
-    pub end_good : lowest_endless t ≡ none → GoodBlock (summary_of (record { header = h; body = t; statements = r.statements; pauses = r.pauses })) ≡ answer_to (ended b h (got t r))
+    pub end_good : lowest_endless t ≡ none → Ok (summary_of (record { header = h; body = t; statements = r.statements; pauses = r.pauses })) ≡ answer_to (ended b h (got t r))
     unfolding ended answer_to first_with number loops_checked
     end_good o = sym (simp (eq-eqb r.place (length b) e, eq-eqb r.locals h.locals l, o))
 
-pub found_some : (o : Option ℕ) (n count : ℕ) → n ≡ number_or count o → n < count → o ≡ some n
-found_some none n count e l = absurd (omega arith)
-found_some (some k) n count e l = ap some (sym e)
+pub found_some : (o : Option ℕ) (n : ℕ) → Some n ≡ found o → o ≡ some n
+found_some none n e = let z : ⊥ = cc in absurd z
+found_some (some k) n e = let q : n ≡ k = cc in ap some (sym q)
 
-pub found_none : (t : Stmt) (n count : ℕ) → statements t ≡ count → n ≡ number_or count (lowest_endless t) → count ≤ n → lowest_endless t ≡ none
-unfolding lowest_endless
-found_none t n count c e l = go (lowest (statements t) (λ n. endless (numbered t n))) refl
-  where
-    go : (o : Option ℕ) → lowest (statements t) (λ n. endless (numbered t n)) ≡ o → lowest (statements t) (λ n. endless (numbered t n)) ≡ none
-    go none f = f
-    go (some k) f =
-        let w = (lowest_some (statements t) (λ n. endless (numbered t n)) f).0 in
-        let g : n ≡ k = e ∙ ap (number_or count) f in
-        absurd (omega (arith, w, g, c))
+pub found_none : (o : Option ℕ) → None ≡ found o → o ≡ none
+found_none none e = refl
+found_none (some k) e = let z : ⊥ = cc in absurd z
+
+-- A refusal of a statement is the whole reading's.
+refused_ends : (b : List ℕ) (h : Header) (g : Got) (tab : Table) {e : Refused} → told g ≡ Err e → (answer_to (ended b h g) ≡ Err e) × InTable (ended b h g) tab
+unfolding told answer_to InTable ended
+refused_ends b h (got p r) tab q = let z : ⊥ = cc in absurd z
+refused_ends b h (refused n at) tab {e} q = let w : refusal_of n at ≡ e = cc in (ap Err w, tt)
 
 -- The whole reading.
 module _ (b : List ℕ) where
-  pub over_size : {tab : Table} → 3086 < length b → Full tab → ReadWhole (reading b) tab (RefusedBlock Limit 0)
+  pub over_size : {tab : Table} → 3086 < length b → Full tab → ReadWhole (reading b) tab (Err (record { why = Limit; place = 0 }))
   unfolding answer_to InTable first_with number
   over_size {tab} l f =
       let e : reading b ≡ turned_down 4 0 = reading_is b ∙ simp (lt-ltb 3086 (length b) l) in
-      subst (λ (x : Reading). ReadWhole x tab (RefusedBlock Limit 0)) (sym e) (record { answered = refl; stands = tt; full = f })
+      subst (λ (x : Reading). ReadWhole x tab (Err (record { why = Limit; place = 0 }))) (sym e) (record { answered = refl; stands = tt; full = f })
+
+  pub good_header : {t : Result ⊤ Refused} → t ≡ tested (header_fault b) 0 → t ≡ Ok tt → header_fault b ≡ 0
+  good_header tests q = tests_passed (header_fault b) 0 (sym tests ∙ q)
 
   module _ (fits : length b ≤ 3086) where
-    pub bad_header : {tab : Table} (n : ℕ) {w : Why} → n ≡ header_fault b → (n ≡ 0 → ⊥) → w ≡ why_of n → Full tab → ReadWhole (reading b) tab (RefusedBlock w 0)
-    unfolding answer_to InTable
-    bad_header {tab} n {w} e z named f =
-        let q : reading b ≡ turned_down (header_fault b) 0 = reading_is b ∙ simp (le-ltb 3086 (length b) fits, ne_eqb (header_fault b) 0 (λ y. z (e ∙ y))) in
-        subst (λ (x : Reading). ReadWhole x tab (RefusedBlock w 0)) (sym (q ∙ ap (λ (m : ℕ). turned_down m 0) (sym e)))
-        (record { answered = ap (λ (y : Why). RefusedBlock y 0) named; stands = tt; full = f })
+    pub bad_header : {t : Result ⊤ Refused} → t ≡ tested (header_fault b) 0 → {tab : Table} {e : Refused} → t ≡ Err e → Full tab → ReadWhole (reading b) tab (Err e)
+    unfolding answer_to InTable told
+    bad_header tests {tab} {e} q f =
+        let n = tests_refused (header_fault b) 0 (sym tests ∙ q) in
+        let d : reading b ≡ turned_down (header_fault b) 0 = reading_is b ∙ simp (le-ltb 3086 (length b) fits, ne_eqb (header_fault b) 0 n.0) in
+        let w : refusal_of (header_fault b) 0 ≡ e = let n₁ = n.1 in cc in
+        subst (λ (x : Reading). ReadWhole x tab (Err e)) (sym d) (record { answered = sym (ap Err w); stands = tt; full = f })
 
     module _ (d : Declared) (declares : header_of d ≡ header b) (fault : header_fault b ≡ 0) where
       abbrev c₀ : Context
@@ -118,15 +118,13 @@ module _ (b : List ℕ) where
           reading_is b ∙ simp (le-ltb 3086 (length b) fits, eq-eqb (header_fault b) 0 fault)
           (λ i. ended b (sym declares i) (read 64 b (sym declares i) (sym no_scope i) (sofar_of r₀)))
 
-      module _ {before tab : Table} {a : Read} (read_it : Reads statements_of 0 before tab a) where
-        pub tree_refused : {n at : ℕ} {w : Why} → a ≡ Refused n at → w ≡ why_of n → ReadWhole (reading b) tab (RefusedBlock w at)
-        unfolding answer_to InTable ended
-        tree_refused {n} {at} {w} e named =
-            subst (λ (x : Reading). ReadWhole x tab (RefusedBlock w at))
-            (sym (reading_ends ∙ ap (ended b (header_of d)) (was_refused statements_of (sym read_it.answered ∙ e))))
-            (record { answered = ap (λ (y : Why). RefusedBlock y at) named; stands = tt; full = read_it.full })
+      module _ {before tab : Table} {a : Result Cursor Refused} (read_it : Reads statements_of 0 before tab a) where
+        pub tree_refused : {e : Refused} → a ≡ Err e → ReadWhole (reading b) tab (Err e)
+        tree_refused {e} q =
+            let n = refused_ends b (header_of d) statements_of tab (sym read_it.answered ∙ q) in
+            subst (λ (x : Reading). ReadWhole x tab (Err e)) (sym reading_ends) (record { answered = sym n.0; stands = n.1; full = read_it.full })
 
-        module _ {r : Cursor} (e : a ≡ GotTo r) where
+        module _ {r : Cursor} (e : a ≡ Ok r) where
           tree_got : (t : Stmt) × (statements_of ≡ got t (sofar_of r))
           tree_got = was_got statements_of (sym read_it.answered ∙ e)
 
@@ -152,7 +150,7 @@ module _ (b : List ℕ) where
           stands_at true (some n) = tt
           stands_at false o = tt
 
-          pub tree_ends : {x : Checked} → ((t : Stmt) → Tabled tab r.statements t → x ≡ answer_to (ended b (header_of d) (got t (sofar_of r)))) → ReadWhole (reading b) tab x
+          pub tree_ends : {x : Result Summary Refused} → ((t : Stmt) → Tabled tab r.statements t → x ≡ answer_to (ended b (header_of d) (got t (sofar_of r)))) → ReadWhole (reading b) tab x
           unfolding ended
           tree_ends {x} f =
               subst (λ (y : Reading). ReadWhole y tab x) (sym (reading_ends ∙ ap (ended b (header_of d)) tree_got.1))

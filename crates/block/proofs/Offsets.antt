@@ -2,7 +2,7 @@
 use mathlib.Core.Path.{◌≡◌, refl, sym, ◌∙◌, ap, subst}
 use mathlib.Core.Logic.{⊎_elim}
 use mathlib.Core.List.{List, [], ◌∷◌}
-use mathlib.Core.Option.{Option}
+use Rattle.std.specs.Prelude.{Option}
 use Prim.Native.Nat.{ℕ, ◌+◌, ◌*◌, ◌≤◌, ◌<◌}
 use native.Mathlib.Nat.{zero-add}
 use native.Mathlib.Numerals.{add-one}
@@ -11,9 +11,11 @@ use lib.Dec.{lit≤}
 use lib.ListN.{length, get_or, take, drop, length-drop, take-append-drop}
 use lib.Seq.{take-suc, take-add, take_all, get_or-take, get_or-drop, ext_get_or, length-take-le}
 use Rattle.rules.specs.Statements.{Stmt, nothing}
-use Rattle.tables.specs.Table.{Table, Has, kind_of, statements}
+use Rattle.tables.specs.Table.{Has, kind_of, statements}
+use Rattle.tables.specs.declared.Table.{Table}
 use Rattle.block.specs.Format.{preorder, numbered, bytes, offset}
-use Rattle.tables.specs.Kinds.{Shape, shape, of_shape, length_of}
+use Rattle.tables.specs.declared.kinds.Shape.{Shape}
+use Rattle.tables.specs.Kinds.{of_shape, length_of}
 use Rattle.tables.specs.Codes.{Tabled, Listed}
 use Rattle.block.proofs.Views.{shape?, known_length}
 use Rattle.block.proofs.Built.{bytes_append}

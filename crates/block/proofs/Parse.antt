@@ -1,7 +1,7 @@
 -- The reading of a statement, one equation for each way through it, and as a relation: every fact of a good reading goes by
 -- induction on that.
 use mathlib.Core.Path.{◌≡◌, refl, sym, subst₂, ◌∙◌}
-use mathlib.Core.Logic.{◌⊎◌, ⊎_elim}
+use mathlib.Core.Logic.{⊎_elim}
 use mathlib.Core.List.{List}
 use Prim.Native.Nat.{ℕ, zero, suc}
 use native.Mathlib.Omega.{arith}

@@ -6,7 +6,8 @@ use native.Mathlib.Omega.{arith}
 use lib.ListN.{get_or, set, length-set}
 use lib.Seq.{get_or-set_same, get_or-set_other}
 use Rattle.rules.specs.Statements.{Stmt, nothing, pause, emit, present?◌then◌else◌, suspend◌on◌, ◌⨾◌, loop, ◌parallel◌, trap, exit, local}
-use Rattle.tables.specs.Table.{Table, Row, Has, statements}
+use Rattle.tables.specs.Table.{Row, Has, statements}
+use Rattle.tables.specs.declared.Table.{Table}
 use Rattle.block.specs.Format.{leaf, above, joined}
 use Rattle.block.specs.Told.{Same, Full}
 use Rattle.tables.specs.Table.{table_of, kept_operand}

@@ -1,59 +1,35 @@
--- The tests for a record at fault, from the facts that the code's tests leave.
+-- The tests for a record at fault: the numbers that they give, and the code's refusal for each. Assumes nothing.
 use mathlib.Core.Path.{◌≡◌, refl, sym, ap, ◌∙◌}
 use mathlib.Core.Bool.{Bool, true, false, not, cond, ◌&&◌, ◌||◌}
 use mathlib.Core.List.{List}
-use Prim.Native.Nat.{ℕ, ◌+◌, ◌-◌, ◌≤◌, ◌<◌}
-use native.Mathlib.Omega.{arith}
+use Prim.Native.Nat.{ℕ, zero, suc, ◌+◌, ◌≤◌, ◌<◌}
 use lib.Dec.{ltb, leb, eqb}
 use lib.ListN.{length}
 use mathlib.Core.Logic.{◌⊎◌, inl, inr}
-use borrow.Author.Tests.{lt-ltb, le-ltb, le-leb, lt-leb, eq-eqb, ne_eqb}
+use borrow.Author.Tests.{le-leb, lt-leb, eq-eqb, ne_eqb}
 use Rattle.block.specs.Format.{Header, Around, Sofar, two_bytes, is_broken, declared_here, over_limit, wrong_signal, wrong_exit, kind_at, length_at, operand_at, fault_as, statement_fault}
 use Rattle.tables.specs.Kinds.{length_of}
+use Rattle.std.specs.Prelude.{Ok, Err}
+use Rattle.refusals.specs.Refusals.{number, why_of}
+use Rattle.refusals.specs.declared.Why.{Why}
+use Rattle.refusals.specs.declared.Refused.{Refused}
+use Rattle.refusals.proofs.Laws.{why_back, number_above}
+use Rattle.block.specs.Told.{tested}
 use Rattle.block.specs.Format.{header, header_fault_in}
 
-pub few_left : (b : List ℕ) (at : ℕ) → length b < at + 4 → is_broken b at ≡ true
-unfolding is_broken
-few_left b at h = simp (lt-ltb (length b - at) 4 (omega arith))
+-- The code's refusal by name is that of the number.
+pub at_fault : (w : Why) {n at : ℕ} {e : Refused} → n ≡ number w → e ≡ record { why = w; place = at } → Err e ≡ tested n at
+unfolding tested
+at_fault w {n = zero} f r = absurd (number_above w (sym f))
+at_fault w {n = suc n} {at = at} f r = ap Err (r ∙ (λ i. record { why = (sym (why_back w) ∙ ap why_of (sym f)) i; place = at }))
 
-pub too_short : (b : List ℕ) (at : ℕ) → at + 4 ≤ length b → two_bytes b at < 4 → is_broken b at ≡ true
-unfolding is_broken
-too_short b at l h = simp (le-ltb (length b - at) 4 (omega arith), lt-ltb (two_bytes b at) 4 h)
-
-pub long_enough : (b : List ℕ) (at : ℕ) → at + 4 ≤ length b → 4 ≤ two_bytes b at
-    → is_broken b at ≡ ltb (length b - at) (two_bytes b at)
-unfolding is_broken
-long_enough b at l h = simp (le-ltb (length b - at) 4 (omega arith), le-ltb (two_bytes b at) 4 h)
+pub no_fault_at : (at : ℕ) {n : ℕ} → n ≡ 0 → Ok tt ≡ tested n at
+unfolding tested
+no_fault_at at f = sym (ap (λ (n : ℕ). tested n at) f)
 
 pub or_false : (x : Bool) → (x || false) ≡ x
 or_false true = refl
 or_false false = refl
-
--- The limits, by the record's kind.
-module _ (room : ℕ) (a : Around) (r : Sofar) (k : ℕ) where
-  pub no_room : room ≡ 0 → over_limit room a r k ≡ true
-  unfolding over_limit
-  no_room e = simp (eq-eqb room 0 e)
-
-  pub too_many : (room ≡ 0 → ⊥) → 512 ≤ r.statements → over_limit room a r k ≡ true
-  unfolding over_limit
-  too_many n h = simp (ne_eqb room 0 n, le-leb 512 r.statements h)
-
-  pub pause_limit : (room ≡ 0 → ⊥) → r.statements < 512 → k ≡ 17 → over_limit room a r k ≡ leb 128 r.pauses
-  unfolding over_limit
-  pause_limit n h e = simp (e, ne_eqb room 0 n, lt-leb 512 r.statements h, or_false)
-
-  pub trap_limit : (room ≡ 0 → ⊥) → r.statements < 512 → k ≡ 24 → over_limit room a r k ≡ leb 16 a.traps
-  unfolding over_limit
-  trap_limit n h e = simp (e, ne_eqb room 0 n, lt-leb 512 r.statements h, or_false)
-
-  pub local_limit : (room ≡ 0 → ⊥) → r.statements < 512 → k ≡ 26 → over_limit room a r k ≡ leb 6 a.nested
-  unfolding over_limit
-  local_limit n h e = simp (e, ne_eqb room 0 n, lt-leb 512 r.statements h)
-
-  pub no_limit : (room ≡ 0 → ⊥) → r.statements < 512 → (k ≡ 17 → ⊥) → (k ≡ 24 → ⊥) → (k ≡ 26 → ⊥) → over_limit room a r k ≡ false
-  unfolding over_limit
-  no_limit n h x y z = simp (ne_eqb room 0 n, lt-leb 512 r.statements h, ne_eqb k 17 x, ne_eqb k 24 y, ne_eqb k 26 z)
 
 -- A wrong signal, by the record's kind.
 module _ (h : Header) (a : Around) (r : Sofar) (k s : ℕ) where
@@ -87,15 +63,7 @@ module _ (room : ℕ) (b : List ℕ) (h : Header) (a : Around) (r : Sofar) (k : 
   abbrev fault : ℕ
   fault = fault_as room b h a r k
 
-  pub as_broken : is_broken b r.place ≡ true → fault ≡ 1
-  unfolding fault_as
-  as_broken e = simp e
-
   module _ (whole : is_broken b r.place ≡ false) (l : ℕ) (el : l ≡ length_at b r.place) where
-    pub as_kind : (length_of k ≡ l → ⊥) → fault ≡ 2
-    unfolding fault_as
-    as_kind n = simp (whole, ← el, ne_eqb (length_of k) l n)
-
     module _ (right : length_of k ≡ l) where
       pub as_limit : over_limit room a r k ≡ true → fault ≡ 4
       unfolding fault_as
@@ -121,29 +89,9 @@ unfolding statement_fault
 fault_due room b h a r due k e =
     ap (λ (z : Bool). cond z 7 (fault_as room b h a r (kind_at b r.place))) (lt-leb (length b) r.place due) ∙ ap (fault_as room b h a r) (sym e)
 
--- The header's number where edition v is due, by the first test that fails.
-module _ (v : ℕ) (b : List ℕ) where
-  pub header_broken : is_broken b 0 ≡ true → header_fault_in v b ≡ 1
-  unfolding header_fault_in
-  header_broken e = simp e
-
-  module _ (whole : is_broken b 0 ≡ false) where
-    pub header_kind : (kind_at b 0 ≡ 1 → ⊥) → header_fault_in v b ≡ 2
-    unfolding header_fault_in
-    header_kind n = simp (whole, ne_eqb (kind_at b 0) 1 n)
-
-    module _ (kind : kind_at b 0 ≡ 1) where
-      pub header_length : (length_at b 0 ≡ 14 → ⊥) → header_fault_in v b ≡ 2
-      unfolding header_fault_in
-      header_length n = simp (whole, eq-eqb (kind_at b 0) 1 kind, ne_eqb (length_at b 0) 14 n)
-
-      module _ (long : length_at b 0 ≡ 14) where
-        pub header_edition : (two_bytes b 4 ≡ v → ⊥) → header_fault_in v b ≡ 3
-        unfolding header_fault_in
-        header_edition n = simp (whole, eq-eqb (kind_at b 0) 1 kind, eq-eqb (length_at b 0) 14 long, ne_eqb (two_bytes b 4) v n)
-
-        module _ (edition : two_bytes b 4 ≡ v) where
-          pub header_signals : (t : Bool) → t ≡ ltb 64 (two_bytes b 8 + two_bytes b 10 + two_bytes b 12) → header_fault_in v b ≡ cond t 4 0
-          unfolding header_fault_in header
-          header_signals t e =
-              simp (whole, eq-eqb (kind_at b 0) 1 kind, eq-eqb (length_at b 0) 14 long, eq-eqb (two_bytes b 4) v edition, ← e)
+-- The header's number where edition v is due and only the count of the signals is left to test.
+pub header_signals : (v : ℕ) (b : List ℕ) → is_broken b 0 ≡ false → kind_at b 0 ≡ 1 → length_at b 0 ≡ 14 → two_bytes b 4 ≡ v → (t : Bool)
+    → t ≡ ltb 64 (two_bytes b 8 + two_bytes b 10 + two_bytes b 12) → header_fault_in v b ≡ cond t 4 0
+unfolding header_fault_in header
+header_signals v b whole kind long edition t e =
+    simp (whole, eq-eqb (kind_at b 0) 1 kind, eq-eqb (length_at b 0) 14 long, eq-eqb (two_bytes b 4) v edition, ← e)

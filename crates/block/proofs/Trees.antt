@@ -1,7 +1,7 @@
 -- What a statement that was read satisfies: where it ends, its counts, and that its exits, pauses, numbers and signals are as the
 -- rules ask. One induction on the reading; the kinds differ only in what their own record was tested for.
 use mathlib.Core.Path.{◌≡◌, refl, sym, subst, ◌∙◌, ap}
-use mathlib.Core.Logic.{◌⊎◌, inl, inr, ⊎_elim}
+use mathlib.Core.Logic.{inl, inr, ⊎_elim}
 use mathlib.Core.Bool.{Bool, true, false, cond}
 use mathlib.Core.List.{List, [], ◌∷◌, ◌++◌}
 use Prim.Native.Nat.{ℕ, zero, suc, ◌+◌, ◌≤◌, ◌<◌}

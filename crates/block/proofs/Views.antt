@@ -2,13 +2,14 @@
 use mathlib.Core.Path.{◌≡◌, refl, sym, subst, subst⁻¹}
 use mathlib.Core.Logic.{◌⊎◌, inl, inr, ⊎_elim}
 use mathlib.Core.Bool.{Bool, true, false}
-use mathlib.Core.Option.{Option, none, some}
+use Rattle.std.specs.Prelude.{Option, Some, None}
 use Prim.Native.Nat.{ℕ, ◌≤◌}
 use lib.Dec.{eqb, lit≤}
 use native.Mathlib.Omega.{arith}
 use borrow.Author.Tests.{eqb-true, eqb-false}
 use Rattle.sets.specs.Numbers.{listed}
-use Rattle.tables.specs.Kinds.{Shape, shape, short, long, of_shape, length_of, children_of}
+use Rattle.tables.specs.declared.kinds.Shape.{Shape}
+use Rattle.tables.specs.Kinds.{shape, short, long, of_shape, length_of, children_of}
 use Rattle.tables.proofs.Shapes.{no_kind, no_length}
 
 pub data Leaf : ℕ → Type 0 where
@@ -40,7 +41,7 @@ is? k m = go (eqb k m) refl
     go true e = inl (eqb-true k m e)
     go false e = inr (eqb-false k m e)
 
-at_number : {k : ℕ} (m : ℕ) → Kind m → k ≡ m → Kind k ⊎ (shape k ≡ none)
+at_number : {k : ℕ} (m : ℕ) → Kind m → k ≡ m → Kind k ⊎ (shape k ≡ None)
 at_number m v e = inl (subst Kind (sym e) v)
 
 neither : {P Q : Type 0} → (P → ⊥) → (Q → ⊥) → P ⊎ Q → ⊥
@@ -48,7 +49,7 @@ neither p q (inl x) = p x
 neither p q (inr y) = q y
 
 -- Every number is one of the eleven kinds, or none.
-pub shape? : (k : ℕ) → Kind k ⊎ (shape k ≡ none)
+pub shape? : (k : ℕ) → Kind k ⊎ (shape k ≡ None)
 shape? k =
     ⊎_elim (at_number 16 (leafs a_nothing)) (λ n16.
     ⊎_elim (at_number 17 (leafs a_pause)) (λ n17.
@@ -82,11 +83,14 @@ known (joins a_present) = inr refl
 known (joins a_sequence) = inl refl
 known (joins a_parallel) = inl refl
 
+pub has_shape : {k : ℕ} → Kind k → (s : Shape) × (shape k ≡ Some s)
+has_shape v = ⊎_elim (λ e. (_, e)) (λ e. (_, e)) (known v)
+
 pub known_length : {k : ℕ} → Kind k → (4 ≤ length_of k) × (length_of k ≤ 6)
 unfolding length_of
 known_length {k} v = ⊎_elim (of_length 4 (lit≤ tt) (lit≤ tt)) (of_length 6 (lit≤ tt) (lit≤ tt)) (known v)
   where
-    of_length : (l : ℕ) {o n : ℕ} → 4 ≤ l → l ≤ 6 → shape k ≡ some (record { length = l; operands = o; children = n })
+    of_length : (l : ℕ) {o n : ℕ} → 4 ≤ l → l ≤ 6 → shape k ≡ Some (record { length = l; operands = o; children = n })
         → (4 ≤ of_shape (λ s. s.length) (shape k)) × (of_shape (λ s. s.length) (shape k) ≤ 6)
     of_length l h g e = subst⁻¹ (λ (s : Option Shape). (4 ≤ of_shape (λ s. s.length) s) × (of_shape (λ s. s.length) s ≤ 6)) e (h, g)
 

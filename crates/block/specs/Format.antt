@@ -1,6 +1,6 @@
 -- The block file and its reading: "The block file" of document 01, with the numbers 1 to 8 and their places. The reading is a
 -- function of the block's bytes. Assumes nothing.
-use Rattle.std.specs.Prelude.{Bool, false, not, cond, ◌&&◌, ◌||◌, List, [], ◌∷◌, ℕ, zero, suc, ◌+◌, ◌-◌, ◌*◌, eqb, ltb, leb, length, get_or, take}
+use Rattle.std.specs.Prelude.{Bool, not, cond, ◌&&◌, ◌||◌, List, [], ◌∷◌, ℕ, zero, suc, ◌+◌, ◌-◌, ◌*◌, eqb, ltb, leb, length, get_or, take}
 use Rattle.std.proofs.Math.Option.{Option, none, some}
 use Rattle.sets.specs.Numbers.{Numbers, empty, single, union}
 -- The records follow in preorder; who knows the format takes the order from here.

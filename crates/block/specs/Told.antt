@@ -1,18 +1,15 @@
 -- What the code's structs and enums say, in the words of Format and Table. Assumes nothing.
-use Rattle.std.specs.Prelude.{◌≡◌, cond, List, ℕ, ◌+◌, ◌≤◌, ◌<◌, T, eqb, get_or, length}
-use Rattle.std.proofs.Math.Option.{Option, none, some}
+use Rattle.std.specs.Prelude.{◌≡◌, ℕ, zero, suc, ◌+◌, ◌≤◌, ◌<◌, T, get_or, length, Result, Ok, Err, ⊤}
 use Rattle.refusals.specs.Refusals.{why_of}
+use Rattle.refusals.specs.declared.Refused.{Refused}
 use Rattle.sets.specs.Words.{bits}
-use Rattle.tables.specs.Table.{Table, Has}
+use Rattle.tables.specs.Table.{Has}
+use Rattle.tables.specs.declared.Table.{Table}
 use Rattle.block.specs.Format.{Header, Sofar, Around, Got, got, refused, Good, Reading, good, turned_down}
 use Rattle.block.specs.declared.Declared.{Declared}
 use Rattle.block.specs.declared.Cursor.{Cursor}
 use Rattle.block.specs.declared.Context.{Context}
 use Rattle.block.specs.declared.whole.Summary.{Summary}
-use Rattle.block.specs.declared.whole.Checked.{Checked}
-use Rattle.block.specs.declared.whole.Checked.TheVariants.{Good as GoodBlock, Refused as RefusedBlock}
-use Rattle.block.specs.declared.reader.Read.{Read}
-use Rattle.block.specs.declared.reader.Read.TheVariants.{Got as GotTo, Refused}
 
 -- The header that the code carries.
 abbrev pub header_of : Declared → Header
@@ -38,10 +35,19 @@ pub record Ready (size : ℕ) (d : Declared) (c : Context) (r : Cursor) : Type 0
   pub few_pauses : r.pauses ≤ 128
   pub few_locals : r.locals ≤ d.locals
 
+-- The refusal with a number, at a place.
+abbrev pub refusal_of : ℕ → ℕ → Refused
+refusal_of n at = record { why = why_of n; place = at }
+
+-- The code's answer to the tests of a record at a place, by the number that it gets.
+unfoldable pub tested : ℕ → ℕ → Result ⊤ Refused
+tested zero at = Ok tt
+tested (suc n) at = Err (refusal_of (suc n) at)
+
 -- The code's answer to the reading of a statement.
-unfoldable pub told : Got → Read
-told (got p r) = GotTo (cursor_of r)
-told (refused n at) = Refused n at
+unfoldable pub told : Got → Result Cursor Refused
+told (got p r) = Ok (cursor_of r)
+told (refused n at) = Err (refusal_of n at)
 
 -- A statement that was read stands in the table.
 unfoldable pub Built : Got → ℕ → Table → Type 0
@@ -61,7 +67,7 @@ pub record Full (tab : Table) : Type 0 where
   pub all_sizes : length tab.sizes ≡ 512
 
 -- A statement is read into the table from row i on; the rows below stay.
-pub record Reads (g : Got) (i : ℕ) (before after : Table) (answer : Read) : Type 0 where
+pub record Reads (g : Got) (i : ℕ) (before after : Table) (answer : Result Cursor Refused) : Type 0 where
   pub answered : answer ≡ told g
   pub built : Built g i after
   pub kept : (j : ℕ) → j < i → Same before after j
@@ -78,9 +84,9 @@ summary_of g = record {
   pauses = g.pauses;
 }
 
-unfoldable pub answer_to : Reading → Checked
-answer_to (good g) = GoodBlock (summary_of g)
-answer_to (turned_down n at) = RefusedBlock (why_of n) at
+unfoldable pub answer_to : Reading → Result Summary Refused
+answer_to (good g) = Ok (summary_of g)
+answer_to (turned_down n at) = Err (refusal_of n at)
 
 -- The tree of a good reading stands in the table, from its first row on.
 unfoldable pub InTable : Reading → Table → Type 0
@@ -88,7 +94,7 @@ InTable (good g) tab = Has tab 0 g.body
 InTable (turned_down n at) tab = Unit {0}
 
 -- A whole block is read: the answer, and on a good reading the table.
-pub record ReadWhole (x : Reading) (tab : Table) (answer : Checked) : Type 0 where
+pub record ReadWhole (x : Reading) (tab : Table) (answer : Result Summary Refused) : Type 0 where
   pub answered : answer ≡ answer_to x
   pub stands : InTable x tab
   pub full : Full tab

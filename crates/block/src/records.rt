@@ -7,7 +7,7 @@ pub(crate) fn byte_at(b: &[u8], at: usize) -> u16
     ensures value { result ≡ get_or b.now at 0 }
     ensures upper_bound { result < 256 }
 {
-    if at < b.len() { b[at] as u16 } else { 0 }
+    b.get(at).map_or(0, |&byte| u16::from(byte))
 }
 
 // Two bytes, little-endian.
@@ -19,6 +19,7 @@ pub fn two_bytes(b: &[u8], at: usize) -> u16
 }
 
 // Fewer than 4 bytes are left, or the length is below 4 or above what is left.
+#[tactic(auto, unfolding(crate::specs::Format::is_broken))]
 pub(crate) fn broken(b: &[u8], at: usize) -> bool
     requires { at < 65536 }
     ensures { result ≡ is_broken b.now at }
@@ -27,8 +28,5 @@ pub(crate) fn broken(b: &[u8], at: usize) -> bool
         return true;
     }
     let length = two_bytes(b, at) as usize;
-    if length < 4 {
-        return true;
-    }
-    b.len() - at < length
+    length < 4 || b.len() - at < length
 }

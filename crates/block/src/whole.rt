@@ -4,14 +4,14 @@ ghost use Rattle.rules.specs.Statements.{Stmt};
 ghost use Rattle.tables.specs.Table.{statements};
 ghost use Rattle.block.specs.Format.{got, ended, reading, offset};
 ghost use Rattle.block.specs.Told.{header_of, sofar_of, Full, answer_to, ReadWhole};
-ghost use Rattle.tables.specs.Table.{table_of};
 ghost use Rattle.tables.specs.Codes.{Tabled, Listed};
 
 use crate::faults::header_fault;
-use crate::reader::{Read, read_at};
+use crate::reader::read_at;
 use crate::steps::declared;
 use crate::{Context, Cursor, Declared};
-use refusals::{Why, refusal};
+use refusals::{Refused, Why};
+use tables::Table;
 use tables::kinds::record_length;
 use tables::loops::lowest_endless;
 
@@ -26,53 +26,32 @@ pub struct Summary {
     pub pauses: u16,
 }
 
-// A good block, or why it is turned down and where.
-#[derive(Clone, Copy)]
-pub enum Checked {
-    Good(Summary),
-    Refused(Why, usize),
-}
-
 // The offset of statement n: the header and the records of all statements before it.
-pub fn offset_of(kinds: &[u16; 512], n: usize) -> usize
+pub fn offset_of(table: &Table, n: usize) -> usize
     requires { n ≤ 512 }
-    ensures { (t : Stmt) → Listed kinds.now t → n ≤ statements t → result ≡ offset t n }
+    ensures { (t : Stmt) → Listed table.now.kinds t → n ≤ statements t → result ≡ offset t n }
 {
     let mut at: usize = 14;
-    let mut i: usize = 0;
-    while i < n {
-        at = at + record_length(kinds[i]) as usize;
-        i += 1;
+    for &kind in &table.kinds[..n] {
+        at += usize::from(record_length(kind));
     }
     at
 }
 
 // After the tree: no bytes left, all locals declared, no endless loop.
-fn finished(
-    b: &[u8],
-    d: Declared,
-    r: Cursor,
-    kinds: &[u16; 512],
-    operands: &[u16; 512],
-    sizes: &[u16; 512],
-) -> Checked
+fn finished(b: &[u8], d: Declared, r: Cursor, table: &Table) -> Result<Summary, Refused>
     requires { r.statements ≤ 512 }
-    ensures { (t : Stmt) → Tabled (table_of kinds.now operands.now sizes.now) r.statements t
+    ensures { (t : Stmt) → Tabled table.now r.statements t
         → result ≡ answer_to (ended b.now (header_of d) (got t (sofar_of r))) }
 {
-    let at = r.at;
-    if at != b.len() {
-        return Checked::Refused(Why::Shape, at);
-    }
-    if r.locals != d.locals {
-        return Checked::Refused(Why::Shape, at);
+    if r.at != b.len() || r.locals != d.locals {
+        return Err(Why::Shape.at(r.at));
     }
     let count = r.statements;
-    let n = lowest_endless(kinds, operands, sizes, count);
-    if n < count {
-        return Checked::Refused(Why::Loop, offset_of(kinds, n));
+    if let Some(n) = lowest_endless(table, count) {
+        return Err(Why::Loop.at(offset_of(table, n)));
     }
-    Checked::Good(Summary {
+    Ok(Summary {
         version: d.version,
         inputs: d.inputs,
         outputs: d.outputs,
@@ -83,22 +62,14 @@ fn finished(
 }
 
 // Reads a block into the table: the kind, the operand and the size of each statement.
-pub fn read_block(
-    b: &[u8],
-    kinds: &mut [u16; 512],
-    operands: &mut [u16; 512],
-    sizes: &mut [u16; 512],
-) -> Checked
-    requires { Full (table_of kinds.old operands.old sizes.old) }
-    ensures { ReadWhole (reading b.now) (table_of kinds.new operands.new sizes.new) result }
+pub fn read_block(b: &[u8], table: &mut Table) -> Result<Summary, Refused>
+    requires { Full table.old }
+    ensures { ReadWhole (reading b.now) table.new result }
 {
     if 3086 < b.len() {
-        return Checked::Refused(Why::Limit, 0);
+        return Err(Why::Limit.at(0));
     }
-    let fault = header_fault(b, 1);
-    if fault != 0 {
-        return Checked::Refused(refusal(fault), 0);
-    }
+    header_fault(b, 1)?;
     let d = declared(b);
     let c = Context {
         traps: 0,
@@ -112,9 +83,6 @@ pub fn read_block(
         pauses: 0,
         locals: 0,
     };
-    let tree = read_at(b, d, c, r, kinds, operands, sizes);
-    match tree {
-        Read::Refused(number, place) => Checked::Refused(refusal(number), place),
-        Read::Got(end) => finished(b, d, end, kinds, operands, sizes),
-    }
+    let end = read_at(b, d, c, r, table)?;
+    finished(b, d, end, table)
 }

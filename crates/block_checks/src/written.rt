@@ -1,121 +1,77 @@
-// Calls that write into lent bytes, which hold 165 before. The numbers of a case after the place: how many bytes are lent, and of two blocks 1 where the refusal is of the second.
-// Bytes past what is expected have to stay, and past what is lent.
-use checking::lines::word;
-use checking::{number, say};
-use foldheron::{Likeness, Wrote};
+// Calls that write into lent bytes. The numbers of a case after the place: how many bytes are lent, and of two blocks 1 where the refusal is of the second.
+use checking::lines::Line;
+use checking::{Outcome, say_written, wrote};
+use foldheron::NotCompared;
 use std::io;
 
-pub(crate) fn ask(
+pub(crate) fn compare(
     out: &impl Print,
-    name: &[u8],
-    given: &[u16],
-    block: &[u8],
+    line: Line<'_>,
+    first: &[u8],
     second: &[u8],
     bytes: &[u8],
 ) -> io::Result<()> {
-    let mut lent = [165u8; 4096];
-    ask_front(out, name, given, block, second, bytes.len(), &mut lent)?;
-    say(out, b"  bytes otherwise ", otherwise(&lent, bytes), 0, 0, 0)
-}
-
-fn ask_front(
-    out: &impl Print,
-    name: &[u8],
-    given: &[u16],
-    block: &[u8],
-    second: &[u8],
-    size: usize,
-    lent: &mut [u8],
-) -> io::Result<()> {
-    let room = word(given, 3) as usize;
-    if room <= lent.len() {
-        ask_into(out, name, given, block, second, size, &mut lent[..room])?;
-    }
-    Ok(())
-}
-
-fn ask_into(
-    out: &impl Print,
-    name: &[u8],
-    given: &[u16],
-    block: &[u8],
-    second: &[u8],
-    size: usize,
-    lent: &mut [u8],
-) -> io::Result<()> {
-    match word(given, 0) {
-        13 => compared(
-            out,
-            name,
-            given,
-            size,
-            foldheron::alike(block, second, lent),
-        ),
-        14 => wrote(out, name, given, size, foldheron::double_loops(block, lent)),
-        _ => wrote(out, name, given, size, foldheron::convert(block, lent)),
-    }
-}
-
-fn compared(
-    out: &impl Print,
-    name: &[u8],
-    given: &[u16],
-    size: usize,
-    answer: Likeness,
-) -> io::Result<()> {
-    match answer {
-        Likeness::Alike => told(out, name, given, 0, 0, 0, 0, size),
-        Likeness::Different(length) => told(out, name, given, 0, 0, 0, length, size),
-        Likeness::First(why, place) => told(out, name, given, number(why), place, 0, 0, size),
-        Likeness::Second(why, place) => told(out, name, given, number(why), place, 1, 0, size),
-        Likeness::Refused(why) => told(out, name, given, number(why), 0, 0, 0, size),
-    }
-}
-
-fn wrote(
-    out: &impl Print,
-    name: &[u8],
-    given: &[u16],
-    size: usize,
-    answer: Wrote,
-) -> io::Result<()> {
-    match answer {
-        Wrote::Bytes(count) => told(out, name, given, 0, 0, 0, count, size),
-        Wrote::Refused(why, place) => told(out, name, given, number(why), place, 0, 0, size),
-    }
-}
-
-fn told(
-    out: &impl Print,
-    name: &[u8],
-    given: &[u16],
-    came: u64,
-    place: usize,
-    second: u64,
-    count: usize,
-    size: usize,
-) -> io::Result<()> {
-    crate::rooms::told(out, name, given, came, place)?;
-    say(
+    ask(
         out,
-        b"  of the second, and bytes ",
-        second,
-        count,
-        word(given, 4) as u64,
-        size,
+        line,
+        bytes,
+        |lent| compared(foldheron::alike(first, second, lent)),
     )
 }
 
-// 0 where the bytes are those expected and then 165 alone, else 1.
-fn otherwise(lent: &[u8], bytes: &[u8]) -> u64 {
-    for i in 0..lent.len() {
-        if lent[i] != expected(bytes, i) {
-            return 1;
-        }
-    }
-    0
+pub(crate) fn double(
+    out: &impl Print,
+    line: Line<'_>,
+    block: &[u8],
+    bytes: &[u8],
+) -> io::Result<()> {
+    ask(
+        out,
+        line,
+        bytes,
+        |lent| wrote(foldheron::double_loops(block, lent)),
+    )
 }
 
-fn expected(bytes: &[u8], i: usize) -> u8 {
-    if i < bytes.len() { bytes[i] } else { 165 }
+pub(crate) fn convert(
+    out: &impl Print,
+    line: Line<'_>,
+    block: &[u8],
+    bytes: &[u8],
+) -> io::Result<()> {
+    ask(
+        out,
+        line,
+        bytes,
+        |lent| wrote(foldheron::convert(block, lent)),
+    )
+}
+
+fn ask<F: FnOnce(&mut [u8]) -> (Outcome, Outcome)>(
+    out: &impl Print,
+    line: Line<'_>,
+    bytes: &[u8],
+    call: F,
+) -> io::Result<()>
+    requires { F.IsAlwaysCallable call }
+{
+    let expected = Outcome(line.number(4).into(), bytes.len());
+    say_written(
+        out,
+        line,
+        b"  of the second, and bytes ",
+        expected,
+        bytes,
+        call,
+    )
+}
+
+// The outcome of two blocks, then 1 where it is the second's, and how many bytes the run has.
+fn compared(answer: Result<Option<usize>, NotCompared>) -> (Outcome, Outcome) {
+    match answer {
+        Ok(size) => (Outcome(0, 0), Outcome(0, size.unwrap_or(0))),
+        Err(NotCompared::First(refused)) => (refused.into(), Outcome(0, 0)),
+        Err(NotCompared::Second(refused)) => (refused.into(), Outcome(1, 0)),
+        Err(NotCompared::Both(why)) => (why.at(0).into(), Outcome(0, 0)),
+    }
 }

@@ -1,89 +1,67 @@
 // The calls that take blocks alone, with no state.
-use printing::{put_numbers, put_until};
+use answers::blocks;
+use printing::{put_answer, put_until};
 use std::io;
 
 // What is lent for an output holds this byte, with which none ends.
 const LENT: u8 = 165;
 
 pub fn maze(out: &impl Print, block: &[u8], inputs: u64) -> io::Result<()> {
-    let numbers = answers::blocks::maze(block, inputs);
-    print!(out; "maze")?;
-    put_numbers(out, &numbers, 5)
+    put_answer(out, "maze", &blocks::maze(block, inputs))
 }
 
-// A call that writes an output, into so many bytes; the line of one that lends more than there is stays empty.
-pub fn written(
+// The line of a call that writes an output, into so many bytes; it stays empty where these are more than there are.
+fn written<F: FnOnce(&mut [u8]) -> io::Result<()>>(
     out: &impl Print,
-    kind: u64,
-    block: &[u8],
-    beside: &[u8],
     size: usize,
-) -> io::Result<()> {
-    let mut lent = [LENT; 65536];
-    written_front(out, kind, block, beside, &mut lent, size)
-}
-
-fn written_front(
-    out: &impl Print,
-    kind: u64,
-    block: &[u8],
-    beside: &[u8],
-    lent: &mut [u8],
-    size: usize,
-) -> io::Result<()> {
-    if size <= lent.len() {
-        written_into(out, kind, block, beside, &mut lent[..size])?;
-    }
-    Ok(())
-}
-
-fn written_into(
-    out: &impl Print,
-    kind: u64,
-    block: &[u8],
-    beside: &[u8],
-    lent: &mut [u8],
-) -> io::Result<()> {
-    match kind {
-        13 => alike(out, block, beside, lent),
-        14 => copies(out, block, lent),
-        15 => read_text(out, block, lent),
-        16 => write_text(out, block, lent),
-        _ => convert(out, block, lent),
-    }
-}
-
-fn alike(out: &impl Print, first: &[u8], second: &[u8], run: &mut [u8]) -> io::Result<()> {
-    let numbers = answers::blocks::alike(first, second, run);
-    print!(out; "alike")?;
-    put_numbers(out, &numbers, 4)?;
-    put_until(out, run, LENT)
-}
-
-fn copies(out: &impl Print, block: &[u8], lent: &mut [u8]) -> io::Result<()> {
-    let numbers = answers::blocks::copies(block, lent);
-    print!(out; "copies")?;
-    put_numbers(out, &numbers, 3)?;
+    line: F,
+) -> io::Result<()>
+    requires { F.IsAlwaysCallable line }
+{
+    let mut room = [LENT; 65536];
+    let Some(lent) = room.get_mut(..size) else {
+        return Ok(());
+    };
+    line(lent)?;
     put_until(out, lent, LENT)
 }
 
-fn convert(out: &impl Print, block: &[u8], lent: &mut [u8]) -> io::Result<()> {
-    let numbers = answers::blocks::convert(block, lent);
-    print!(out; "convert")?;
-    put_numbers(out, &numbers, 3)?;
-    put_until(out, lent, LENT)
+pub fn alike(out: &impl Print, first: &[u8], second: &[u8], size: usize) -> io::Result<()> {
+    written(
+        out,
+        size,
+        |run| put_answer(out, "alike", &blocks::alike(first, second, run)),
+    )
 }
 
-fn read_text(out: &impl Print, text: &[u8], block: &mut [u8]) -> io::Result<()> {
-    let numbers = answers::blocks::read_text(text, block);
-    print!(out; "readtext")?;
-    put_numbers(out, &numbers, 3)?;
-    put_until(out, block, LENT)
+pub fn copies(out: &impl Print, block: &[u8], size: usize) -> io::Result<()> {
+    written(
+        out,
+        size,
+        |lent| put_answer(out, "copies", &blocks::copies(block, lent)),
+    )
 }
 
-fn write_text(out: &impl Print, block: &[u8], text: &mut [u8]) -> io::Result<()> {
-    let numbers = answers::blocks::write_text(block, text);
-    print!(out; "writetext")?;
-    put_numbers(out, &numbers, 3)?;
-    put_until(out, text, LENT)
+pub fn convert(out: &impl Print, block: &[u8], size: usize) -> io::Result<()> {
+    written(
+        out,
+        size,
+        |lent| put_answer(out, "convert", &blocks::convert(block, lent)),
+    )
+}
+
+pub fn read_text(out: &impl Print, text: &[u8], size: usize) -> io::Result<()> {
+    written(
+        out,
+        size,
+        |block| put_answer(out, "readtext", &blocks::read_text(text, block)),
+    )
+}
+
+pub fn write_text(out: &impl Print, block: &[u8], size: usize) -> io::Result<()> {
+    written(
+        out,
+        size,
+        |text| put_answer(out, "writetext", &blocks::write_text(block, text)),
+    )
 }

@@ -1,91 +1,104 @@
 // Lines of text: a name, a bar, and numbers.
-ghost use Rattle.std.specs.Prelude.{◌≡◌, ◌≤◌, length};
+ghost use Rattle.std.specs.Iterator.{at_most};
 
-// Where the numbers of a line ended, and how many there were.
+use crate::Outcome;
+use std::io;
+
+// The numbers of a line, each up to a byte that is no digit, modulo 65,536. So many are left at most.
 #[derive(Clone, Copy)]
-pub struct Line {
-    pub count: usize,
-    pub at: usize,
+pub struct Numbers<'a> {
+    text: &'a [u8],
+    left: usize,
 }
 
-// The place of the next bar, or the end.
-pub fn bar_after(text: &[u8], from: usize) -> usize
-    ensures { result ≤ length text.now }
+impl Iterator for Numbers<'_> {
+    type Item = u16;
+
+    ghost remaining = { λ s. at_most s.left };
+
+    fn next(&mut self) -> Option<u16> {
+        let end = self.text.iter().position(|byte| !byte.is_ascii_digit())?;
+        self.left = self.left.checked_sub(1)?;
+        let digits = &self.text[..end];
+        self.text = &self.text[end + 1..];
+        Some(
+            digits.iter().fold(0, |n: u16, digit| {
+                n.wrapping_mul(10).wrapping_add(u16::from(digit & 0xf))
+            }),
+        )
+    }
+}
+
+// The same, three at a time.
+#[derive(Clone, Copy)]
+pub(crate) struct Triples<'a>(pub(crate) Numbers<'a>);
+
+impl Iterator for Triples<'_> {
+    type Item = [u16; 3];
+
+    ghost remaining = { λ s. at_most s.0.left };
+
+    fn next(&mut self) -> Option<[u16; 3]> {
+        Some([self.0.next()?, self.0.next()?, self.0.next()?])
+    }
+}
+
+#[derive(Clone, Copy)]
+pub struct Line<'a> {
+    pub name: &'a [u8],
+    pub numbers: Numbers<'a>,
+}
+
+impl<'a> Line<'a> {
+    // The line at the front of a text, with so many numbers at most, and what comes after it.
+    pub fn split(text: &'a [u8], most: usize) -> (Line<'a>, &'a [u8]) {
+        let (name, after) = until(text, b'|');
+        let end = after
+            .iter()
+            .position(|byte| *byte == b'\n')
+            .map_or(after.len(), |at| at + 1);
+        let (text, rest) = after.split_at(end);
+        let numbers = Numbers { text, left: most };
+        (Line { name, numbers }, rest)
+    }
+
+    // A number of the line, and 0 past the last.
+    pub fn number(&self, i: usize) -> u16 {
+        let mut numbers = self.numbers;
+        numbers.nth(i).unwrap_or(0)
+    }
+
+    // The number and the place that are expected, the second from `i` on.
+    pub fn expected(&self, i: usize) -> Outcome {
+        let mut numbers = self.numbers.skip(i);
+        let number = numbers.next().unwrap_or(0);
+        Outcome(number.into(), numbers.next().unwrap_or(0).into())
+    }
+}
+
+// The text up to a mark, and what comes after the mark and the byte behind it.
+pub fn until(text: &[u8], mark: u8) -> (&[u8], &[u8]) {
+    let end = text
+        .iter()
+        .position(|byte| *byte == mark)
+        .unwrap_or(text.len());
+    (&text[..end], text.get(end + 2..).unwrap_or(&[]))
+}
+
+// Goes through a text by its cases: each takes what is left of the text, and gives back what comes after it.
+pub fn each_case<'a, F: FnMut(&'a [u8]) -> io::Result<&'a [u8]>>(
+    text: &'a [u8],
+    mut case: F,
+) -> io::Result<()>
+    requires { F.IsAlwaysCallable case }
 {
-    for at in from..text.len() {
-        if text[at] == b'|' {
-            return at;
+    let mut rest = text;
+    // A case takes a byte at least.
+    for _ in 0..text.len() {
+        if rest.is_empty() {
+            break;
         }
+        rest = case(rest)?;
     }
-    text.len()
-}
-
-fn store(given: &mut [u16], n: usize, x: u16) -> usize {
-    if n < given.len() {
-        given[n] = x;
-        return n + 1;
-    }
-    n
-}
-
-// A digit's value, and 10 for any other byte.
-fn digit(b: u8) -> u32
-    ensures { result ≤ 10 }
-{
-    match b {
-        48..=57 => wide(b - 48),
-        _ => 10,
-    }
-}
-
-fn wide(x: u8) -> u32
-    ensures { result ≡ x }
-{
-    x as u32
-}
-
-// The numbers up to the end of the line; each ends at a byte that is no digit.
-pub fn numbers(text: &[u8], from: usize, given: &mut [u16]) -> Line {
-    let mut at = from;
-    let mut count: usize = 0;
-    let mut x: u32 = 0;
-    while at < text.len() {
-        let b = text[at];
-        at += 1;
-        let d = digit(b);
-        if d < 10 {
-            x = (x * 10 + d) % 65536;
-        } else {
-            count = store(given, count, x as u16);
-            x = 0;
-            if b == 10 {
-                return Line { count, at };
-            }
-        }
-    }
-    Line { count, at }
-}
-
-// A number of the line, and 0 past the last.
-pub fn word(given: &[u16], i: usize) -> u16 {
-    if i < given.len() { given[i] } else { 0 }
-}
-
-// The first len bytes.
-pub fn part(bytes: &[u8], len: usize) -> &[u8] {
-    if len <= bytes.len() {
-        &bytes[..len]
-    } else {
-        &bytes[..0]
-    }
-}
-
-// The bytes from one place to another.
-pub fn between(bytes: &[u8], from: usize, to: usize) -> &[u8] {
-    if from <= to {
-        if to <= bytes.len() {
-            return &bytes[from..to];
-        }
-    }
-    &bytes[..0]
+    Ok(())
 }

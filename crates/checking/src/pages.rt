@@ -1,136 +1,106 @@
-// Blocks and states written for the cases: a page of bytes, filled from its front, and some as they are.
-use crate::lines::{Line, bar_after, numbers, word};
+// Blocks and states written for the cases.
+use crate::changed;
+use crate::lines::{Line, Triples};
 use block::Declared;
 use writing::{put_header, put_record};
 
-// One byte more, while there is room.
-fn put(page: &mut [u8], at: usize, byte: u8) -> usize {
-    if at < page.len() {
-        page[at] = byte;
-        return at + 1;
-    }
-    at
+// A page of zeros, filled from its front while there is room.
+#[derive(Drop)]
+struct Page<'a> {
+    bytes: &'a mut [u8],
+    len: usize,
 }
 
-// A header of version 7, where there is room.
-fn header(page: &mut [u8], inputs: u16, outputs: u16, locals: u16) -> usize {
-    if page.len() < 14 {
-        return 0;
-    }
-    put_header(
-        page,
-        Declared {
-            version: 7,
-            inputs: inputs,
-            outputs: outputs,
-            locals: locals,
-        },
-    );
-    14
-}
-
-// Two bytes more, the lower first, while there is room.
-fn pair(page: &mut [u8], at: usize, number: u16) -> usize {
-    let next = put(page, at, (number % 256) as u8);
-    put(page, next, (number / 256) as u8)
-}
-
-// A record of 6 bytes by its kind, while there is room.
-fn with_operand(page: &mut [u8], at: usize, kind: u16, operand: u16) -> usize {
-    let a = pair(page, at, 6);
-    let b = pair(page, a, kind);
-    pair(page, b, operand)
-}
-
-// A record of 4 bytes by its kind, while there is room.
-fn without_operand(page: &mut [u8], at: usize, kind: u16) -> usize {
-    let a = pair(page, at, 4);
-    pair(page, a, kind)
-}
-
-// A statement's record by its kind, while there is room: of kinds that edition 1 does not have as well, 6 bytes for 33 to 35 and else 4.
-fn statement(page: &mut [u8], at: usize, kind: u16, operand: u16) -> usize {
-    match kind {
-        0..=26 => narrow(page, at, kind, operand),
-        33..=35 => with_operand(page, at, kind, operand),
-        _ => without_operand(page, at, kind),
-    }
-}
-
-// One of edition 1.
-fn narrow(page: &mut [u8], at: usize, kind: u16, operand: u16) -> usize {
-    if page.len() < 6 {
-        return at;
-    }
-    if page.len() - 6 < at {
-        return at;
-    }
-    put_record(page, at, kind, operand)
-}
-
-// The same record so many times, while there is room.
-fn repeated(page: &mut [u8], at: usize, times: u16, kind: u16, operand: u16) -> usize {
-    let mut to = at;
-    for _ in 0..times {
-        to = statement(page, to, kind, operand);
-    }
-    to
-}
-
-// Records from triples: how many times, kind and operand.
-fn records(page: &mut [u8], given: &[u16], count: usize) -> usize {
-    let mut at = header(page, word(given, 3), word(given, 4), word(given, 5));
-    let mut i: usize = 6;
-    while i < count {
-        if count - i < 3 {
-            return at;
+impl Page<'_> {
+    fn put(&mut self, bytes: &[u8]) {
+        for byte in bytes {
+            if let Some(to) = self.bytes.get_mut(self.len) {
+                *to = *byte;
+                self.len += 1;
+            }
         }
-        at = repeated(
-            page,
-            at,
-            word(given, i),
-            word(given, i + 1),
-            word(given, i + 2),
-        );
-        i += 3;
     }
-    at
-}
 
-// The same with a header of edition 2.
-fn records_2(page: &mut [u8], given: &[u16], count: usize) -> usize {
-    let size = records(page, given, count);
-    put(page, 4, 2);
-    size
-}
-
-// Bytes as they are given.
-fn bytes(page: &mut [u8], given: &[u16], count: usize) -> usize {
-    let mut at: usize = 0;
-    for i in 3..count {
-        at = put(page, at, (word(given, i) % 256) as u8);
+    // Numbers of two bytes each, the lower first.
+    fn put_pairs(&mut self, numbers: &[u16]) {
+        for n in numbers {
+            self.put(&n.to_le_bytes());
+        }
     }
-    at
-}
 
-// The block of a case, by its form, the third of the given numbers. 0: inputs, outputs, locals, then for the statements how many times, kind and
-// operand. 1: bytes. 2: how many bytes, all 0. 3: as 0, of edition 2.
-pub fn block(page: &mut [u8], given: &[u16], count: usize) -> usize {
-    match word(given, 2) {
-        0 => records(page, given, count),
-        1 => bytes(page, given, count),
-        3 => records_2(page, given, count),
-        _ => word(given, 3) as usize,
+    // A header of version 7.
+    fn put_header(&mut self, inputs: u16, outputs: u16, locals: u16) {
+        if self.bytes.len() >= 14 {
+            let declared = Declared {
+                version: 7,
+                inputs,
+                outputs,
+                locals,
+            };
+            put_header(self.bytes, declared);
+            self.len = 14;
+        }
+    }
+
+    // A statement's record by its kind: of kinds that edition 1 does not have as well, 6 bytes for 33 to 35 and else 4.
+    fn put_statement(&mut self, kind: u16, operand: u16) {
+        match kind {
+            0..=26 => self.put_record(kind, operand),
+            33..=35 => self.put_pairs(&[6, kind, operand]),
+            _ => self.put_pairs(&[4, kind]),
+        }
+    }
+
+    // One of edition 1, where there is room for the longest.
+    fn put_record(&mut self, kind: u16, operand: u16) {
+        if self.bytes.len() >= 6 && self.len <= self.bytes.len() - 6 {
+            self.len = put_record(self.bytes, self.len, kind, operand);
+        }
+    }
+
+    // Inputs, outputs and locals, then for the statements how many times, kind and operand.
+    fn put_records(&mut self, line: Line<'_>) {
+        self.put_header(line.number(3), line.number(4), line.number(5));
+        let mut numbers = line.numbers;
+        numbers.nth(5);
+        for [times, kind, operand] in Triples(numbers) {
+            for _ in 0..times {
+                self.put_statement(kind, operand);
+            }
+        }
     }
 }
 
-// The bytes that a line of text makes: how many, and where the line ended.
-pub fn made(text: &[u8], from: usize, page: &mut [u8]) -> Line {
-    let bar = bar_after(text, from);
-    let mut given = [0u16; 1500];
-    let line = numbers(text, bar + 2, &mut given);
-    let count = block(page, &given, line.count);
-    Line { count, at: line.at }
+impl<'a> Line<'a> {
+    // The block of a case in a page of zeros, by its form, the third of the line's numbers. 0: inputs, outputs, locals, then for the statements how many times, kind
+    // and operand. 1: bytes. 2: how many bytes, all 0. 3: as 0, of edition 2. A block that does not fit has no bytes.
+    pub fn block<'p>(&self, page: &'p mut [u8]) -> &'p [u8] {
+        let mut made = Page {
+            bytes: page,
+            len: 0,
+        };
+        match self.number(2) {
+            0 => made.put_records(*self),
+            1 => {
+                for n in self.numbers.skip(3) {
+                    made.put(&[(n & 0xff) as u8]);
+                }
+            }
+            3 => {
+                made.put_records(*self);
+                changed(made.bytes, 4, 2);
+            }
+            _ => made.len = self.number(3) as usize,
+        }
+        let Page { bytes, len } = made;
+        bytes.get(..len).unwrap_or(&[])
+    }
+}
+
+// The block that the line at the front of a text makes, and what comes after the line.
+pub fn made<'p, 't>(text: &'t [u8], page: &'p mut [u8]) -> (&'p [u8], &'t [u8]) {
+    let (line, rest) = Line::split(text, 1500);
+    (line.block(page), rest)
 }
 
 // A state record by its version, statement count, phase and the lowest byte of its pauses.

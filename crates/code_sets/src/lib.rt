@@ -9,7 +9,7 @@ ghost use Rattle.sets.specs.Words.{bits};
 pub fn has_code(codes: u32, n: u32) -> bool
     ensures { n < 32 → result ≡ bits codes n }
 {
-    if n < 32 { (codes >> n) % 2 == 1 } else { false }
+    n < 32 && (codes >> n) % 2 == 1
 }
 
 // Codes down: 0 and 2 become 0, 1 stays 1, k above 2 becomes k - 1.

@@ -3,22 +3,19 @@
 use mathlib.Core.Path.{◌≡◌, refl, sym, ap, ◌∙◌, subst, subst⁻¹, fun_ext}
 use mathlib.Core.Bool.{Bool, true, cond}
 use mathlib.Core.List.{List}
-use Prim.Native.Nat.{ℕ, ◌+◌, ◌≤◌, ◌<◌}
+use Prim.Native.Nat.{ℕ, ◌+◌, ◌≤◌}
 use native.Mathlib.Omega.{arith}
 use lib.Dec.{leb, leb→le}
 use lib.ListN.{length}
 use lib.Seq.{sets, length-sets}
 use Rattle.sets.proofs.Members.{of_true, and_left, and_right}
-use Rattle.rules.specs.Statements.{Depth, statements, preorder}
-use Rattle.refusals.specs.Refusals.{number}
-use Rattle.refusals.specs.declared.Why.{Why}
-use Rattle.block.specs.declared.Declared.{Declared}
-use Rattle.block.specs.Format.{LIMIT, Header, begun, outermost, bytes}
+use Rattle.rules.specs.Statements.{Depth, preorder}
+use Rattle.std.specs.Prelude.{Result, Ok, Err}
+use Rattle.refusals.specs.declared.Refused.{Refused}
+use Rattle.block.specs.Format.{LIMIT, Header, begun, outermost}
 use Rattle.writing.specs.Written.{records, header_bytes, block_bytes}
 use Rattle.writing.specs.Answers.{Writing, writes, refuses, roomed, wrote_values, wrote_owed, out_owed}
-use Rattle.writing.specs.declared.Wrote.{Wrote}
-use Rattle.writing.specs.declared.Wrote.TheVariants.{Refused}
-use Rattle.writing.proofs.Stores.{too_few, enough, block_stored, block_length, out_written}
+use Rattle.writing.proofs.Stores.{too_few, enough, block_stored, block_length, out_written, fits_in, does_not_fit}
 use Rattle.doubled.specs.Copies.{within_limits}
 use Rattle.everyday.specs.Statements.{Everyday}
 use Rattle.everyday.specs.Conversion.{as_it_is, pauses_made, converted}
@@ -33,28 +30,25 @@ use Rattle.convert.specs.Marks.{marks_of}
 use Rattle.convert.specs.Walk.{sends, Recorded, Walks, WrittenOut}
 use Rattle.convert.specs.Scans.{Convertible, ScanTold}
 use Rattle.convert.specs.declared.scan.Scanned.{Scanned}
-use Rattle.convert.specs.declared.scan.Scanned.TheVariants.{Good, Refused as TurnedDown}
 use Rattle.convert.specs.declared.walk.Marks.{Marks}
 use Rattle.convert.specs.declared.walk.Spot.{Spot}
 use Rattle.convert.proofs.ReadLaws.{read_as}
 
 -- What the call owes for a block: its answer and every byte.
-pub record Owed (w : Writing) (before after : List ℕ) (r : Wrote) : Type 0 where
+pub record Owed (w : Writing) (before after : List ℕ) (r : Result ℕ Refused) : Type 0 where
   pub answered : wrote_values r ≡ wrote_owed (roomed w (length before))
   pub stored : after ≡ out_owed (roomed w (length before)) before
 
-pub refusal_passed : (b before : List ℕ) (w : Why) (at : ℕ) → converting b ≡ refuses (number w) at → Owed (converting b) before before (Refused w at)
-unfolding roomed wrote_values wrote_owed out_owed
-refusal_passed b before w at e = subst⁻¹ (λ (x : Writing). Owed x before before (Refused w at)) e (record { answered = refl; stored = refl })
+-- A refusal of the reader is passed on.
+pub refusal_passed : (b before : List ℕ) {q : Result Scanned Refused} {e : Refused} → ScanTold b q → q ≡ Err e → Owed (converting b) before before (Err e)
+unfolding ScanTold roomed wrote_values wrote_owed out_owed
+refusal_passed b before {e = e} t i =
+    subst⁻¹ (λ (x : Writing). Owed x before before (Err e)) (subst (ScanTold b) i t) (record { answered = refl; stored = refl })
 
 -- What the reader told.
-pub good_told : (b : List ℕ) {q : Scanned} {d : Declared} {n : ℕ} → ScanTold b q → q ≡ Good d n → Convertible b d n
+pub good_told : (b : List ℕ) {q : Result Scanned Refused} {s : Scanned} → ScanTold b q → q ≡ Ok s → Convertible b s.declared s.size
 unfolding ScanTold
 good_told b t e = subst (ScanTold b) e t
-
-pub refusal_told : (b : List ℕ) {q : Scanned} {w : Why} {at : ℕ} → ScanTold b q → q ≡ TurnedDown w at → converting b ≡ refuses (number w) at
-unfolding ScanTold
-refusal_told b t e = subst (ScanTold b) e t
 
 -- Where the walk begins.
 abbrev start : Spot
@@ -89,7 +83,7 @@ module _ (b : List ℕ) (h : Header) (p : Everyday) {size : ℕ} (read : reading
   size_is : length whole ≡ size
   size_is = bytes_by_size h p ∙ sym sized
 
-  owed : {before after : List ℕ} {r : Wrote} → Owed (writes whole) before after r → Owed (converting b) before after r
+  owed : {before after : List ℕ} {r : Result ℕ Refused} → Owed (writes whole) before after r → Owed (converting b) before after r
   owed {before} {after} {r} o = subst⁻¹ (λ (x : Writing). Owed x before after r) writing o
 
   pub recorded : Recorded b 14 p
@@ -111,22 +105,29 @@ module _ (b : List ℕ) (h : Header) (p : Everyday) {size : ℕ} (read : reading
         fewer = omega arith;
       }
 
-  pub room_answered : (before : List ℕ) {r : Wrote} → ((bs : List ℕ) → length bs ≡ size → wrote_values r ≡ wrote_owed (roomed (writes bs) (length before))) → length before < size
-      → Owed (converting b) before before r
-  unfolding out_owed
-  room_answered before {r} f l =
-      owed (record { answered = f whole size_is; stored = sym (ap (λ (x : Writing). out_owed x before) (too_few whole (length before) (omega (arith, size_is)))) })
+  -- The room, by what the test of it answered.
+  module _ (before : List ℕ) {r : Result ℕ Refused} (f : (bs : List ℕ) → length bs ≡ size → wrote_values r ≡ wrote_owed (roomed (writes bs) (length before))) where
+    pub room_answered : {refusal : Refused} → r ≡ Err refusal → Owed (converting b) before before (Err refusal)
+    unfolding out_owed
+    room_answered {refusal} w =
+        let l = does_not_fit whole (length before) refusal (sym (ap wrote_values w) ∙ f whole size_is) in
+        subst (λ (x : Result ℕ Refused). Owed (converting b) before before x) w
+        (owed (record { answered = f whole size_is; stored = sym (ap (λ (x : Writing). out_owed x before) (too_few whole (length before) l)) }))
 
-  pub all_converted : (before : List ℕ) {now after : List ℕ} {end : Spot} {r : Wrote}
-      → ((bs : List ℕ) → length bs ≡ size → wrote_values r ≡ wrote_owed (roomed (writes bs) (length before))) → size ≤ length before → now ≡ sets before 0 (header_bytes h)
-      → WrittenOut p no_marks start end now after → Owed (converting b) before after r
-  unfolding converted
-  all_converted before {now} {after} f l e w =
-      let made : made_bytes (sends no_marks) p ≡ records (preorder (converted p)) = ap (λ (out : Depth → Depth). made_bytes out p) sends_none ∙ sym (records_made as_it_is 0 p) in
-      let fits : length whole ≤ length before = omega (arith, size_is) in
-      owed (record {
-        answered = f whole size_is;
-        stored = w.stored ∙ ap (λ (l : List ℕ). sets now 14 l) made ∙ ap (λ (l : List ℕ). sets l 14 (records (preorder (converted p)))) e ∙ block_stored before h (converted p)
-            ∙ out_written before h (converted p) (omega (arith, block_length h (converted p)))
-            ∙ sym (ap (λ (x : Writing). out_owed x before) (enough whole (length before) fits));
-      })
+    module _ {k : ℕ} (w : r ≡ Ok k) where
+      pub enough_lent : size ≤ length before
+      enough_lent = omega (arith, size_is, (fits_in whole (length before) k (sym (ap wrote_values w) ∙ f whole size_is)).1)
+
+      pub all_converted : {now after : List ℕ} {end : Spot} → now ≡ sets before 0 (header_bytes h) → WrittenOut p no_marks start end now after → Owed (converting b) before after (Ok k)
+      unfolding converted
+      all_converted {now} {after} e o =
+          let made : made_bytes (sends no_marks) p ≡ records (preorder (converted p)) = ap (λ (out : Depth → Depth). made_bytes out p) sends_none ∙ sym (records_made as_it_is 0 p) in
+          let l = enough_lent in
+          let fits : length whole ≤ length before = omega (arith, size_is) in
+          subst (λ (x : Result ℕ Refused). Owed (converting b) before after x) w
+          (owed (record {
+            answered = f whole size_is;
+            stored = o.stored ∙ ap (λ (l : List ℕ). sets now 14 l) made ∙ ap (λ (l : List ℕ). sets l 14 (records (preorder (converted p)))) e ∙ block_stored before h (converted p)
+                ∙ out_written before h (converted p) (omega (arith, block_length h (converted p)))
+                ∙ sym (ap (λ (x : Writing). out_owed x before) (enough whole (length before) fits));
+          }))

@@ -5,11 +5,10 @@ use mathlib.Core.List.{List}
 use mathlib.Core.Option.{some}
 use Prim.Native.Nat.{ℕ, ◌+◌}
 use native.Mathlib.Omega.{arith}
+use Rattle.std.specs.Prelude.{Option, Some, None}
 use Rattle.sets.specs.Numbers.{listed}
-use Rattle.tables.specs.Kinds.{Shape, shape, wide_shape, wire_of}
-use Rattle.tables.specs.declared.kinds.Shape.{Shape as Coded}
-use Rattle.tables.specs.declared.kinds.Wire.{Wire}
-use Rattle.tables.specs.declared.kinds.Wire.TheVariants.{Allowed, Unknown}
+use Rattle.tables.specs.Kinds.{shape, wide_shape}
+use Rattle.tables.specs.declared.kinds.Shape.{Shape}
 use Rattle.block.specs.Format.{kind_at, operand_at}
 use Rattle.converting.specs.Format.{Sort, sort_of, has_operand, record_length}
 use Rattle.converting.proofs.Sorts.{IsSort, is_nothing, is_pause, is_emit, is_present, is_suspend, is_sequence, is_loop, is_parallel, is_trap, is_exit, is_local}
@@ -19,7 +18,7 @@ use Rattle.convert.specs.Walk.{sort_at, children, HeadAt}
 abbrev shape_in : Sort → Shape
 shape_in s = record { length = record_length s; operands = cond (has_operand s) 1 0; children = children s }
 
-shaped_as : {k x : ℕ} {s : Sort} → IsSort k x s → wide_shape k ≡ some (shape_in s)
+shaped_as : {k x : ℕ} {s : Sort} → IsSort k x s → wide_shape k ≡ Some (shape_in s)
 unfolding wide_shape shape listed
 shaped_as is_nothing = refl
 shaped_as is_pause = refl
@@ -38,34 +37,29 @@ shaped_as is_await = refl
 shaped_as is_abort = refl
 
 -- The record of kind k and operand x stands for s: the code is told its shape.
-told_shape : (k x : ℕ) {s : Sort} {w : Wire} → sort_of k x ≡ some s → w ≡ wire_of (wide_shape k)
-    → w ≡ Allowed (record { length = record_length s; operands = cond (has_operand s) 1 0; children = children s })
-unfolding wire_of
-told_shape k x {s} e f = f ∙ ap wire_of (shaped_as (sort_seen k x s e))
+module _ (b : List ℕ) (at : ℕ) {k x : ℕ} (k_is : k ≡ kind_at b at) (x_is : x ≡ operand_at b at) {w : Option Shape} (told : w ≡ wide_shape k) where
+  told_shape : (s : Sort) → sort_at b at ≡ some s → w ≡ Some (record { length = record_length s; operands = cond (has_operand s) 1 0; children = children s })
+  told_shape s e = told ∙ shaped_as (sort_seen k x s (ap₂ sort_of k_is x_is ∙ e))
 
-module _ (b : List ℕ) (at : ℕ) {k x : ℕ} (k_is : k ≡ kind_at b at) (x_is : x ≡ operand_at b at) {w : Wire} (told : w ≡ wire_of (wide_shape k)) where
-  here : {s : Sort} → sort_at b at ≡ some s → sort_of k x ≡ some s
-  here e = ap₂ sort_of k_is x_is ∙ e
-
-  pub head_known : {c : Coded} {n : ℕ} → w ≡ Allowed c → n ≡ c.length → HeadAt b at (record { kind = k; operand = x; behind = at + n; children = c.children })
+  pub head_known : {c : Shape} {n : ℕ} → w ≡ Some c → n ≡ c.length → HeadAt b at (record { kind = k; operand = x; behind = at + n; children = c.children })
   head_known {c} {n} f l = record {
     its_kind = k_is;
     its_operand = x_is;
     its_behind = λ s e.
-        let g = told_shape k x (here e) told in
+        let g = told_shape s e in
         let y : c.length ≡ record_length s = cc in
         ap (λ (n : ℕ). at + n) (l ∙ y);
     its_children = λ s e.
-        let g = told_shape k x (here e) told in
+        let g = told_shape s e in
         let y : c.children ≡ children s = cc in
         y;
   }
 
-  pub head_unknown : w ≡ Unknown → HeadAt b at (record { kind = k; operand = x; behind = at; children = 0 })
+  pub head_unknown : w ≡ None → HeadAt b at (record { kind = k; operand = x; behind = at; children = 0 })
   head_unknown f = record { its_kind = k_is; its_operand = x_is; its_behind = λ s e. never s e; its_children = λ s e. never s e }
     where
       never : {P : Type 0} (s : Sort) → sort_at b at ≡ some s → P
       never s e =
-          let g = told_shape k x (here e) told in
+          let g = told_shape s e in
           let z : ◌≡◌ {A = ℕ} 0 1 = cc in
           absurd (omega arith)

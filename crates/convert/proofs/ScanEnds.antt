@@ -1,5 +1,5 @@
 -- The ends of the reading of a whole block of edition 2: each return of the code is one of them. Assumes nothing.
-use mathlib.Core.Path.{◌≡◌, refl, sym, ◌∙◌, ap, ap₂, subst, subst⁻¹}
+use mathlib.Core.Path.{◌≡◌, refl, sym, ◌∙◌, ap, ap₂, subst⁻¹}
 use mathlib.Core.Bool.{Bool, true, false, not, cond, ◌&&◌, ◌||◌}
 use mathlib.Core.List.{List}
 use mathlib.Core.Option.{Option, none, some}
@@ -11,17 +11,19 @@ use lib.ListN.{length}
 use borrow.Author.Tests.{eq-eqb, ne_eqb, le-ltb, lt-ltb, le-leb, lt-leb, ltb-true, ltb-false}
 use Rattle.sets.proofs.Words.{bits_zero}
 use Rattle.sets.proofs.Members.{ext, of_false}
-use Rattle.refusals.specs.Refusals.{number, why_of}
+use Rattle.std.specs.Prelude.{Some, None, Result, Ok, Err}
+use Rattle.refusals.specs.Refusals.{number}
+use Rattle.refusals.specs.declared.Refused.{Refused}
 use Rattle.refusals.specs.declared.Why.{Why}
 use Rattle.refusals.specs.declared.Why.TheVariants.{Limit, Shape, Loop}
 use Rattle.refusals.proofs.Laws.{number_back, of_a_block}
-use Rattle.tables.specs.Codes.{number_or}
 use Rattle.block.specs.Format.{two_bytes, kind_at, length_at, is_broken, Header, header, header_fault_in, Sofar, Around as Surroundings, outermost, begun}
-use Rattle.block.specs.Told.{header_of, sofar_of, around_of, Ready}
+use Rattle.block.specs.Told.{header_of, sofar_of, around_of, Ready, refusal_of, tested, told}
 use Rattle.block.specs.declared.Declared.{Declared}
 use Rattle.block.specs.declared.Cursor.{Cursor}
 use Rattle.block.specs.declared.Context.{Context}
 use Rattle.block.proofs.Passes.{none_of}
+use Rattle.block.proofs.Ways.{tests_refused, tests_passed}
 use Rattle.writing.specs.Answers.{writes, refuses}
 use Rattle.writing.specs.Written.{block_bytes}
 use Rattle.doubled.specs.Copies.{within_limits}
@@ -31,15 +33,12 @@ use Rattle.converting.specs.Format.{Got₂, got₂, read₂, lowest_endless₂, 
 use Rattle.converting.specs.Conversions.{converting_tree, converting_of, converting}
 use Rattle.converting.specs.Sizes.{fits}
 use Rattle.converting.proofs.Sizes.{limits_by_size}
-use Rattle.convert.specs.Scans.{Takes, Taken, Scans, over_limits, EndsAs, Ends, Convertible, ScanTold}
+use Rattle.convert.specs.Scans.{Takes, Taken, Scans, answer_of, over_limits, EndsAs, Ends, Convertible, ScanTold}
 use Rattle.convert.specs.declared.scan.Sizes.{Sizes}
 use Rattle.convert.specs.declared.scan.Measured.{Measured}
-use Rattle.convert.specs.declared.scan.Found.{Found}
-use Rattle.convert.specs.declared.scan.Found.TheVariants.{Got, Refused}
 use Rattle.convert.specs.declared.scan.Scanned.{Scanned}
-use Rattle.convert.specs.declared.scan.Scanned.TheVariants.{Good, Refused as TurnedDown}
 use Rattle.convert.proofs.ScanWays.{was_refused, WasGot, was_got}
-use Rattle.convert.proofs.ScanMeasures.{endless_later, small_sizes}
+use Rattle.convert.proofs.ScanMeasures.{small_sizes}
 
 -- The result is within the limits where none is passed.
 at_most : (n x : ℕ) → leb x n ≡ not (ltb n x)
@@ -66,13 +65,16 @@ within_is h p s l t =
     ∙ (λ i. at_most 512 s.statements i && (at_most 128 s.pauses i && (at_most 16 s.traps i && (at_most 6 s.nested i && at_most 64 s.path i))))
     ∙ none_passed (ltb 512 s.statements) (ltb 128 s.pauses) (ltb 16 s.traps) (ltb 6 s.nested) (ltb 64 s.path)
 
-found : (o : Option ℕ) (n : ℕ) → n ≡ number_or 0 o → (n ≡ 0 → ⊥) → o ≡ some n
-found none n e z = absurd (z e)
-found (some k) n e z = ap some (sym e)
+found : (o : Option ℕ) {n : ℕ} → answer_of o ≡ Some n → o ≡ some n
+found none e = let z : ◌≡◌ {A = ℕ} 0 1 = cc in absurd (omega arith)
+found (some k) {n} e = let i : k ≡ n = cc in ap some i
 
-found_none : (o : Option ℕ) (n : ℕ) → ((i : ℕ) → o ≡ some i → 0 < i) → n ≡ number_or 0 o → n ≡ 0 → o ≡ none
-found_none none n f e z = refl
-found_none (some k) n f e z = absurd (omega (arith, f k refl, e, z))
+found_none : (o : Option ℕ) → answer_of o ≡ None → o ≡ none
+found_none none e = refl
+found_none (some k) e = let z : ◌≡◌ {A = ℕ} 0 1 = cc in absurd (omega arith)
+
+abbrev refusal : Why → ℕ → Result Scanned Refused
+refusal why place = Err (record { why = why; place = place })
 
 -- After the tree.
 module _ (b : List ℕ) (d : Declared) (m : Measured) (signals : d.inputs + d.outputs + d.locals ≤ 64) where
@@ -85,7 +87,7 @@ module _ (b : List ℕ) (d : Declared) (m : Measured) (signals : d.inputs + d.ou
   locals_are : {p : Everyday} {r₁ : Sofar} → Taken h begun p r₁ m → m.after.locals ≡ r₁.locals
   locals_are t = ap (λ (z : Cursor). z.locals) t.its_end
 
-  pub end_bytes : (m.after.at ≡ length b → ⊥) → Ends b d m (TurnedDown Shape m.after.at)
+  pub end_bytes : (m.after.at ≡ length b → ⊥) → Ends b d m (refusal Shape m.after.at)
   unfolding EndsAs converting_of number
   end_bytes n = record {
     of_tree = λ p r₁ t.
@@ -94,7 +96,7 @@ module _ (b : List ℕ) (d : Declared) (m : Measured) (signals : d.inputs + d.ou
         ∙ ap (refuses 7) (sym (place_is t));
   }
 
-  pub end_locals : m.after.at ≡ length b → (m.after.locals ≡ d.locals → ⊥) → Ends b d m (TurnedDown Shape m.after.at)
+  pub end_locals : m.after.at ≡ length b → (m.after.locals ≡ d.locals → ⊥) → Ends b d m (refusal Shape m.after.at)
   unfolding EndsAs converting_of number
   end_locals e n = record {
     of_tree = λ p r₁ t.
@@ -109,18 +111,17 @@ module _ (b : List ℕ) (d : Declared) (m : Measured) (signals : d.inputs + d.ou
         λ i. cond (eq-eqb r₁.place (length b) (sym (place_is t) ∙ e) i && eq-eqb r₁.locals h.locals (sym (locals_are t) ∙ l) i)
         (loops_checked₂ h p (lowest_endless₂ 14 p)) (turned_down₂ 7 r₁.place)
 
-    pub end_loop : (m.endless ≡ 0 → ⊥) → Ends b d m (TurnedDown Loop m.endless)
+    pub end_loop : {at : ℕ} → m.endless ≡ Some at → Ends b d m (refusal Loop at)
     unfolding EndsAs converting_of number
     end_loop n = record {
       of_tree = λ p r₁ t.
-          ap converting_of (whole t ∙ ap (loops_checked₂ h p) (found (lowest_endless₂ 14 p) m.endless t.its_loops n));
+          ap converting_of (whole t ∙ ap (loops_checked₂ h p) (found (lowest_endless₂ 14 p) (sym t.its_loops ∙ n)));
     }
 
-    passing : {p : Everyday} {r₁ : Sofar} → m.endless ≡ 0 → Taken h begun p r₁ m → ended₂ b h (got₂ p r₁) ≡ good₂ h p
-    passing {p} z t =
-        whole t ∙ ap (loops_checked₂ h p) (found_none (lowest_endless₂ 14 p) m.endless (λ i f. let g = endless_later 14 p i f in omega arith) t.its_loops z)
+    passing : {p : Everyday} {r₁ : Sofar} → m.endless ≡ None → Taken h begun p r₁ m → ended₂ b h (got₂ p r₁) ≡ good₂ h p
+    passing {p} z t = whole t ∙ ap (loops_checked₂ h p) (found_none (lowest_endless₂ 14 p) (sym t.its_loops ∙ z))
 
-    pub end_limit : m.endless ≡ 0 → over_limits m.sizes ≡ true → Ends b d m (TurnedDown Limit 0)
+    pub end_limit : m.endless ≡ None → over_limits m.sizes ≡ true → Ends b d m (refusal Limit 0)
     unfolding EndsAs converting_of converting_tree number
     end_limit z o = record {
       of_tree = λ p r₁ t.
@@ -128,7 +129,7 @@ module _ (b : List ℕ) (d : Declared) (m : Measured) (signals : d.inputs + d.ou
           ∙ ap (λ (y : Bool). cond y (writes (block_bytes h (converted p))) (refuses 4 0)) (within_is h p m.sizes signals t.its_sizes ∙ ap not o);
     }
 
-    pub end_good : m.endless ≡ 0 → over_limits m.sizes ≡ false → Ends b d m (Good d (14 + m.sizes.bytes))
+    pub end_good : m.endless ≡ None → over_limits m.sizes ≡ false → Ends b d m (Ok (record { declared = d; size = 14 + m.sizes.bytes }))
     unfolding EndsAs
     end_good z o = record {
       of_tree = λ p r₁ t.
@@ -141,7 +142,7 @@ module _ (b : List ℕ) where
   abbrev headed : Reading₂
   headed = cond (eqb (header_fault₂ b) 0) (ended₂ b (header b) (read₂ 64 b (header b) outermost begun)) (turned_down₂ (header_fault₂ b) 0)
 
-  pub over_size : 3086 < length b → ScanTold b (TurnedDown Limit 0)
+  pub over_size : 3086 < length b → ScanTold b (refusal Limit 0)
   unfolding ScanTold converting converting_of reading₂ number
   over_size l = ap (λ (z : Bool). converting_of (cond z (turned_down₂ 4 0) headed)) (lt-ltb 3086 (length b) l)
 
@@ -161,22 +162,31 @@ module _ (b : List ℕ) where
   unfolding header_fault₂
   same_header = refl
 
-  named : (n : ℕ) {w : Why} → 1 ≤ n → n ≤ 8 → w ≡ why_of n → n ≡ number w
-  named n l u e = sym (ap number e ∙ number_back n (of_a_block n l u))
+  pub no_fault : {q : Result (Unit {0}) Refused} → q ≡ tested (header_fault_in 2 b) 0 → q ≡ Ok tt → header_fault_in 2 b ≡ 0
+  no_fault told i = tests_passed (header_fault_in 2 b) 0 (sym told ∙ i)
 
   module _ (fits_block : length b ≤ 3086) where
     sized : reading₂ b ≡ headed
     unfolding reading₂
     sized = ap (λ (z : Bool). cond z (turned_down₂ 4 0) headed) (le-ltb 3086 (length b) fits_block)
 
-    pub bad_header : (n : ℕ) {w : Why} → n ≡ header_fault_in 2 b → (n ≡ 0 → ⊥) → w ≡ why_of n → ScanTold b (TurnedDown w 0)
-    unfolding ScanTold converting converting_of
-    bad_header n {w} e z named_so =
-        let f : header_fault₂ b ≡ n = same_header ∙ sym e in
-        let s = header_small in
-        ap converting_of (sized ∙ ap (λ (k : ℕ). cond (eqb k 0) (ended₂ b (header b) (read₂ 64 b (header b) outermost begun)) (turned_down₂ k 0)) f
+    bad_number : (header_fault_in 2 b ≡ 0 → ⊥) → converting b ≡ refuses (header_fault_in 2 b) 0
+    unfolding converting converting_of
+    bad_number z =
+        let n = header_fault_in 2 b in
+        ap converting_of (sized ∙ ap (λ (k : ℕ). cond (eqb k 0) (ended₂ b (header b) (read₂ 64 b (header b) outermost begun)) (turned_down₂ k 0)) same_header
         ∙ ap (λ (y : Bool). cond y (ended₂ b (header b) (read₂ 64 b (header b) outermost begun)) (turned_down₂ n 0)) (ne_eqb n 0 z))
-        ∙ ap (λ (k : ℕ). refuses k 0) (named n (pos_of_ne-zero z) (omega arith) named_so)
+
+    pub bad_header : {q : Result (Unit {0}) Refused} {r : Refused} {x : Result Scanned Refused} → q ≡ tested (header_fault_in 2 b) 0 → q ≡ Err r → x ≡ Err r → ScanTold b x
+    unfolding ScanTold told
+    bad_header {r = r} answer i j =
+        let n = header_fault_in 2 b in
+        let p = tests_refused n 0 (sym answer ∙ i) in
+        let same : refusal_of n 0 ≡ r = let e = p.1 in cc in
+        let s = header_small in
+        subst⁻¹ (ScanTold b) j
+        (bad_number p.0
+        ∙ ap₂ refuses (sym (number_back n (of_a_block n (pos_of_ne-zero p.0) (omega arith))) ∙ ap (λ (x : Refused). number x.why) same) (ap (λ (x : Refused). x.place) same))
 
     module _ (d : Declared) (declares : header_of d ≡ header b) (fault : header_fault_in 2 b ≡ 0) where
       abbrev c₀ : Context
@@ -225,14 +235,12 @@ module _ (b : List ℕ) where
           sized ∙ ap (λ (k : ℕ). cond (eqb k 0) (ended₂ b (header b) (read₂ 64 b (header b) outermost begun)) (turned_down₂ k 0)) (same_header ∙ fault)
           ∙ ap₂ (ended₂ b) (sym declares) reads_as
 
-      module _ {q : Found} (scanned : Scans (header_of d) (sofar_of r₀) statements_of q) where
-        pub tree_refused : {n at : ℕ} {w : Why} → q ≡ Refused n at → w ≡ why_of n → ScanTold b (TurnedDown w at)
+      module _ {q : Result Measured Refused} (scanned : Scans (header_of d) (sofar_of r₀) statements_of q) where
+        pub tree_refused : {e : Refused} {x : Result Scanned Refused} → q ≡ Err e → x ≡ Err e → ScanTold b x
         unfolding ScanTold converting converting_of
-        tree_refused {n} {at} {w} e named_so =
-            let f = was_refused scanned e in
-            ap converting_of (reading_ends ∙ ap (ended₂ b (header_of d)) f.0) ∙ ap (λ (k : ℕ). refuses k at) (named n f.1 f.2 named_so)
+        tree_refused e i = subst⁻¹ (ScanTold b) i (ap converting_of (reading_ends ∙ ap (ended₂ b (header_of d)) (was_refused scanned e)))
 
-        module _ {m : Measured} (e : q ≡ Got m) where
+        module _ {m : Measured} (e : q ≡ Ok m) where
           got_it : WasGot (header_of d) begun statements_of m
           got_it = was_got scanned e
 
@@ -243,16 +251,16 @@ module _ (b : List ℕ) where
               let l = t.few_statements in
               (small_sizes got_it.tree (omega arith) t.its_sizes).few_bytes
 
-          pub tree_ends : (x : Scanned) → Ends b d m x → ScanTold b x
+          pub tree_ends : (x : Result Scanned Refused) → Ends b d m x → ScanTold b x
           unfolding ScanTold EndsAs converting converting_of converting_tree
           tree_ends x ends = go x (ends.of_tree got_it.tree got_it.end got_it.taken)
             where
               as_got : reading₂ b ≡ ended₂ b (header_of d) (got₂ got_it.tree got_it.end)
               as_got = reading_ends ∙ ap (ended₂ b (header_of d)) got_it.got_it
 
-              go : (x : Scanned) → EndsAs b d got_it.tree got_it.end x → ScanTold b x
-              go (TurnedDown w at) f = ap converting_of as_got ∙ f
-              go (Good d' size) f = subst⁻¹ (λ (z : Declared). Convertible b z size) f.0 (record {
+              go : (x : Result Scanned Refused) → EndsAs b d got_it.tree got_it.end x → ScanTold b x
+              go (Err e) f = ap converting_of as_got ∙ f
+              go (Ok s) f = subst⁻¹ (λ (z : Declared). Convertible b z s.size) f.0 (record {
                 tree = got_it.tree;
                 after = got_it.end;
                 its_header = declares;

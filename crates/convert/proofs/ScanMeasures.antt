@@ -5,23 +5,25 @@ use mathlib.Core.Option.{Option, none, some}
 use Prim.Native.Nat.{ℕ, ◌+◌, ◌*◌, ◌≤◌, ◌<◌, max}
 use native.Mathlib.Omega.{arith}
 use lib.Dec.{eqb, ltb}
-use borrow.Author.Tests.{eq-eqb, ne_eqb, le-ltb, lt-ltb}
+use borrow.Author.Tests.{ne_eqb, le-ltb, lt-ltb}
 use mathlib.Core.Logic.{⊎_elim}
+use Rattle.std.specs.Prelude.{Option as Answer, Some, None}
+use Rattle.std.specs.Option.{option_or}
 use Rattle.sets.specs.Numbers.{Numbers}
 use Rattle.sets.specs.Words.{bits}
 use Rattle.block.specs.declared.Cursor.{Cursor}
 use Rattle.block.proofs.Views.{is?}
-use Rattle.tables.specs.Codes.{codes_for, number_or}
+use Rattle.tables.specs.Codes.{codes_for}
 use Rattle.everyday.specs.Statements.{Alone, nothing, pause, halt, emit, sustain, await, exit, Around, suspend_on, loop, trap, local, abort_when}
 use Rattle.everyday.specs.Statements.{Between, present_then_else, in_sequence, in_parallel, Everyday, alone, around, between, is_stop}
-use Rattle.everyday.specs.Check.{codes_alone, codes_around, codes_between, may_stand, codes₂}
+use Rattle.everyday.specs.Check.{codes_alone, codes_around, codes_between, codes₂}
 use Rattle.everyday.specs.Conversion.{watches, pauses_made}
 use Rattle.converting.specs.Format.{Sort, of_none, of_one, of_two, record_length, or_else, bytes₂, lowest_endless₂}
 use Rattle.converting.specs.Sizes.{size₂}
 use Rattle.converting.proofs.Sorts.{IsSort, is_nothing, is_pause, is_emit, is_present, is_suspend, is_sequence, is_loop, is_parallel, is_trap, is_exit}
 use Rattle.converting.proofs.Sorts.{is_local, is_halt, is_sustain, is_await, is_abort}
 use Rattle.convert.specs.Scans.{tested_as, coded_as, sized_as, alone_sizes, onto_sizes, abort_sizes, around_sizes, both_sizes, between_sizes}
-use Rattle.convert.specs.Scans.{SmallSizes, OfNone, OfOne, OfTwo, Takes, records_in, over_limits}
+use Rattle.convert.specs.Scans.{SmallSizes, OfNone, OfOne, OfTwo, Takes, records_in, answer_of, over_limits}
 use Rattle.convert.specs.declared.scan.Sizes.{Sizes}
 use Rattle.convert.specs.declared.scan.Measured.{Measured}
 
@@ -69,12 +71,6 @@ pub between_plain : (k : ℕ) (p q : Sizes) → (k ≡ 19 → ⊥) → between_s
 unfolding between_sizes
 between_plain k p q a = simp (ne_eqb k 19 a)
 
-pub first_missing : (m n : ℕ) → m ≡ 0 → cond (eqb m 0) n m ≡ n
-first_missing m n e = ap (λ (z : Bool). cond z n m) (eq-eqb m 0 e)
-
-pub first_there : (m n : ℕ) → (m ≡ 0 → ⊥) → cond (eqb m 0) n m ≡ m
-first_there m n e = ap (λ (z : Bool). cond z n m) (ne_eqb m 0 e)
-
 pub abort_is : (p : Sizes) (n : ℕ) → n ≡ max (4 + p.path) 6
     → record { statements = 11 + p.statements; pauses = 1 + p.pauses; path = n; traps = 1 + p.traps; nested = p.nested; bytes = 52 + p.bytes } ≡ abort_sizes p
 abort_is p n e = λ i. record { statements = 11 + p.statements; pauses = 1 + p.pauses; path = e i; traps = 1 + p.traps; nested = p.nested; bytes = 52 + p.bytes }
@@ -89,14 +85,14 @@ module _ (k x j w : ℕ) (s : Sizes) (coded : j ≡ coded_as k) where
   abbrev codes_known : ℕ → Numbers → Numbers → Type 0
   codes_known j P Q = (j ≡ 25 → x < 16) → bits w ≡ codes_for j x P Q
 
-  pub of_none_is : (after : Cursor) → codes_known j (bits 0) (bits 0) → s ≡ alone_sizes k → OfNone k x after (record { after = after; codes = w; endless = 0; sizes = s })
+  pub of_none_is : (after : Cursor) → codes_known j (bits 0) (bits 0) → s ≡ alone_sizes k → OfNone k x after (record { after = after; codes = w; endless = None; sizes = s })
   of_none_is after f e = record { its_end = refl; its_codes = subst (λ (j : ℕ). codes_known j (bits 0) (bits 0)) coded f; its_loops = refl; its_sizes = e }
 
-  pub of_one_is : (at l : ℕ) (p : Measured) → codes_known j (bits p.codes) (bits 0) → l ≡ cond (eqb k 22 && bits p.codes 0) at p.endless → s ≡ around_sizes k p.sizes
+  pub of_one_is : (at : ℕ) (l : Answer ℕ) (p : Measured) → codes_known j (bits p.codes) (bits 0) → l ≡ cond (eqb k 22 && bits p.codes 0) (Some at) p.endless → s ≡ around_sizes k p.sizes
       → OfOne k x at p (record { after = p.after; codes = w; endless = l; sizes = s })
   of_one_is at l p f o e = record { its_end = refl; its_codes = subst (λ (j : ℕ). codes_known j (bits p.codes) (bits 0)) coded f; its_loops = o; its_sizes = e }
 
-  pub of_two_is : (l : ℕ) (p q : Measured) → codes_known j (bits p.codes) (bits q.codes) → l ≡ cond (eqb p.endless 0) q.endless p.endless
+  pub of_two_is : (l : Answer ℕ) (p q : Measured) → codes_known j (bits p.codes) (bits q.codes) → l ≡ option_or p.endless q.endless
       → s ≡ between_sizes k p.sizes q.sizes → OfTwo k x p q (record { after = q.after; codes = w; endless = l; sizes = s })
   of_two_is l p q f o e = record { its_end = refl; its_codes = subst (λ (j : ℕ). codes_known j (bits p.codes) (bits q.codes)) coded f; its_loops = o; its_sizes = e }
 
@@ -168,49 +164,30 @@ between_coded P Q is_present = refl
 between_coded P Q is_sequence = refl
 between_coded P Q is_parallel = refl
 
--- The lowest endless loop. Where the statement's record is not at 0, neither is it.
-pub endless_later : (at : ℕ) (p : Everyday) (n : ℕ) → lowest_endless₂ at p ≡ some n → at ≤ n
+-- The lowest endless loop.
+chosen : (z : Bool) (at : ℕ) (o : Option ℕ) → cond z (Some at) (answer_of o) ≡ answer_of (cond (not z) o (some at))
+chosen true at o = refl
+chosen false at o = refl
+
+pub around_endless : {k x : ℕ} {f : Around} (at : ℕ) (p : Everyday) → IsSort k x (of_one f)
+    → cond (eqb k 22 && codes₂ p 0) (Some at) (answer_of (lowest_endless₂ (at + record_length (of_one f)) p)) ≡ answer_of (lowest_endless₂ at (around f p))
 unfolding lowest_endless₂
-endless_later at (alone a) n e = let z : ◌≡◌ {A = ℕ} 0 1 = cc in absurd (omega arith)
-endless_later at (around f p) n e = go (may_stand f (codes₂ p)) e (endless_later (at + record_length (of_one f)) p n)
-  where
-    go : (z : Bool) → cond z (lowest_endless₂ (at + record_length (of_one f)) p) (some at) ≡ some n
-        → (lowest_endless₂ (at + record_length (of_one f)) p ≡ some n → at + record_length (of_one f) ≤ n) → at ≤ n
-    go true e k = let l = k e in omega arith
-    go false e k = let q : at ≡ n = cc in omega arith
-endless_later at (between o p q) n e =
-    go (lowest_endless₂ (at + record_length (of_two o)) p) refl e (endless_later (at + record_length (of_two o)) p n) (endless_later (at + record_length (of_two o) + bytes₂ p) q n)
-  where
-    go : (y : Option ℕ) → lowest_endless₂ (at + record_length (of_two o)) p ≡ y → or_else y (lowest_endless₂ (at + record_length (of_two o) + bytes₂ p) q) ≡ some n
-        → (lowest_endless₂ (at + record_length (of_two o)) p ≡ some n → at + record_length (of_two o) ≤ n)
-        → (lowest_endless₂ (at + record_length (of_two o) + bytes₂ p) q ≡ some n → at + record_length (of_two o) + bytes₂ p ≤ n) → at ≤ n
-    go none d e f g = let l = g e in omega arith
-    go (some m) d e f g = let l = f (d ∙ e) in omega arith
+around_endless at p is_suspend = refl
+around_endless at p is_loop = chosen (codes₂ p 0) at (lowest_endless₂ (at + 4) p)
+around_endless at p is_trap = refl
+around_endless at p is_local = refl
+around_endless at p is_abort = refl
 
-chosen : (z : Bool) (at m : ℕ) (o : Option ℕ) → m ≡ number_or 0 o → cond z at m ≡ number_or 0 (cond (not z) o (some at))
-chosen true at m o e = refl
-chosen false at m o e = e
+either_one : (y z : Option ℕ) → option_or (answer_of y) (answer_of z) ≡ answer_of (or_else y z)
+either_one none z = refl
+either_one (some i) z = refl
 
-pub around_endless : {k x : ℕ} {f : Around} (at m : ℕ) (p : Everyday) → IsSort k x (of_one f) → m ≡ number_or 0 (lowest_endless₂ (at + record_length (of_one f)) p)
-    → cond (eqb k 22 && codes₂ p 0) at m ≡ number_or 0 (lowest_endless₂ at (around f p))
+pub between_endless : (at at₂ : ℕ) (o : Between) (p q : Everyday) → at₂ ≡ at + record_length (of_two o) + bytes₂ p
+    → option_or (answer_of (lowest_endless₂ (at + record_length (of_two o)) p)) (answer_of (lowest_endless₂ at₂ q)) ≡ answer_of (lowest_endless₂ at (between o p q))
 unfolding lowest_endless₂
-around_endless at m p is_suspend e = e
-around_endless at m p is_loop e = chosen (codes₂ p 0) at m (lowest_endless₂ (at + 4) p) e
-around_endless at m p is_trap e = e
-around_endless at m p is_local e = e
-around_endless at m p is_abort e = e
-
-either_one : (y z : Option ℕ) (m n : ℕ) → ((i : ℕ) → y ≡ some i → 0 < i) → m ≡ number_or 0 y → n ≡ number_or 0 z → cond (eqb m 0) n m ≡ number_or 0 (or_else y z)
-either_one none z m n f d e = first_missing m n d ∙ e
-either_one (some i) z m n f d e = let l = f i refl in first_there m n (λ q. omega arith) ∙ d
-
-pub between_endless : (at m n at₂ : ℕ) (o : Between) (p q : Everyday) → 0 < at → at₂ ≡ at + record_length (of_two o) + bytes₂ p
-    → m ≡ number_or 0 (lowest_endless₂ (at + record_length (of_two o)) p) → n ≡ number_or 0 (lowest_endless₂ at₂ q)
-    → cond (eqb m 0) n m ≡ number_or 0 (lowest_endless₂ at (between o p q))
-unfolding lowest_endless₂
-between_endless at m n at₂ o p q l s d e =
-    either_one (lowest_endless₂ (at + record_length (of_two o)) p) (lowest_endless₂ (at + record_length (of_two o) + bytes₂ p) q) m n
-    (λ i f. let g = endless_later (at + record_length (of_two o)) p i f in omega arith) d (subst (λ (j : ℕ). n ≡ number_or 0 (lowest_endless₂ j q)) s e)
+between_endless at at₂ o p q s =
+    ap (λ (j : ℕ). option_or (answer_of (lowest_endless₂ (at + record_length (of_two o)) p)) (answer_of (lowest_endless₂ j q))) s
+    ∙ either_one (lowest_endless₂ (at + record_length (of_two o)) p) (lowest_endless₂ (at + record_length (of_two o) + bytes₂ p) q)
 
 -- The sizes.
 takes : {s : Sizes} {p : Everyday} → s.statements ≡ (size₂ p).statements → s.pauses ≡ pauses_made p → s.path ≡ (size₂ p).path → s.traps ≡ (size₂ p).traps

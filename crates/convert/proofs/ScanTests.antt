@@ -1,22 +1,27 @@
 -- A record of edition 2 is tested as one of a kind of edition 1: at each of the fifteen kinds by computation, and at every other number by its length. Assumes nothing.
-use mathlib.Core.Path.{◌≡◌, refl, sym, ◌∙◌, ap}
+use mathlib.Core.Path.{◌≡◌, refl, sym, ◌∙◌, ap, subst}
 use mathlib.Core.Logic.{⊎_elim}
 use mathlib.Core.Bool.{Bool, true, false, not, cond, ◌||◌}
 use mathlib.Core.List.{List}
 use mathlib.Core.Option.{Option, none, some}
-use Prim.Native.Nat.{ℕ, suc, ◌+◌, ◌≤◌, ◌<◌}
+use Prim.Native.Nat.{ℕ, zero, suc, ◌+◌, ◌≤◌, ◌<◌}
 use native.Mathlib.Nat.{add-zero}
 use native.Mathlib.Numerals.{add-one}
 use native.Mathlib.Omega.{arith}
 use lib.Dec.{eqb, leb, lit≤}
 use lib.ListN.{length}
 use borrow.Author.Tests.{ne_eqb, lt-leb, le-leb, leb-false}
+use Rattle.std.specs.Prelude.{Option as Answer, Some, Result, Err}
+use Rattle.refusals.specs.Refusals.{number, why_of}
+use Rattle.refusals.specs.declared.Why.TheVariants.{Shape as ShapeFault}
+use Rattle.refusals.specs.declared.Refused.{Refused}
+use Rattle.refusals.proofs.Laws.{number_back, of_a_block}
 use Rattle.sets.specs.Numbers.{listed, union, single}
-use Rattle.tables.specs.Kinds.{Shape, shape, wide_shape, length_of, wire_of}
-use Rattle.tables.specs.declared.kinds.Shape.{Shape as Coded}
-use Rattle.tables.specs.declared.kinds.Wire.TheVariants.{Allowed, Unknown}
+use Rattle.tables.specs.Kinds.{shape, wide_shape, length_of}
+use Rattle.tables.specs.declared.kinds.Shape.{Shape}
 use Rattle.tables.proofs.Shapes.{no_length}
 use Rattle.block.specs.Format.{Header, Sofar, Around as Surroundings, kind_at, operand_at, length_at, is_broken, over_limit, wrong_signal, wrong_exit, fault_as, past, inside}
+use Rattle.block.specs.Told.{tested as answered}
 use Rattle.block.proofs.Tests.{or_false}
 use Rattle.block.proofs.Views.{Kind, leafs, aboves, joins, a_nothing, a_pause, an_emit, an_exit, a_suspend, a_loop, a_trap, a_local, a_present, a_sequence, a_parallel, shape?}
 use Rattle.block.proofs.Passes.{broken_none}
@@ -24,7 +29,7 @@ use Rattle.everyday.specs.Statements.{Around}
 use Rattle.converting.specs.Format.{Sort, of_none, of_one, of_two, sort_of, has_operand, record_length, over_limit₂, wrong_signal₂, wrong_exit₂, Due, at_fault, stands, sorted, due, past₂, inside₂}
 use Rattle.converting.proofs.Sorts.{IsSort, sort_seen, is_nothing, is_pause, is_emit, is_present, is_suspend, is_sequence, is_loop, is_parallel, is_trap, is_exit}
 use Rattle.converting.proofs.Sorts.{is_local, is_halt, is_sustain, is_await, is_abort}
-use Rattle.convert.specs.Scans.{tested_as, fault_of}
+use Rattle.convert.specs.Scans.{tested_as, fault_of, FaultTold}
 
 -- How many statements stand below, and what stands around them.
 abbrev pub children_in : Sort → ℕ
@@ -37,8 +42,8 @@ below (of_none l) a = a
 below (of_one f) a = inside₂ f a
 below (of_two o) a = a
 
-abbrev its_wire : Sort → Option Shape
-its_wire s = some (record { length = record_length s; operands = cond (has_operand s) 1 0; children = children_in s })
+abbrev shape_in : Sort → Answer Shape
+shape_in s = Some (record { length = record_length s; operands = cond (has_operand s) 1 0; children = children_in s })
 
 -- The tests of a record of kind k and operand x, and what it counts, are those of its likeness.
 pub record Tested (k x : ℕ) (s : Sort) : Type 0 where
@@ -48,7 +53,7 @@ pub record Tested (k x : ℕ) (s : Sort) : Type 0 where
   pub its_exit : (a : Surroundings) → wrong_exit₂ a s ≡ wrong_exit a (tested_as k) x
   pub its_past : (r : Sofar) → past₂ s r ≡ past (tested_as k) r
   pub its_inside : (a : Surroundings) → below s a ≡ inside (tested_as k) x a
-  pub its_shape : wide_shape k ≡ its_wire s
+  pub its_shape : wide_shape k ≡ shape_in s
 
 unchanged : (a : Surroundings) → a ≡ record { traps = a.traps + 0; nested = a.nested + 0; scope = a.scope }
 unchanged a = λ i. record { traps = sym (add-zero a.traps) i; nested = sym (add-zero a.nested) i; scope = a.scope }
@@ -64,7 +69,7 @@ own_limit_is room r z = ap (λ (y : Bool). eqb room 0 || (leb 512 r.statements |
 
 as_its_likeness : {k x : ℕ} {s : Sort} → record_length s ≡ length_of (tested_as k) → ((room : ℕ) (a : Surroundings) (r : Sofar) → over_limit₂ room a r s ≡ over_limit room a r (tested_as k))
     → ((h : Header) (a : Surroundings) (r : Sofar) → wrong_signal₂ h a r s ≡ wrong_signal h a r (tested_as k) x) → ((a : Surroundings) → wrong_exit₂ a s ≡ wrong_exit a (tested_as k) x)
-    → ((r : Sofar) → past₂ s r ≡ past (tested_as k) r) → ((a : Surroundings) → below s a ≡ inside (tested_as k) x a) → wide_shape k ≡ its_wire s → Tested k x s
+    → ((r : Sofar) → past₂ s r ≡ past (tested_as k) r) → ((a : Surroundings) → below s a ≡ inside (tested_as k) x a) → wide_shape k ≡ shape_in s → Tested k x s
 as_its_likeness l m g e p i w = record { its_length = l; its_limit = m; its_signal = g; its_exit = e; its_past = p; its_inside = i; its_shape = w }
 
 pub tested : {k x : ℕ} {s : Sort} → IsSort k x s → Tested k x s
@@ -86,24 +91,17 @@ tested is_await = as_its_likeness refl (λ room a r. refl) (λ h a r. sym (or_fa
 tested is_abort = as_its_likeness refl (λ room a r. refl) (λ h a r. sym (or_false _)) (λ a. refl) (λ r. refl) unchanged refl
 
 -- The shape that the code has in hand.
-pub record Shaped₂ (k : ℕ) (s : Sort) (c : Coded) : Type 0 where
+pub record Shaped₂ (k : ℕ) (s : Sort) (c : Shape) : Type 0 where
   pub length_is : c.length ≡ length_of (tested_as k)
   pub children_are : c.children ≡ children_in s
 
-pub shaped₂ : {k x : ℕ} {s : Sort} {c : Coded} → IsSort k x s → wire_of (wide_shape k) ≡ Allowed c → Shaped₂ k s c
-unfolding wire_of
+pub shaped₂ : {k x : ℕ} {s : Sort} {c : Shape} → IsSort k x s → wide_shape k ≡ Some c → Shaped₂ k s c
 shaped₂ {k} {x} {s} {c} v e =
     let t = tested v in
-    let f : wire_of (its_wire s) ≡ Allowed c = ap wire_of (sym t.its_shape) ∙ e in
+    let f : shape_in s ≡ Some c = sym t.its_shape ∙ e in
     let l : record_length s ≡ c.length = cc in
     let n : children_in s ≡ c.children = cc in
     record { length_is = sym l ∙ t.its_length; children_are = sym n }
-
-pub known₂ : {k x : ℕ} {s : Sort} → IsSort k x s → wire_of (wide_shape k) ≡ Unknown → ⊥
-unfolding wire_of
-known₂ {k} {x} {s} v e =
-    let f : wire_of (its_wire s) ≡ Unknown = ap wire_of (sym (tested v).its_shape) ∙ e in
-    let z : ◌≡◌ {A = ℕ} 0 1 = cc in omega arith
 
 -- A number that is no kind of edition 2 has no length.
 some_not : {A P : Type 0} {y : A} → some y ≡ none → P
@@ -234,3 +232,23 @@ module _ (room : ℕ) (b : List ℕ) (h : Header) (a : Surroundings) (r : Sofar)
   pub due_shape : length b ≤ r.place → fault_of (due room b h a r) ≡ 7
   unfolding due fault_of
   due_shape l = ap (λ (z : Bool). fault_of (cond z (at_fault 7) if_left)) (le-leb (length b) r.place l)
+
+  -- Its number is that of a refusal.
+  pub named : {n : ℕ} → n ≡ fault_of (due room b h a r) → (n ≡ 0 → ⊥) → number (why_of n) ≡ n
+  unfolding fault_of
+  named {n} e z = go due?
+    where
+      go : Seen room b h a r → number (why_of n) ≡ n
+      go (seen_fault m q l) = let f : n ≡ suc m = e ∙ ap fault_of q in number_back n (of_a_block n (omega arith) (omega arith))
+      go (seen s q l v) = absurd (z (e ∙ ap fault_of q))
+
+  -- What the tests of a due record tell.
+  pub shape_told : length b ≤ r.place → FaultTold (due room b h a r) r.place (Err (record { why = ShapeFault; place = r.place }))
+  unfolding number
+  shape_told l = record { passed = tt; its_number = sym (due_shape l); its_place = refl }
+
+  pub tests_told : (n : ℕ) {q : Result (Unit {0}) Refused} → n ≡ fault_of (due room b h a r) → q ≡ answered n r.place → FaultTold (due room b h a r) r.place q
+  unfolding answered
+  tests_told zero e told = subst (FaultTold (due room b h a r) r.place) (sym told) (record { passed = sym e; its_number = tt; its_place = tt })
+  tests_told (suc n) e told =
+      subst (FaultTold (due room b h a r) r.place) (sym told) (record { passed = tt; its_number = named e (λ f. omega arith) ∙ e; its_place = refl })

@@ -7,6 +7,12 @@ use native.Mathlib.Numerals.{add-one}
 use native.Mathlib.Omega.{arith}
 use lib.Dec.{eqb}
 use lib.ListN.{length}
+use Rattle.std.specs.Prelude.{Some, Result, Ok, Err, IsErr}
+use Rattle.std.specs.Result.{IsErrAnd}
+use Rattle.std.specs.Option.{option_or}
+use Rattle.refusals.specs.Refusals.{number}
+use Rattle.refusals.specs.declared.Refused.{Refused}
+use Rattle.refusals.proofs.Laws.{number_above}
 use Rattle.sets.specs.Words.{bits}
 use Rattle.block.specs.Format.{Header, Sofar, Around as Surroundings, kind_at, operand_at, past, inside}
 use Rattle.block.specs.Told.{header_of, sofar_of, around_of, cursor_of, Ready}
@@ -19,21 +25,21 @@ use Rattle.everyday.specs.Statements.{Everyday, alone, around, between}
 use Rattle.everyday.specs.Check.{codes_around, codes_between, codes₂}
 use Rattle.converting.specs.Format.{Sort, of_none, of_one, of_two, at_fault, stands, due, past₂, Got₂, got₂, refused₂, and_then₂, with_children₂, read₂, bytes₂, lowest_endless₂}
 use Rattle.converting.proofs.Sorts.{IsSort}
-use Rattle.convert.specs.Scans.{tested_as, coded_as, fault_of, SmallSizes, OfNone, OfOne, OfTwo, Takes, records_in, Taken, Scans, got_to, refused_at}
+use Rattle.convert.specs.Scans.{tested_as, coded_as, fault_of, FaultTold, SmallSizes, OfNone, OfOne, OfTwo, Takes, records_in, Taken, Scans, got_to, refused_at}
 use Rattle.convert.specs.declared.scan.Sizes.{Sizes}
 use Rattle.convert.specs.declared.scan.Measured.{Measured}
-use Rattle.convert.specs.declared.scan.Found.{Found}
-use Rattle.convert.specs.declared.scan.Found.TheVariants.{Got, Refused}
 use Rattle.convert.proofs.ScanTests.{children_in, below, tested, Seen, seen_fault, seen, due?, due_as}
 use Rattle.convert.proofs.ScanMeasures.{exit_coded, alone_coded, around_coded, between_coded, around_endless, between_endless, alone_takes, around_takes, between_takes, small_sizes}
 
+-- A refusal is passed on as it is.
+pub passed_on : {T : Type 0} {e : Refused} (r : Result T Refused) → IsErr r × IsErrAnd r (λ f. f ≡ e) → r ≡ Err e
+passed_on (Ok x) h = absurd h.1
+passed_on (Err f) h = ap Err h.1
+
 -- What an answer says of the reading.
-pub was_refused : {h : Header} {r : Sofar} {g : Got₂} {q : Found} {n at : ℕ} → Scans h r g q → q ≡ Refused n at → (g ≡ refused₂ n at) × (1 ≤ n) × (n ≤ 8)
+pub was_refused : {h : Header} {r : Sofar} {g : Got₂} {q : Result Measured Refused} {e : Refused} → Scans h r g q → q ≡ Err e → g ≡ refused₂ (number e.why) e.place
 was_refused (got_to t) e = let z : ◌≡◌ {A = ℕ} 0 1 = cc in absurd (omega arith)
-was_refused {n = n} {at = at} (refused_at {n = m} {at = place} l u) e =
-    let em : m ≡ n = cc in
-    let ep : place ≡ at = cc in
-    ((λ i. refused₂ (em i) (ep i)), subst (λ (j : ℕ). 1 ≤ j) em l, subst (λ (j : ℕ). j ≤ 8) em u)
+was_refused {e = f} (refused_at {e = g}) e = let i : g ≡ f = cc in ap (λ (x : Refused). refused₂ (number x.why) x.place) i
 
 pub record WasGot (h : Header) (r : Sofar) (g : Got₂) (m : Measured) : Type 0 where
   pub tree : Everyday
@@ -41,17 +47,17 @@ pub record WasGot (h : Header) (r : Sofar) (g : Got₂) (m : Measured) : Type 0 
   pub got_it : g ≡ got₂ tree end
   pub taken : Taken h r tree end m
 
-pub was_got : {h : Header} {r : Sofar} {g : Got₂} {q : Found} {m : Measured} → Scans h r g q → q ≡ Got m → WasGot h r g m
+pub was_got : {h : Header} {r : Sofar} {g : Got₂} {q : Result Measured Refused} {m : Measured} → Scans h r g q → q ≡ Ok m → WasGot h r g m
 was_got {h} {r} {m = m} (got_to {p = p} {r₁ = r₁} {m = m'} t) e =
     let em : m' ≡ m = cc in
     record { tree = p; end = r₁; got_it = refl; taken = subst (Taken h r p r₁) em t }
-was_got (refused_at l u) e = let z : ◌≡◌ {A = ℕ} 0 1 = cc in absurd (omega arith)
+was_got refused_at e = let z : ◌≡◌ {A = ℕ} 0 1 = cc in absurd (omega arith)
 
-scans_got : {h : Header} {r : Sofar} {g : Got₂} {p : Everyday} {r₁ : Sofar} {m : Measured} → g ≡ got₂ p r₁ → Taken h r p r₁ m → Scans h r g (Got m)
-scans_got {h} {r} {m = m} e t = subst⁻¹ (λ (g : Got₂). Scans h r g (Got m)) e (got_to t)
+scans_got : {h : Header} {r : Sofar} {g : Got₂} {p : Everyday} {r₁ : Sofar} {m : Measured} → g ≡ got₂ p r₁ → Taken h r p r₁ m → Scans h r g (Ok m)
+scans_got {h} {r} {m = m} e t = subst⁻¹ (λ (g : Got₂). Scans h r g (Ok m)) e (got_to t)
 
-scans_refused : {h : Header} {r : Sofar} {g : Got₂} {n at : ℕ} → g ≡ refused₂ n at → 1 ≤ n → n ≤ 8 → Scans h r g (Refused n at)
-scans_refused {h} {r} {n = n} {at = at} e l u = subst⁻¹ (λ (g : Got₂). Scans h r g (Refused n at)) e (refused_at l u)
+scans_refused : {h : Header} {r : Sofar} {g : Got₂} {e : Refused} {q : Result Measured Refused} → q ≡ Err e → g ≡ refused₂ (number e.why) e.place → Scans h r g q
+scans_refused {h} {r} {e = f} i e = subst⁻¹ (Scans h r _) i (subst⁻¹ (λ (g : Got₂). Scans h r g (Err f)) e refused_at)
 
 -- A record at fault ends the reading, whatever room there is.
 stops : (room : ℕ) (b : List ℕ) (h : Header) (a : Surroundings) (r : Sofar) (n : ℕ) → due room b h a r ≡ at_fault n → read₂ room b h a r ≡ refused₂ n r.place
@@ -59,16 +65,18 @@ unfolding read₂
 stops zero b h a r n e = ap (with_children₂ (λ a r. refused₂ 4 r.place) a r) e
 stops (suc room) b h a r n e = ap (with_children₂ (read₂ room b h) a r) e
 
-pub end_fault : (b : List ℕ) (d : Declared) (c : Context) (r : Cursor) (n : ℕ) → n ≡ fault_of (due c.room b (header_of d) (around_of c) (sofar_of r)) → (n ≡ 0 → ⊥)
-    → Scans (header_of d) (sofar_of r) (read₂ c.room b (header_of d) (around_of c) (sofar_of r)) (Refused n r.at)
+pub end_fault : (b : List ℕ) (d : Declared) (c : Context) (r : Cursor) {t : Result (Unit {0}) Refused} {e : Refused} {q : Result Measured Refused}
+    → FaultTold (due c.room b (header_of d) (around_of c) (sofar_of r)) r.at t → t ≡ Err e → q ≡ Err e
+    → Scans (header_of d) (sofar_of r) (read₂ c.room b (header_of d) (around_of c) (sofar_of r)) q
 unfolding fault_of
-end_fault b d c r n e z = go (due? c.room b (header_of d) (around_of c) (sofar_of r))
+end_fault b d c r {e = e} {q = answer} told f i = go (due? c.room b (header_of d) (around_of c) (sofar_of r)) (subst (FaultTold (due c.room b (header_of d) (around_of c) (sofar_of r)) r.at) f told)
   where
-    go : Seen c.room b (header_of d) (around_of c) (sofar_of r) → Scans (header_of d) (sofar_of r) (read₂ c.room b (header_of d) (around_of c) (sofar_of r)) (Refused n r.at)
-    go (seen_fault m q l) =
-        let f : n ≡ suc m = e ∙ ap fault_of q in
-        scans_refused (stops c.room b (header_of d) (around_of c) (sofar_of r) (suc m) q ∙ ap (λ (j : ℕ). refused₂ j r.at) (sym f)) (omega arith) (omega arith)
-    go (seen s q l v) = absurd (z (e ∙ ap fault_of q))
+    go : Seen c.room b (header_of d) (around_of c) (sofar_of r) → FaultTold (due c.room b (header_of d) (around_of c) (sofar_of r)) r.at (Err e)
+        → Scans (header_of d) (sofar_of r) (read₂ c.room b (header_of d) (around_of c) (sofar_of r)) answer
+    go (seen_fault m q l) w =
+        let n : suc m ≡ number e.why = sym (w.its_number ∙ ap fault_of q) in
+        scans_refused i (stops c.room b (header_of d) (around_of c) (sofar_of r) (suc m) q ∙ ap₂ refused₂ n (sym w.its_place))
+    go (seen s q l v) w = absurd (number_above e.why (w.its_number ∙ ap fault_of q))
 
 -- What stands at a record that passes.
 pub record Stood (b : List ℕ) (d : Declared) (c : Context) (r : Cursor) (k x : ℕ) : Type 0 where
@@ -79,13 +87,13 @@ pub record Stood (b : List ℕ) (d : Declared) (c : Context) (r : Cursor) (k x :
   pub passes : Passes c.room (length b) (header_of d) (around_of c) (sofar_of r) (tested_as k) x
 
 pub stood : (b : List ℕ) (d : Declared) (c : Context) (r : Cursor) (k x : ℕ) → k ≡ kind_at b r.at → x ≡ operand_at b r.at
-    → fault_of (due c.room b (header_of d) (around_of c) (sofar_of r)) ≡ 0 → Stood b d c r k x
+    → {t : Result (Unit {0}) Refused} {done : Unit {0}} → FaultTold (due c.room b (header_of d) (around_of c) (sofar_of r)) r.at t → t ≡ Ok done → Stood b d c r k x
 unfolding fault_of
-stood b d c r k x ek ex e = go (due? c.room b (header_of d) (around_of c) (sofar_of r))
+stood b d c r k x ek ex told i = go (due? c.room b (header_of d) (around_of c) (sofar_of r)) (subst (FaultTold (due c.room b (header_of d) (around_of c) (sofar_of r)) r.at) i told).passed
   where
-    go : Seen c.room b (header_of d) (around_of c) (sofar_of r) → Stood b d c r k x
-    go (seen_fault m q l) = let f : suc m ≡ 0 = sym (ap fault_of q) ∙ e in absurd (omega arith)
-    go (seen s q l v) = record {
+    go : Seen c.room b (header_of d) (around_of c) (sofar_of r) → fault_of (due c.room b (header_of d) (around_of c) (sofar_of r)) ≡ 0 → Stood b d c r k x
+    go (seen_fault m q l) e = let f : suc m ≡ 0 = sym (ap fault_of q) ∙ e in absurd (omega arith)
+    go (seen s q l v) e = record {
       sort = s;
       due_is = q;
       in_block = l;
@@ -104,6 +112,17 @@ pub record Hand (b : List ℕ) (d : Declared) (c : Context) (r : Cursor) (k x : 
   pub around_it : around_of c₁ ≡ inside (tested_as k) x (around_of c)
   pub room_left : c₁.room + 1 ≡ c.room
   pub next : sofar_of r₁ ≡ past (tested_as k) (sofar_of r)
+
+pub in_hand : {b : List ℕ} {d : Declared} {c : Context} {r : Cursor} {k x j : ℕ} {c₁ : Context} {r₁ : Cursor} → Ready (length b) d c r × (0 < r.at) → Stood b d c r k x → j ≡ tested_as k
+    → (around_of c₁ ≡ inside j x (around_of c)) × (c₁.room + 1 ≡ c.room) → sofar_of r₁ ≡ past j (sofar_of r) → Hand b d c r k x c₁ r₁
+in_hand {c = c} {r} {x = x} ready s like inner next = record {
+  ready = ready.0;
+  placed = ready.1;
+  its_record = s;
+  around_it = inner.0 ∙ ap (λ (j : ℕ). inside j x (around_of c)) like;
+  room_left = inner.1;
+  next = next ∙ ap (λ (j : ℕ). past j (sofar_of r)) like;
+}
 
 module _ {b : List ℕ} {d : Declared} {c : Context} {r : Cursor} {k x : ℕ} {c₁ : Context} {r₁ : Cursor} (w : Hand b d c r k x c₁ r₁) where
   abbrev h : Header
@@ -171,12 +190,12 @@ module _ {b : List ℕ} {d : Declared} {c : Context} {r : Cursor} {k x : ℕ} {c
   small_exit e = let l = w.its_record.passes.exiting (exit_coded w.its_record.seen_as e) in let t = w.ready.few_traps in omega arith
 
   -- None below.
-  pub end_none : {m : Measured} → children_in s ≡ 0 → OfNone k x r₁ m → Scans h (sofar_of r) whole (Got m)
+  pub end_none : {m : Measured} → children_in s ≡ 0 → OfNone k x r₁ m → Scans h (sofar_of r) whole (Ok m)
   unfolding codes₂ lowest_endless₂ bytes₂ records_in
   end_none {m} n o = go s refl w.its_record.seen_as opened after_record n
     where
       go : (t : Sort) → s ≡ t → IsSort k x t → whole ≡ with_children₂ (read₂ c₁.room b h) a (sofar_of r) (stands t) → sofar_of r₁ ≡ past₂ t (sofar_of r) → children_in t ≡ 0
-          → Scans h (sofar_of r) whole (Got m)
+          → Scans h (sofar_of r) whole (Ok m)
       go (of_none l) f v q e n =
           let y = child_counts in
           let g = w.its_record.passes.counted in
@@ -201,18 +220,16 @@ module _ {b : List ℕ} {d : Declared} {c : Context} {r : Cursor} {k x : ℕ} {c
   first_is : first ≡ child_first s
   first_is = λ i. read₂ c₁.room b h (around_below i) (after_record i)
 
-  module _ {q₁ : Found} (one : Scans h (sofar_of r₁) first q₁) where
-    pub end_first : {n at : ℕ} → (children_in s ≡ 0 → ⊥) → q₁ ≡ Refused n at → Scans h (sofar_of r) whole (Refused n at)
-    end_first {n} {at} z e =
-        let f = was_refused one e in
-        scans_refused (go s opened (sym first_is ∙ f.0) z) f.1 f.2
+  module _ {q₁ : Result Measured Refused} (one : Scans h (sofar_of r₁) first q₁) where
+    pub end_first : {e : Refused} {q : Result Measured Refused} → (children_in s ≡ 0 → ⊥) → q₁ ≡ Err e → q ≡ Err e → Scans h (sofar_of r) whole q
+    end_first {e = f} z e i = scans_refused i (go s opened (sym first_is ∙ was_refused one e) z)
       where
-        go : (t : Sort) → whole ≡ with_children₂ (read₂ c₁.room b h) a (sofar_of r) (stands t) → child_first t ≡ refused₂ n at → (children_in t ≡ 0 → ⊥) → whole ≡ refused₂ n at
+        go : (t : Sort) → whole ≡ with_children₂ (read₂ c₁.room b h) a (sofar_of r) (stands t) → child_first t ≡ refused₂ (number f.why) f.place → (children_in t ≡ 0 → ⊥) → whole ≡ refused₂ (number f.why) f.place
         go (of_none l) q f z = absurd (z refl)
         go (of_one g) q f z = q ∙ ap (λ (y : Got₂). and_then₂ y (λ p r₂. got₂ (around g p) r₂)) f
         go (of_two o) q f z = q ∙ ap (λ (y : Got₂). and_then₂ y (λ p r₂. and_then₂ (read₂ c₁.room b h a r₂) λ q r₃. got₂ (between o p q) r₃)) f
 
-    module _ {m₁ : Measured} (e : q₁ ≡ Got m₁) where
+    module _ {m₁ : Measured} (e : q₁ ≡ Ok m₁) where
       got₁ : WasGot h (sofar_of r₁) first m₁
       got₁ = was_got one e
 
@@ -232,12 +249,12 @@ module _ {b : List ℕ} {d : Declared} {c : Context} {r : Cursor} {k x : ℕ} {c
       its_first : child_first s ≡ got₂ p r₂
       its_first = sym first_is ∙ got₁.got_it
 
-      pub end_one : {m : Measured} → children_in s ≡ 1 → OfOne k x r.at m₁ m → Scans h (sofar_of r) whole (Got m)
+      pub end_one : {m : Measured} → children_in s ≡ 1 → OfOne k x r.at m₁ m → Scans h (sofar_of r) whole (Ok m)
       unfolding codes₂ bytes₂ records_in
       end_one {m} n o = go s w.its_record.seen_as opened its_first taken₁ n
         where
           go : (t : Sort) → IsSort k x t → whole ≡ with_children₂ (read₂ c₁.room b h) a (sofar_of r) (stands t) → child_first t ≡ got₂ p r₂ → Taken h (past₂ t (sofar_of r)) p r₂ m₁
-              → children_in t ≡ 1 → Scans h (sofar_of r) whole (Got m)
+              → children_in t ≡ 1 → Scans h (sofar_of r) whole (Ok m)
           go (of_none l) v q f t n = absurd (omega arith)
           go (of_one g) v q f t n =
               let u = t.ends_at in
@@ -245,7 +262,7 @@ module _ {b : List ℕ} {d : Declared} {c : Context} {r : Cursor} {k x : ℕ} {c
               scans_got (q ∙ ap (λ (y : Got₂). and_then₂ y (λ p r₂. got₂ (around g p) r₂)) f) (record {
                 its_end = o.its_end ∙ t.its_end;
                 its_codes = o.its_codes small_exit ∙ around_coded (bits m₁.codes) (bits 0) v ∙ ap (codes_around g) t.its_codes;
-                its_loops = o.its_loops ∙ ap (λ N. cond (eqb k 22 && N 0) r.at m₁.endless) t.its_codes ∙ around_endless r.at m₁.endless p v t.its_loops;
+                its_loops = o.its_loops ∙ (λ i. cond (eqb k 22 && t.its_codes i 0) (Some r.at) (t.its_loops i)) ∙ around_endless r.at p v;
                 its_sizes = subst⁻¹ (λ (z : Sizes). Takes z (around g p)) o.its_sizes (around_takes t.its_sizes v);
                 ends_at = omega arith;
                 counted = omega arith;
@@ -273,21 +290,19 @@ module _ {b : List ℕ} {d : Declared} {c : Context} {r : Cursor} {k x : ℕ} {c
       second_is : second ≡ read₂ c₁.room b h (below s a) r₂
       second_is = λ i. read₂ c₁.room b h (around_below i) (second_at i)
 
-      module _ {q₂ : Found} (two : Scans h (sofar_of m₁.after) second q₂) where
-        pub end_second : {n at : ℕ} → (children_in s ≡ 0 → ⊥) → (children_in s ≡ 1 → ⊥) → q₂ ≡ Refused n at → Scans h (sofar_of r) whole (Refused n at)
-        end_second {n} {at} z y e₂ =
-            let f = was_refused two e₂ in
-            scans_refused (go s opened its_first (sym second_is ∙ f.0) z y) f.1 f.2
+      module _ {q₂ : Result Measured Refused} (two : Scans h (sofar_of m₁.after) second q₂) where
+        pub end_second : {e : Refused} {q : Result Measured Refused} → (children_in s ≡ 0 → ⊥) → (children_in s ≡ 1 → ⊥) → q₂ ≡ Err e → q ≡ Err e → Scans h (sofar_of r) whole q
+        end_second {e = f} z y e₂ i = scans_refused i (go s opened its_first (sym second_is ∙ was_refused two e₂) z y)
           where
-            go : (t : Sort) → whole ≡ with_children₂ (read₂ c₁.room b h) a (sofar_of r) (stands t) → child_first t ≡ got₂ p r₂ → read₂ c₁.room b h (below t a) r₂ ≡ refused₂ n at
-                → (children_in t ≡ 0 → ⊥) → (children_in t ≡ 1 → ⊥) → whole ≡ refused₂ n at
+            go : (t : Sort) → whole ≡ with_children₂ (read₂ c₁.room b h) a (sofar_of r) (stands t) → child_first t ≡ got₂ p r₂ → read₂ c₁.room b h (below t a) r₂ ≡ refused₂ (number f.why) f.place
+                → (children_in t ≡ 0 → ⊥) → (children_in t ≡ 1 → ⊥) → whole ≡ refused₂ (number f.why) f.place
             go (of_none l) q f g z y = absurd (z refl)
             go (of_one l) q f g z y = absurd (y refl)
             go (of_two o) q f g z y =
                 q ∙ ap (λ (y : Got₂). and_then₂ y (λ p r₂. and_then₂ (read₂ c₁.room b h a r₂) λ q r₃. got₂ (between o p q) r₃)) f
                 ∙ ap (λ (y : Got₂). and_then₂ y (λ q r₃. got₂ (between o p q) r₃)) g
 
-        module _ {m₂ : Measured} (e₂ : q₂ ≡ Got m₂) where
+        module _ {m₂ : Measured} (e₂ : q₂ ≡ Ok m₂) where
           got₂_it : WasGot h (sofar_of m₁.after) second m₂
           got₂_it = was_got two e₂
 
@@ -306,13 +321,13 @@ module _ {b : List ℕ} {d : Declared} {c : Context} {r : Cursor} {k x : ℕ} {c
           its_second : read₂ c₁.room b h (below s a) r₂ ≡ got₂ p₂ r₃
           its_second = sym second_is ∙ got₂_it.got_it
 
-          pub end_two : {m : Measured} → (children_in s ≡ 0 → ⊥) → (children_in s ≡ 1 → ⊥) → OfTwo k x m₁ m₂ m → Scans h (sofar_of r) whole (Got m)
+          pub end_two : {m : Measured} → (children_in s ≡ 0 → ⊥) → (children_in s ≡ 1 → ⊥) → OfTwo k x m₁ m₂ m → Scans h (sofar_of r) whole (Ok m)
           unfolding codes₂ bytes₂ records_in
           end_two {m} z y o = go s w.its_record.seen_as opened its_first its_second taken₁ z y
             where
               go : (t : Sort) → IsSort k x t → whole ≡ with_children₂ (read₂ c₁.room b h) a (sofar_of r) (stands t) → child_first t ≡ got₂ p r₂
                   → read₂ c₁.room b h (below t a) r₂ ≡ got₂ p₂ r₃ → Taken h (past₂ t (sofar_of r)) p r₂ m₁ → (children_in t ≡ 0 → ⊥) → (children_in t ≡ 1 → ⊥)
-                  → Scans h (sofar_of r) whole (Got m)
+                  → Scans h (sofar_of r) whole (Ok m)
               go (of_none l) v q f g t z y = absurd (z refl)
               go (of_one l) v q f g t z y = absurd (y refl)
               go (of_two l) v q f g t z y =
@@ -325,7 +340,7 @@ module _ {b : List ℕ} {d : Declared} {c : Context} {r : Cursor} {k x : ℕ} {c
                   ∙ ap (λ (y : Got₂). and_then₂ y (λ q r₃. got₂ (between l p q) r₃)) g) (record {
                     its_end = o.its_end ∙ t₂.its_end;
                     its_codes = o.its_codes small_exit ∙ between_coded (bits m₁.codes) (bits m₂.codes) v ∙ ap₂ (codes_between l) t.its_codes t₂.its_codes;
-                    its_loops = o.its_loops ∙ between_endless r.at m₁.endless m₂.endless r₂.place l p p₂ w.placed u t.its_loops t₂.its_loops;
+                    its_loops = o.its_loops ∙ ap₂ option_or t.its_loops t₂.its_loops ∙ between_endless r.at r₂.place l p p₂ u;
                     its_sizes = subst⁻¹ (λ (z : Sizes). Takes z (between l p p₂)) o.its_sizes (between_takes t.its_sizes t₂.its_sizes v);
                     ends_at = omega arith;
                     counted = omega arith;

@@ -22,7 +22,7 @@ use Rattle.converting.specs.Sizes.{Size, size, size₂}
 use Rattle.converting.specs.Records.{made_bytes}
 use Rattle.converting.proofs.Sizes.{size_made}
 use Rattle.converting.proofs.Records.{records_made}
-use Rattle.convert.specs.Walk.{sort_at, Recorded, own_sort, children, HeadAt, first_bytes, last_bytes, first_size, last_size, sends, marks_by}
+use Rattle.convert.specs.Walk.{sort_at, Recorded, own_sort, HeadAt, first_bytes, last_bytes, first_size, last_size, sends, marks_by}
 use Rattle.convert.specs.Walk.{FewMarks, MarksInside, RoomFirst, RoomLast, Puts, Walks, WrittenOut}
 use Rattle.convert.specs.declared.walk.Head.{Head}
 use Rattle.convert.specs.declared.walk.Marks.{Marks}

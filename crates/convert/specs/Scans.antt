@@ -1,8 +1,11 @@
 -- What the code's reading of edition 2 tells, in the words of Format and Sizes. Assumes nothing.
-use Rattle.std.specs.Prelude.{◌≡◌, Bool, true, cond, ◌&&◌, ◌||◌, List, ℕ, ◌+◌, ◌≤◌, ◌<◌, max, eqb, ltb, length}
+use Rattle.std.specs.Prelude.{◌≡◌, Bool, true, cond, ◌&&◌, ◌||◌, List, ℕ, ◌+◌, ◌≤◌, ◌<◌, max, eqb, ltb, length, Option, Some, None, Result, Ok, Err, OnOk, IfErr}
+use Rattle.std.specs.Option.{option_or}
+use Rattle.std.proofs.Math.Option.{Option as Found, none, some}
 use Rattle.sets.specs.Words.{bits}
 use Rattle.refusals.specs.Refusals.{number}
-use Rattle.tables.specs.Codes.{codes_for, number_or}
+use Rattle.refusals.specs.declared.Refused.{Refused}
+use Rattle.tables.specs.Codes.{codes_for}
 use Rattle.block.specs.Format.{Header, header, Sofar, outermost, begun}
 use Rattle.block.specs.Told.{header_of, cursor_of}
 use Rattle.block.specs.declared.Declared.{Declared}
@@ -18,10 +21,7 @@ use Rattle.converting.specs.Conversions.{converting_of, converting}
 use Rattle.converting.specs.Sizes.{size₂}
 use Rattle.convert.specs.declared.scan.Sizes.{Sizes}
 use Rattle.convert.specs.declared.scan.Measured.{Measured}
-use Rattle.convert.specs.declared.scan.Found.{Found}
-use Rattle.convert.specs.declared.scan.Found.TheVariants.{Got, Refused}
 use Rattle.convert.specs.declared.scan.Scanned.{Scanned}
-use Rattle.convert.specs.declared.scan.Scanned.TheVariants.{Good, Refused as TurnedDown}
 
 -- The kind of edition 1 by whose rules a record is tested, and the one whose codes its statement has. The four have the rules of their forms.
 unfoldable pub tested_as : ℕ → ℕ
@@ -34,6 +34,12 @@ coded_as k = cond (eqb k 32) 17 (cond (eqb k 33) 17 (cond (eqb k 34) 17 (cond (e
 unfoldable pub fault_of : Due → ℕ
 fault_of (at_fault n) = n
 fault_of (stands s) = 0
+
+-- What the tests of a due record tell: that it stands, or its refusal, at its place.
+pub record FaultTold (x : Due) (at : ℕ) (r : Result (Unit {0}) Refused) : Type 0 where
+  pub passed : OnOk r (fault_of x ≡ 0)
+  pub its_number : IfErr r (λ e. number e.why ≡ fault_of x)
+  pub its_place : IfErr r (λ e. e.place ≡ at)
 
 -- What a conversion takes, by the kind and by what those of the statements below take.
 abbrev pub sized_as : ℕ → ℕ → ℕ → ℕ → ℕ → Sizes
@@ -104,19 +110,19 @@ pub record SmallSizes (s : Sizes) : Type 0 where
 pub record OfNone (k x : ℕ) (after : Cursor) (m : Measured) : Type 0 where
   pub its_end : m.after ≡ after
   pub its_codes : (coded_as k ≡ 25 → x < 16) → bits m.codes ≡ codes_for (coded_as k) x (bits 0) (bits 0)
-  pub its_loops : m.endless ≡ 0
+  pub its_loops : m.endless ≡ None
   pub its_sizes : m.sizes ≡ alone_sizes k
 
 pub record OfOne (k x at : ℕ) (p m : Measured) : Type 0 where
   pub its_end : m.after ≡ p.after
   pub its_codes : (coded_as k ≡ 25 → x < 16) → bits m.codes ≡ codes_for (coded_as k) x (bits p.codes) (bits 0)
-  pub its_loops : m.endless ≡ cond (eqb k 22 && bits p.codes 0) at p.endless
+  pub its_loops : m.endless ≡ cond (eqb k 22 && bits p.codes 0) (Some at) p.endless
   pub its_sizes : m.sizes ≡ around_sizes k p.sizes
 
 pub record OfTwo (k x : ℕ) (p q m : Measured) : Type 0 where
   pub its_end : m.after ≡ q.after
   pub its_codes : (coded_as k ≡ 25 → x < 16) → bits m.codes ≡ codes_for (coded_as k) x (bits p.codes) (bits q.codes)
-  pub its_loops : m.endless ≡ cond (eqb p.endless 0) q.endless p.endless
+  pub its_loops : m.endless ≡ option_or p.endless q.endless
   pub its_sizes : m.sizes ≡ between_sizes k p.sizes q.sizes
 
 -- What the conversion of a tree takes.
@@ -134,11 +140,16 @@ records_in (alone a) = 1
 records_in (around f p) = 1 + records_in p
 records_in (between o p q) = 1 + (records_in p + records_in q)
 
+-- The code's answer to a look for an offset.
+abbrev pub answer_of : Found ℕ → Option ℕ
+answer_of none = None
+answer_of (some n) = Some n
+
 -- A tree that was read from r to r₁, and its measures.
 pub record Taken (h : Header) (r : Sofar) (p : Everyday) (r₁ : Sofar) (m : Measured) : Type 0 where
   pub its_end : m.after ≡ cursor_of r₁
   pub its_codes : bits m.codes ≡ codes₂ p
-  pub its_loops : m.endless ≡ number_or 0 (lowest_endless₂ r.place p)
+  pub its_loops : m.endless ≡ answer_of (lowest_endless₂ r.place p)
   pub its_sizes : Takes m.sizes p
   pub ends_at : r₁.place ≡ r.place + bytes₂ p
   pub counted : r₁.statements ≡ r.statements + records_in p
@@ -147,20 +158,20 @@ pub record Taken (h : Header) (r : Sofar) (p : Everyday) (r₁ : Sofar) (m : Mea
   pub few_locals : r₁.locals ≤ h.locals
 
 -- The code's answer to the reading of a statement.
-pub data Scans (h : Header) (r : Sofar) : Got₂ → Found → Type 0 where
-  got_to : {p : Everyday} {r₁ : Sofar} {m : Measured} → Taken h r p r₁ m → Scans h r (got₂ p r₁) (Got m)
-  refused_at : {n at : ℕ} → 1 ≤ n → n ≤ 8 → Scans h r (refused₂ n at) (Refused n at)
+pub data Scans (h : Header) (r : Sofar) : Got₂ → Result Measured Refused → Type 0 where
+  got_to : {p : Everyday} {r₁ : Sofar} {m : Measured} → Taken h r p r₁ m → Scans h r (got₂ p r₁) (Ok m)
+  refused_at : {e : Refused} → Scans h r (refused₂ (number e.why) e.place) (Err e)
 
 unfoldable pub over_limits : Sizes → Bool
 over_limits s = ltb 512 s.statements || (ltb 128 s.pauses || (ltb 16 s.traps || (ltb 6 s.nested || ltb 64 s.path)))
 
 -- After the tree p.
-unfoldable pub EndsAs : List ℕ → Declared → Everyday → Sofar → Scanned → Type 0
-EndsAs b d p r₁ (Good e size) =
-    (e ≡ d) × (ended₂ b (header_of d) (got₂ p r₁) ≡ good₂ (header_of d) p) × (within_limits (header_of d) (converted p) ≡ true) × (size ≡ 14 + (size₂ p).bytes)
-EndsAs b d p r₁ (TurnedDown w at) = converting_of (ended₂ b (header_of d) (got₂ p r₁)) ≡ refuses (number w) at
+unfoldable pub EndsAs : List ℕ → Declared → Everyday → Sofar → Result Scanned Refused → Type 0
+EndsAs b d p r₁ (Ok s) =
+    (s.declared ≡ d) × (ended₂ b (header_of d) (got₂ p r₁) ≡ good₂ (header_of d) p) × (within_limits (header_of d) (converted p) ≡ true) × (s.size ≡ 14 + (size₂ p).bytes)
+EndsAs b d p r₁ (Err e) = converting_of (ended₂ b (header_of d) (got₂ p r₁)) ≡ refuses (number e.why) e.place
 
-pub record Ends (b : List ℕ) (d : Declared) (m : Measured) (q : Scanned) : Type 0 where
+pub record Ends (b : List ℕ) (d : Declared) (m : Measured) (q : Result Scanned Refused) : Type 0 where
   pub of_tree : (p : Everyday) (r₁ : Sofar) → Taken (header_of d) begun p r₁ m → EndsAs b d p r₁ q
 
 -- A block that can be converted: its tree, and what is to be written for it.
@@ -176,6 +187,6 @@ pub record Convertible (b : List ℕ) (d : Declared) (size : ℕ) : Type 0 where
   pub written : converting b ≡ writes (block_bytes (header_of d) (converted tree))
 
 -- The code's answer to a whole block: that, or the number and the place that the conversion is refused with.
-unfoldable pub ScanTold : List ℕ → Scanned → Type 0
-ScanTold b (Good d size) = Convertible b d size
-ScanTold b (TurnedDown w at) = converting b ≡ refuses (number w) at
+unfoldable pub ScanTold : List ℕ → Result Scanned Refused → Type 0
+ScanTold b (Ok s) = Convertible b s.declared s.size
+ScanTold b (Err e) = converting b ≡ refuses (number e.why) e.place

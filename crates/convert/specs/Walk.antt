@@ -1,10 +1,11 @@
 -- The walk that writes: a statement's records among the bytes of edition 2, what is written for each of them, what the walk asks for and what it leaves.
 -- Assumes nothing.
-use Rattle.std.specs.Prelude.{◌≡◌, List, [], ℕ, ◌+◌, ◌^◌, ◌≤◌, ◌<◌}
+use Rattle.std.specs.Prelude.{◌≡◌, List, [], ◌∷◌, ◌++◌, ℕ, ◌+◌, ◌^◌, ◌≤◌, ◌<◌}
 use Rattle.std.proofs.Math.Option.{Option, some}
 use Rattle.std.proofs.lemmas.List.Edits.{sets}
 use Rattle.rules.specs.Statements.{Depth}
 use Rattle.block.specs.Format.{kind_at, operand_at}
+use Rattle.writing.specs.Written.{record_bytes}
 use Rattle.everyday.specs.Statements.{suspend_on, loop, trap, local, abort_when, present_then_else, in_sequence, in_parallel, Everyday, alone, around, between}
 use Rattle.everyday.specs.Conversion.{out_of}
 use Rattle.everyday.specs.Check.{Trapped₂}
@@ -140,3 +141,8 @@ pub record WrittenOut (p : Everyday) (m : Marks) (spot after : Spot) (before now
   pub stored : now ≡ sets before spot.to (made_bytes (sends m) p)
   pub ends : after.to ≡ spot.to + (size₂ p).bytes
   pub read : after.at ≡ spot.at + bytes₂ p
+
+-- Records one after the other, each by its kind and operand.
+unfoldable pub bytes_of : List (ℕ × ℕ) → List ℕ
+bytes_of [] = []
+bytes_of (r ∷ rs) = record_bytes r.0 r.1 ++ bytes_of rs

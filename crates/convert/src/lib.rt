@@ -12,10 +12,25 @@ ghost use Rattle.everyday.specs.Statements.{halt, sustain, await, abort_when};
 ghost use Rattle.everyday.specs.Conversion.{as_it_is};
 ghost use Rattle.converting.specs.Records.{watch_bytes, alone_bytes, bytes_before, bytes_behind};
 ghost use Rattle.converting.specs.Conversions.{converting};
+ghost use Rattle.convert.specs.Walk.{bytes_of};
 
-use crate::scan::{Scanned, scan};
+use crate::scan::scan;
 use crate::walk::{Marks, Spot, write_at};
-use writing::{Wrote, in_room, put_header, put_record};
+use refusals::Refused;
+use writing::{in_room, put_header, put_record};
+
+// Some records one after the other, each by its kind and operand, and the place behind them.
+fn put_records(out: &mut [u8], at: usize, records: &[(u16, u16)]) -> usize
+    requires { at + length (bytes_of records.now) ≤ length out.old }
+    ensures value { result ≡ at + length (bytes_of records.now) }
+    ensures out_after { out.new ≡ sets out.old at (bytes_of records.now) }
+{
+    let mut end = at;
+    for &(kind, operand) in records {
+        end = put_record(out, end, kind, operand);
+    }
+    end
+}
 
 // loop (pause; present s then exit 0 else nothing).
 pub fn put_watch(out: &mut [u8], at: usize, s: u16) -> usize
@@ -23,12 +38,8 @@ pub fn put_watch(out: &mut [u8], at: usize, s: u16) -> usize
     ensures value { result ≡ at + 28 }
     ensures out_after { out.new ≡ sets out.old at (watch_bytes s) }
 {
-    let a = put_record(out, at, 22, 0);
-    let b = put_record(out, a, 21, 0);
-    let c = put_record(out, b, 17, 0);
-    let d = put_record(out, c, 19, s);
-    let e = put_record(out, d, 25, 0);
-    put_record(out, e, 16, 0)
+    let form = [(22, 0), (21, 0), (17, 0), (19, s), (25, 0), (16, 0)];
+    put_records(out, at, &form)
 }
 
 // loop pause.
@@ -37,8 +48,7 @@ pub fn put_halt(out: &mut [u8], at: usize) -> usize
     ensures value { result ≡ at + 8 }
     ensures out_after { out.new ≡ sets out.old at (alone_bytes as_it_is halt) }
 {
-    let a = put_record(out, at, 22, 0);
-    put_record(out, a, 17, 0)
+    put_records(out, at, &[(22, 0), (17, 0)])
 }
 
 // loop (emit s; pause).
@@ -47,10 +57,7 @@ pub fn put_sustain(out: &mut [u8], at: usize, s: u16) -> usize
     ensures value { result ≡ at + 18 }
     ensures out_after { out.new ≡ sets out.old at (alone_bytes as_it_is (sustain s)) }
 {
-    let a = put_record(out, at, 22, 0);
-    let b = put_record(out, a, 21, 0);
-    let c = put_record(out, b, 18, s);
-    put_record(out, c, 17, 0)
+    put_records(out, at, &[(22, 0), (21, 0), (18, s), (17, 0)])
 }
 
 // A trap around the watching loop.
@@ -69,10 +76,7 @@ pub fn put_abort(out: &mut [u8], at: usize, s: u16) -> usize
     ensures value { result ≡ at + 18 }
     ensures out_after { out.new ≡ sets out.old at (bytes_before (abort_when s)) }
 {
-    let a = put_record(out, at, 24, 0);
-    let b = put_record(out, a, 23, 0);
-    let c = put_record(out, b, 21, 0);
-    put_record(out, c, 20, s)
+    put_records(out, at, &[(24, 0), (23, 0), (21, 0), (20, s)])
 }
 
 // What stands behind an abort's body: exit 0 and the watching loop.
@@ -87,27 +91,18 @@ pub fn put_abort_end(out: &mut [u8], at: usize, s: u16) -> usize
 
 // Writes a block of edition 2 in edition 1, the header else kept. A refusal comes before the first byte: 1 to 8 of the block, 4 with place 0 where the result passes a
 // limit, 12 where fewer bytes are lent than the result has.
-pub fn convert(block: &[u8], out: &mut [u8]) -> Wrote
+pub fn convert(block: &[u8], out: &mut [u8]) -> Result<usize, Refused>
     ensures result_value { wrote_values result ≡ wrote_owed (roomed (converting block.now) (length out.old)) }
     ensures out_after { out.new ≡ out_owed (roomed (converting block.now) (length out.old)) out.old }
 {
-    let scanned = scan(block);
-    match scanned {
-        Scanned::Refused(why, place) => Wrote::Refused(why, place),
-        Scanned::Good(d, size) => {
-            let lent = out.len();
-            let answer = in_room(size, lent);
-            if lent < size {
-                return answer;
-            }
-            put_header(out, d);
-            write_at(
-                block,
-                Spot { at: 14, to: 14 },
-                Marks { word: 0, count: 0 },
-                out,
-            );
-            answer
-        }
-    }
+    let scanned = scan(block)?;
+    let size = in_room(scanned.size, out.len())?;
+    put_header(out, scanned.declared);
+    write_at(
+        block,
+        Spot { at: 14, to: 14 },
+        Marks { word: 0, count: 0 },
+        out,
+    );
+    Ok(size)
 }

@@ -1,18 +1,19 @@
 // The reading of a block of edition 2, and what its conversion will take. Nothing is stored: every refusal is known before a byte is written.
-ghost use Rattle.std.specs.Prelude.{◌≡◌, cond, ◌+◌, ◌≤◌, ◌<◌, max, eqb, length};
+ghost use Rattle.std.specs.Prelude.{◌≡◌, cond, ◌&&◌, ◌+◌, ◌≤◌, ◌<◌, max, eqb, length, Some};
+ghost use Rattle.sets.specs.Words.{bits};
 ghost use Rattle.block.specs.Told.{header_of, sofar_of, around_of, Ready};
 ghost use Rattle.converting.specs.Format.{due, read₂};
-ghost use Rattle.convert.specs.Scans.{tested_as, coded_as, fault_of, sized_as, alone_sizes, onto_sizes, abort_sizes, around_sizes, both_sizes, between_sizes};
+ghost use Rattle.convert.specs.Scans.{tested_as, coded_as, FaultTold, sized_as, alone_sizes, onto_sizes, abort_sizes, around_sizes, both_sizes, between_sizes};
 ghost use Rattle.convert.specs.Scans.{SmallSizes, OfNone, OfOne, OfTwo, Scans, over_limits, Ends, ScanTold};
 
 use block::faults::{fault_as, header_fault};
 use block::records::two_bytes;
 use block::steps::{declared, inner, passed};
 use block::{Context, Cursor, Declared};
-use refusals::{Why, refusal};
+use code_sets::has_code;
+use refusals::{Refused, Why};
 use tables::codes::codes_for;
-use tables::kinds::{Wire, wide_shape_of};
-use tables::loops::lower;
+use tables::kinds::wide_shape_of;
 
 // What the conversion of a statement takes: statements, pauses, the longest path, nested traps and locals, and the bytes of its records.
 #[derive(Clone, Copy)]
@@ -25,27 +26,20 @@ pub struct Sizes {
     pub bytes: usize,
 }
 
-// A statement that was read: what had been read after it, its codes, the offset of its lowest endless loop (0 where it has none), and what its conversion takes.
+// A statement that was read: what had been read after it, its codes, the offset of its lowest endless loop, if it has one, and what its conversion takes.
 #[derive(Clone, Copy)]
 pub struct Measured {
     pub after: Cursor,
     pub codes: u32,
-    pub endless: usize,
+    pub endless: Option<usize>,
     pub sizes: Sizes,
 }
 
-// That, or the number and the place of the first record at fault.
+// What a block declares and how many bytes its conversion has.
 #[derive(Clone, Copy)]
-pub enum Found {
-    Got(Measured),
-    Refused(u16, usize),
-}
-
-// What a block declares and how many bytes its conversion has, or why it is turned down and where.
-#[derive(Clone, Copy)]
-pub enum Scanned {
-    Good(Declared, usize),
-    Refused(Why, usize),
+pub struct Scanned {
+    pub declared: Declared,
+    pub size: usize,
 }
 
 // The kind by whose rules a record is tested: halt as nothing, sustain as emit, await as present, abort as suspend.
@@ -72,15 +66,15 @@ fn coded_as(kind: u16) -> u16
     }
 }
 
-// The number that a due record gets; 0 where it is good.
-fn fault_at(b: &[u8], d: Declared, c: Context, r: Cursor) -> u16
+// The tests of a due record.
+fn stands(b: &[u8], d: Declared, c: Context, r: Cursor) -> Result<(), Refused>
     requires b_len_bound { length b.now ≤ 3086 }
     requires locals_bound { d.inputs + d.outputs + d.locals ≤ 64 }
-    ensures { result ≡ fault_of (due c.room b.now (header_of d) (around_of c) (sofar_of r)) }
+    ensures { FaultTold (due c.room b.now (header_of d) (around_of c) (sofar_of r)) r.at result }
 {
     let at = r.at;
     if b.len() <= at {
-        return 7;
+        return Err(Why::Shape.at(at));
     }
     let kind = two_bytes(b, at + 2);
     fault_as(b, d, c, r, tested_as(kind))
@@ -97,12 +91,12 @@ fn sized(statements: usize, pauses: usize, path: usize, traps: usize, bytes: usi
     ensures { result ≡ sized_as statements pauses path traps bytes }
 {
     Sizes {
-        statements: statements,
-        pauses: pauses,
-        path: path,
-        traps: traps,
+        statements,
+        pauses,
+        path,
+        traps,
         nested: 0,
-        bytes: bytes,
+        bytes,
     }
 }
 
@@ -194,10 +188,21 @@ fn of_none(kind: u16, operand: u16, after: Cursor) -> Measured
     ensures { OfNone kind operand after result }
 {
     Measured {
-        after: after,
+        after,
         codes: codes_for(coded_as(kind), operand, 0, 0),
-        endless: 0,
+        endless: None,
         sizes: alone_sizes(kind),
+    }
+}
+
+// The statement itself where it is a loop whose body may complete with 0, else what was found below.
+fn lowest(kind: u16, body: u32, at: usize, below: Option<usize>) -> Option<usize>
+    ensures { result ≡ cond (eqb kind 22 && bits body 0) (Some at) below }
+{
+    if kind == 22 && has_code(body, 0) {
+        Some(at)
+    } else {
+        below
     }
 }
 
@@ -206,21 +211,12 @@ fn of_one(kind: u16, operand: u16, at: usize, p: Measured) -> Measured
     requires { SmallSizes p.sizes }
     ensures { OfOne kind operand at p result }
 {
-    let after = p.after;
-    let sizes = p.sizes;
     Measured {
-        after: after,
+        after: p.after,
         codes: codes_for(coded_as(kind), operand, p.codes, 0),
-        endless: lower(kind, p.codes, at, p.endless),
-        sizes: around_sizes(kind, sizes),
+        endless: lowest(kind, p.codes, at, p.endless),
+        sizes: around_sizes(kind, p.sizes),
     }
-}
-
-// The first of two offsets that is there.
-fn either(first: usize, second: usize) -> usize
-    ensures { result ≡ cond (eqb first 0) second first }
-{
-    if first == 0 { second } else { first }
 }
 
 // A statement and the two below it.
@@ -228,54 +224,37 @@ fn of_two(kind: u16, operand: u16, p: Measured, q: Measured) -> Measured
     requires { SmallSizes p.sizes × SmallSizes q.sizes }
     ensures { OfTwo kind operand p q result }
 {
-    let after = q.after;
-    let first = p.sizes;
-    let second = q.sizes;
     Measured {
-        after: after,
+        after: q.after,
         codes: codes_for(coded_as(kind), operand, p.codes, q.codes),
-        endless: either(p.endless, q.endless),
-        sizes: between_sizes(kind, first, second),
+        endless: p.endless.or(q.endless),
+        sizes: between_sizes(kind, p.sizes, q.sizes),
     }
 }
 
 // A statement with its children, the room on the path falling.
-fn scan_at(b: &[u8], d: Declared, c: Context, r: Cursor) -> Found
+fn scan_at(b: &[u8], d: Declared, c: Context, r: Cursor) -> Result<Measured, Refused>
     requires { Ready (length b.now) d c r × (0 < r.at) }
     ensures { Scans (header_of d) (sofar_of r) (read₂ c.room b.now (header_of d) (around_of c) (sofar_of r)) result }
 {
     let at = r.at;
-    let fault = fault_at(b, d, c, r);
-    if fault != 0 {
-        return Found::Refused(fault, at);
-    }
+    stands(b, d, c, r)?;
     let kind = two_bytes(b, at + 2);
     let operand = two_bytes(b, at + 4);
-    let shape = wide_shape_of(kind);
-    let Wire::Allowed(s) = shape else {
-        return Found::Refused(2, at);
-    };
-    let children = s.children;
+    // The tests let only a kind with a shape pass.
+    let shape = wide_shape_of(kind).unwrap();
     let like = tested_as(kind);
-    let next = passed(r, like, s.length);
+    let next = passed(r, like, shape.length);
     let around = inner(c, like, operand);
-    if children == 0 {
-        return Found::Got(of_none(kind, operand, next));
+    if shape.children == 0 {
+        return Ok(of_none(kind, operand, next));
     }
-    let first = scan_at(b, d, around, next);
-    match first {
-        Found::Refused(number, place) => Found::Refused(number, place),
-        Found::Got(one) => {
-            if children == 1 {
-                return Found::Got(of_one(kind, operand, at, one));
-            }
-            let second = scan_at(b, d, around, one.after);
-            match second {
-                Found::Refused(number, place) => Found::Refused(number, place),
-                Found::Got(two) => Found::Got(of_two(kind, operand, one, two)),
-            }
-        }
+    let first = scan_at(b, d, around, next)?;
+    if shape.children == 1 {
+        return Ok(of_one(kind, operand, at, first));
     }
+    let second = scan_at(b, d, around, first.after)?;
+    Ok(of_two(kind, operand, first, second))
 }
 
 // The limits of the result: at most 512 statements, 128 pauses, 64 on a path, 16 nested traps and 6 nested locals.
@@ -298,37 +277,34 @@ fn over_limits(s: Sizes) -> bool
 }
 
 // After the tree: no bytes left, all locals declared, no endless loop, and the result within the limits.
-fn ended(b: &[u8], d: Declared, m: Measured) -> Scanned
+fn ended(b: &[u8], d: Declared, m: Measured) -> Result<Scanned, Refused>
     requires { (m.sizes.bytes ≤ 26624) × (d.inputs + d.outputs + d.locals ≤ 64) }
     ensures { Ends b.now d m result }
 {
-    let at = m.after.at;
-    if at != b.len() {
-        return Scanned::Refused(Why::Shape, at);
+    let place = m.after.at;
+    if place != b.len() || m.after.locals != d.locals {
+        return Err(Why::Shape.at(place));
     }
-    if m.after.locals != d.locals {
-        return Scanned::Refused(Why::Shape, at);
-    }
-    if m.endless != 0 {
-        return Scanned::Refused(Why::Loop, m.endless);
+    if let Some(place) = m.endless {
+        return Err(Why::Loop.at(place));
     }
     if over_limits(m.sizes) {
-        return Scanned::Refused(Why::Limit, 0);
+        return Err(Why::Limit.at(0));
     }
-    Scanned::Good(d, 14 + m.sizes.bytes)
+    Ok(Scanned {
+        declared: d,
+        size: 14 + m.sizes.bytes,
+    })
 }
 
 // Reads a block of edition 2: what its conversion takes, or the refusal that the conversion gets, 4 at place 0 where the result passes a limit.
-pub fn scan(b: &[u8]) -> Scanned
+pub fn scan(b: &[u8]) -> Result<Scanned, Refused>
     ensures { ScanTold b.now result }
 {
     if 3086 < b.len() {
-        return Scanned::Refused(Why::Limit, 0);
+        return Err(Why::Limit.at(0));
     }
-    let fault = header_fault(b, 2);
-    if fault != 0 {
-        return Scanned::Refused(refusal(fault), 0);
-    }
+    header_fault(b, 2)?;
     let d = declared(b);
     let c = Context {
         traps: 0,
@@ -342,9 +318,6 @@ pub fn scan(b: &[u8]) -> Scanned
         pauses: 0,
         locals: 0,
     };
-    let tree = scan_at(b, d, c, r);
-    match tree {
-        Found::Refused(number, place) => Scanned::Refused(refusal(number), place),
-        Found::Got(m) => ended(b, d, m),
-    }
+    let tree = scan_at(b, d, c, r)?;
+    ended(b, d, tree)
 }

@@ -9,7 +9,7 @@ ghost use Rattle.convert.specs.Walk.{Recorded, Walks, WrittenOut};
 use crate::exits::sent;
 use crate::{put_abort, put_abort_end, put_await, put_halt, put_sustain};
 use block::records::two_bytes;
-use tables::kinds::{Depth, Wire, wide_shape_of};
+use tables::kinds::{Depth, wide_shape_of};
 use writing::put_record;
 
 // A record's kind and operand, the place behind it, and how many statements stand below it.
@@ -42,15 +42,15 @@ fn head_at(b: &[u8], at: usize) -> Head
     let kind = two_bytes(b, at + 2);
     let operand = two_bytes(b, at + 4);
     match wide_shape_of(kind) {
-        Wire::Allowed(s) => Head {
-            kind: kind,
-            operand: operand,
+        Some(s) => Head {
+            kind,
+            operand,
             behind: at + s.length as usize,
             children: s.children,
         },
-        Wire::Unknown => Head {
-            kind: kind,
-            operand: operand,
+        None => Head {
+            kind,
+            operand,
             behind: at,
             children: 0,
         },
@@ -115,21 +115,10 @@ pub(crate) fn write_at(b: &[u8], spot: Spot, marks: Marks, out: &mut [u8]) -> Sp
     let h = head_at(b, spot.at);
     let to = put_first(out, spot.to, h.kind, h.operand, marks);
     if h.children == 0 {
-        return Spot {
-            at: h.behind,
-            to: to,
-        };
+        return Spot { at: h.behind, to };
     }
     let inner = inside(marks, h.kind);
-    let below = write_at(
-        b,
-        Spot {
-            at: h.behind,
-            to: to,
-        },
-        inner,
-        out,
-    );
+    let below = write_at(b, Spot { at: h.behind, to }, inner, out);
     if h.children == 1 {
         let end = put_last(out, below.to, h.kind, h.operand);
         return Spot {

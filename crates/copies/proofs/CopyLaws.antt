@@ -1,10 +1,9 @@
 -- The records of a doubled statement, one after the other: the statement's own, by its new operand, then those of its children, a loop's body
 -- twice. How many bytes and locals there are does not hang on the numbers. By the statement's children. Assumes nothing.
 use mathlib.Core.Path.{◌≡◌, refl, sym, ◌∙◌, ap, ap₂, subst, subst⁻¹, fun_ext}
-use mathlib.Core.Logic.{◌⊎◌, inl, inr}
-use mathlib.Core.Bool.{Bool, true, false, cond}
-use mathlib.Core.List.{List, [], ◌∷◌, ◌++◌, append-nil}
-use Prim.Native.Nat.{ℕ, suc, ◌+◌, ◌-◌, ◌≤◌, ◌<◌}
+use mathlib.Core.Bool.{Bool, cond}
+use mathlib.Core.List.{List, [], ◌∷◌, ◌++◌}
+use Prim.Native.Nat.{ℕ, suc, ◌+◌, ◌≤◌, ◌<◌}
 use native.Mathlib.Decide.{ℕ_discrete}
 use native.Mathlib.Nat.{add-zero}
 use native.Mathlib.Omega.{arith}
@@ -14,8 +13,8 @@ use lib.Seq.{sets, get_or-set_same, get_or-set_other}
 use borrow.Author.Tests.{eq-eqb, ne_eqb}
 use Rattle.sets.specs.Numbers.{listed}
 use Rattle.rules.specs.Statements.{depth, Stmt, nothing, pause, emit, present?◌then◌else◌, suspend◌on◌, ◌⨾◌, loop, ◌parallel◌, trap, exit, local, pauses}
-use Rattle.tables.specs.Table.{Table, kind_of, operand_of, Small}
-use Rattle.tables.specs.Table.{table_of}
+use Rattle.tables.specs.Table.{kind_of, operand_of, Small}
+use Rattle.tables.specs.declared.Table.{Table}
 use Rattle.block.specs.Format.{preorder, bytes}
 use Rattle.tables.specs.Kinds.{shape, length_of}
 use Rattle.block.specs.Good.{locals}
@@ -367,15 +366,15 @@ begun_of ρ spot k x before l e f g h i = record {
 }
 
 -- What the calls ask for.
-pub record_room : {ks xs ns : List ℕ} {at : ℕ} {spot : Spot} {lent k : ℕ} → Writes ks xs ns at spot lent → k ≡ get_or ks at 0 → spot.to + length_of k ≤ lent
+pub record_room : {tab : Table} {at : ℕ} {spot : Spot} {lent k : ℕ} → Writes tab at spot lent → k ≡ get_or tab.kinds at 0 → spot.to + length_of k ≤ lent
 record_room {lent = lent} w k_is = let e = ap length_of (k_is ∙ its_kind w.lies) in omega (arith, own_room w.tree, w.room)
 
-module _ {ks xs ns : List ℕ} {at : ℕ} {spot : Spot} {lent k to lent' : ℕ} (w : Writes ks xs ns at spot lent) (k_is : k ≡ get_or ks at 0) (to_is : to ≡ spot.to + length_of k)
+module _ {tab : Table} {at : ℕ} {spot : Spot} {lent k to lent' : ℕ} (w : Writes tab at spot lent) (k_is : k ≡ get_or tab.kinds at 0) (to_is : to ≡ spot.to + length_of k)
     (same : lent' ≡ lent) where
   own_length : length_of k ≡ length_of (kind_of w.tree)
   own_length = ap length_of (k_is ∙ its_kind w.lies)
 
-  pub over_writes : {i n' : ℕ} → n' ≡ spot.next + cond (eqb k 26) 1 0 → HasOne (table_of ks xs ns) at i w.tree → Writes ks xs ns i (record { to = to; next = n' }) lent'
+  pub over_writes : {i n' : ℕ} → n' ≡ spot.next + cond (eqb k 26) 1 0 → HasOne tab at i w.tree → Writes tab i (record { to = to; next = n' }) lent'
   over_writes e h =
       let f = ap (λ (k : ℕ). spot.next + cond (eqb k 26) 1 0) (k_is ∙ its_kind w.lies) in
       record {
@@ -385,7 +384,7 @@ module _ {ks xs ns : List ℕ} {at : ℕ} {spot : Spot} {lent k to lent' : ℕ} 
         few = omega (arith, w.few, over_locals h.its 0);
       }
 
-  pub first_writes : {i m : ℕ} → HasTwo (table_of ks xs ns) at i m w.tree → Writes ks xs ns i (record { to = to; next = spot.next }) lent'
+  pub first_writes : {i m : ℕ} → HasTwo tab at i m w.tree → Writes tab i (record { to = to; next = spot.next }) lent'
   first_writes h = record {
     tree = h.first;
     lies = h.first_lies;
@@ -393,8 +392,8 @@ module _ {ks xs ns : List ℕ} {at : ℕ} {spot : Spot} {lent k to lent' : ℕ} 
     few = omega (arith, w.few, joins_locals h.its 0);
   }
 
-  pub second_writes : {i m : ℕ} {ρ : ℕ → ℕ} {half : Spot} {before now : List ℕ} (h : HasTwo (table_of ks xs ns) at i m w.tree)
-      → Copied h.first ρ 0 (record { to = to; next = spot.next }) half before now → Writes ks xs ns m half lent'
+  pub second_writes : {i m : ℕ} {ρ : ℕ → ℕ} {half : Spot} {before now : List ℕ} (h : HasTwo tab at i m w.tree)
+      → Copied h.first ρ 0 (record { to = to; next = spot.next }) half before now → Writes tab m half lent'
   second_writes {ρ = ρ} h c = record {
     tree = h.second;
     lies = h.second_lies;
@@ -403,7 +402,7 @@ module _ {ks xs ns : List ℕ} {at : ℕ} {spot : Spot} {lent k to lent' : ℕ} 
   }
 
   -- A loop: the body is written below a sequence, and then once more.
-  body_bytes : {i : ℕ} (h : HasBody (table_of ks xs ns) at i w.tree)
+  body_bytes : {i : ℕ} (h : HasBody tab at i w.tree)
       → bytes (preorder (copies 0 w.tree)) ≡ length_of k + (length_of 21 + (bytes (preorder (copies 0 h.child)) + bytes (preorder (copies 0 h.child))))
   unfolding kind_of
   body_bytes h =
@@ -411,19 +410,19 @@ module _ {ks xs ns : List ℕ} {at : ℕ} {spot : Spot} {lent k to lent' : ℕ} 
       ∙ ap₂ (λ (m n : ℕ). m + (length_of 21 + (bytes (preorder (copies 0 h.child)) + n))) (sym (own_length ∙ ap (λ (t : Stmt). length_of (kind_of t)) h.its))
       (same_bytes (behind 0 h.child) 0 h.child)
 
-  body_locals : {i : ℕ} (h : HasBody (table_of ks xs ns) at i w.tree) → length (locals (copies 0 w.tree)) ≡ length (locals (copies 0 h.child)) + length (locals (copies 0 h.child))
+  body_locals : {i : ℕ} (h : HasBody tab at i w.tree) → length (locals (copies 0 w.tree)) ≡ length (locals (copies 0 h.child)) + length (locals (copies 0 h.child))
   body_locals h =
       ap (λ (t : Stmt). length (locals (copies 0 t))) h.its ∙ loop_locals h.child 0
       ∙ ap (λ (n : ℕ). length (locals (copies 0 h.child)) + n) (same_locals (behind 0 h.child) 0 h.child)
 
-  pub sequence_room : {i : ℕ} → HasBody (table_of ks xs ns) at i w.tree → to + length_of 21 ≤ lent'
+  pub sequence_room : {i : ℕ} → HasBody tab at i w.tree → to + length_of 21 ≤ lent'
   sequence_room h = omega (arith, w.room, body_bytes h)
 
-  pub once_writes : {i to₁ : ℕ} → to₁ ≡ to + length_of 21 → HasBody (table_of ks xs ns) at i w.tree → Writes ks xs ns i (record { to = to₁; next = spot.next }) lent'
+  pub once_writes : {i to₁ : ℕ} → to₁ ≡ to + length_of 21 → HasBody tab at i w.tree → Writes tab i (record { to = to₁; next = spot.next }) lent'
   once_writes e h = record { tree = h.child; lies = h.lies; room = omega (arith, w.room, body_bytes h); few = omega (arith, w.few, body_locals h) }
 
-  pub again_writes : {i to₁ : ℕ} {ρ : ℕ → ℕ} {half : Spot} {before now : List ℕ} → to₁ ≡ to + length_of 21 → (h : HasBody (table_of ks xs ns) at i w.tree)
-      → Copied h.child ρ 0 (record { to = to₁; next = spot.next }) half before now → Writes ks xs ns i half lent'
+  pub again_writes : {i to₁ : ℕ} {ρ : ℕ → ℕ} {half : Spot} {before now : List ℕ} → to₁ ≡ to + length_of 21 → (h : HasBody tab at i w.tree)
+      → Copied h.child ρ 0 (record { to = to₁; next = spot.next }) half before now → Writes tab i half lent'
   again_writes {ρ = ρ} e h c = record {
     tree = h.child;
     lies = h.lies;

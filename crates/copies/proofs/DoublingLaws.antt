@@ -1,77 +1,43 @@
 -- The call: the measures tell whether the doubled block is within the limits, the header and the records make its bytes, and a refusal of the
 -- block is passed on with its number and place. Assumes nothing.
-use mathlib.Core.Path.{◌≡◌, refl, sym, ◌∙◌, ap, ap₂, subst, subst⁻¹}
-use mathlib.Core.Bool.{Bool, true, false, cond, ◌&&◌}
+use Rattle.std.specs.Prelude.{Result, Ok, Err}
+use mathlib.Core.Path.{◌≡◌, refl, sym, ◌∙◌, ap, ap₂, subst⁻¹, subst}
+use mathlib.Core.Bool.{Bool, true, false, cond}
 use mathlib.Core.List.{List, [], ◌∷◌}
-use Prim.Native.Nat.{ℕ, ◌+◌, ◌*◌, ◌≤◌, ◌<◌}
-use native.Mathlib.Decide.{ℕ_discrete, dec_le}
+use Prim.Native.Nat.{ℕ, ◌+◌, ◌≤◌, ◌<◌}
+use native.Mathlib.Decide.{dec_le}
 use native.Mathlib.Omega.{arith}
 use lib.Dec.{T, leb, leb→le}
-use lib.ListN.{length, get_or, set}
-use lib.Seq.{sets, length-sets, get_or-set_same, get_or-set_other}
-use borrow.Author.Tests.{le-leb, lt-leb}
-use Rattle.sets.proofs.Members.{same, of_true, is_true, and_in, and_left, and_right}
+use lib.ListN.{length}
+use lib.Seq.{sets}
+use borrow.Author.Tests.{le-leb}
+use Rattle.sets.proofs.Members.{same, of_true, and_in, and_left, and_right}
 use Rattle.rules.specs.Statements.{Stmt, pauses}
-use Rattle.refusals.specs.Refusals.{number, why_of}
-use Rattle.refusals.specs.declared.Why.{Why}
+use Rattle.refusals.specs.Refusals.{number}
 use Rattle.refusals.specs.declared.Why.TheVariants.{Limit}
 use Rattle.refusals.proofs.Laws.{number_back, of_a_block}
-use Rattle.tables.specs.Table.{Table, statements, Has}
-use Rattle.block.specs.Told.{summary_of, answer_to, InTable, header_of}
-use Rattle.tables.specs.Table.{table_of}
+use Rattle.tables.specs.Table.{statements}
+use Rattle.tables.specs.declared.Table.{Table}
+use Rattle.block.specs.Told.{refusal_of, summary_of, answer_to, InTable, header_of}
 use Rattle.block.specs.Format.{LIMIT, Header, Good, Reading, good, turned_down, reading, preorder, bytes}
 use Rattle.block.specs.Good.{path, nested_traps, nested_locals, locals}
 use Rattle.block.specs.declared.whole.Summary.{Summary}
-use Rattle.block.specs.declared.whole.Checked.{Checked}
-use Rattle.block.specs.declared.whole.Checked.TheVariants.{Good as GoodBlock, Refused as RefusedBlock}
 use Rattle.block.proofs.GoodReadings.{sound, numbers}
 use Rattle.tables.proofs.Places.{all_counted}
 use Rattle.writing.specs.Written.{records, header_bytes, block_bytes}
 use Rattle.writing.specs.Answers.{Writing, writes, refuses, roomed, wrote_values, wrote_owed, out_owed}
-use Rattle.writing.specs.declared.Wrote.{Wrote}
-use Rattle.writing.specs.declared.Wrote.TheVariants.{Bytes, Refused}
+use Rattle.refusals.specs.declared.Refused.{Refused}
 use Rattle.writing.proofs.Back.{bytes_most}
-use Rattle.writing.proofs.Stores.{too_few, enough, block_stored, block_length, out_written}
+use Rattle.writing.proofs.Stores.{too_few, enough, block_stored, block_length, out_written, fits_in, does_not_fit}
 use Rattle.doubled.specs.Copies.{copies, renamed, itself, doubled, doubled_header, within_limits, doubled_writing, doubling, doubling_of}
 use Rattle.doubled.proofs.Made.{made_traps, made_nested, renamed_alike, renamed_locals}
 use Rattle.copies.specs.declared.sizes.Size.{Size}
 use Rattle.copies.specs.declared.copying.Spot.{Spot}
-use Rattle.copies.specs.Nodes.{Lies}
 use Rattle.copies.specs.Sizes.{capped, SizeOf, Measured}
-use Rattle.copies.specs.Copying.{names_of, Writes, Copied}
+use Rattle.copies.specs.Copying.{Writes, Copied}
 use Rattle.copies.specs.Doubling.{size_within, Doubles, Doubled}
 use Rattle.copies.proofs.SizeLaws.{capped_small, capped_large}
 use Rattle.copies.proofs.CopyLaws.{renamed_bytes}
-
--- One name more.
-pub own_more : (names : List ℕ) (i w : ℕ) → w ≡ i → i < length names → ((j : ℕ) → j < i → get_or names j 0 ≡ j) → (j : ℕ) → j < i + 1 → get_or (set names w i) j 0 ≡ j
-own_more names i w e l f j h = ap (λ (n : ℕ). get_or (set names n i) j 0) e ∙ go (ℕ_discrete j i)
-  where
-    go : Dec (j ≡ i) → get_or (set names i i) j 0 ≡ j
-    go (yes q) = ap (λ (n : ℕ). get_or (set names i i) n 0) q ∙ get_or-set_same names i i 0 l ∙ sym q
-    go (no q) = get_or-set_other names i j i 0 q ∙ f j (omega arith)
-
--- A test that fails decides, and where all hold the last does.
-pub over_signals : (n : ℕ) (s : Size) → 64 < n + s.locals → false ≡ size_within n s
-unfolding size_within
-over_signals n s l = sym (ap (λ (z : Bool). z && (leb s.statements 512 && (leb s.pauses 128 && leb s.path 64))) (lt-leb (n + s.locals) 64 l))
-
-pub over_statements : (n : ℕ) (s : Size) → n + s.locals ≤ 64 → 512 < s.statements → false ≡ size_within n s
-unfolding size_within
-over_statements n s a l =
-    sym (ap₂ (λ (y z : Bool). y && (z && (leb s.pauses 128 && leb s.path 64))) (le-leb (n + s.locals) 64 a) (lt-leb s.statements 512 l))
-
-pub over_pauses : (n : ℕ) (s : Size) → n + s.locals ≤ 64 → s.statements ≤ 512 → 128 < s.pauses → false ≡ size_within n s
-unfolding size_within
-over_pauses n s a b l =
-    sym (ap₂ (λ (y z : Bool). y && (z && (leb s.pauses 128 && leb s.path 64))) (le-leb (n + s.locals) 64 a) (le-leb s.statements 512 b)
-    ∙ ap (λ (z : Bool). z && leb s.path 64) (lt-leb s.pauses 128 l))
-
-pub only_path : (n : ℕ) (s : Size) → n + s.locals ≤ 64 → s.statements ≤ 512 → s.pauses ≤ 128 → leb s.path 64 ≡ size_within n s
-unfolding size_within
-only_path n s a b c =
-    sym (ap₂ (λ (y z : Bool). y && (z && (leb s.pauses 128 && leb s.path 64))) (le-leb (n + s.locals) 64 a) (le-leb s.statements 512 b)
-    ∙ ap (λ (z : Bool). z && leb s.path 64) (le-leb s.pauses 128 c))
 
 -- A count within a limit is the true one.
 below_cap : (n l : ℕ) → capped n ≤ l → l < 4000 → n ≤ l
@@ -166,7 +132,7 @@ unfolding doubled_writing
 written_out h t e = ap (λ (z : Bool). cond z (writes (block_bytes (doubled_header h t) (doubled h t))) (refuses LIMIT 0)) e
 
 -- What the code does with a good block's table and its measures.
-module _ {ks xs ns : List ℕ} {s : Summary} {h : Header} {t : Stmt} (d : Doubles ks xs ns s h t) {z : Size} (m : Measured t z) where
+module _ {tab : Table} {s : Summary} {h : Header} {t : Stmt} (d : Doubles tab s h t) {z : Size} (m : Measured t z) where
   abbrev whole : List ℕ
   whole = block_bytes (doubled_header h t) (doubled h t)
 
@@ -176,9 +142,9 @@ module _ {ks xs ns : List ℕ} {s : Summary} {h : Header} {t : Stmt} (d : Double
   told : {v : Bool} → v ≡ size_within (s.inputs + s.outputs) z → within_limits (doubled_header h t) (doubled h t) ≡ v
   told e = sym (e ∙ ap (λ (n : ℕ). size_within n z) signals_are ∙ limits_told h m d.traps_nested d.locals_nested)
 
-  pub limit_answered : (before : List ℕ) → false ≡ size_within (s.inputs + s.outputs) z → Doubled (doubled_writing h t) before before (Refused Limit 0)
+  pub limit_answered : (before : List ℕ) → false ≡ size_within (s.inputs + s.outputs) z → Doubled (doubled_writing h t) before before (Err (record { why = Limit; place = 0 }))
   unfolding roomed wrote_values wrote_owed out_owed number
-  limit_answered before e = subst⁻¹ (λ (w : Writing). Doubled w before before (Refused Limit 0)) (limited h t (told e)) (record { answered = refl; stored = refl })
+  limit_answered before e = subst⁻¹ (λ (w : Writing). Doubled w before before (Err (record { why = Limit; place = 0 }))) (limited h t (told e)) (record { answered = refl; stored = refl })
 
   module _ (good : true ≡ size_within (s.inputs + s.outputs) z) where
     pub in_limits : Inside h t z
@@ -187,22 +153,29 @@ module _ {ks xs ns : List ℕ} {s : Summary} {h : Header} {t : Stmt} (d : Double
     pub size_is : {n : ℕ} → n ≡ 14 + z.bytes → length whole ≡ n
     size_is e = block_length (doubled_header h t) (doubled h t) ∙ ap (λ (n : ℕ). 14 + n) (sym in_limits.its_bytes) ∙ sym e
 
-    answers : {before after : List ℕ} {r : Wrote} {n : ℕ} → n ≡ 14 + z.bytes → ((bs : List ℕ) → length bs ≡ n → wrote_values r ≡ wrote_owed (roomed (writes bs) (length before)))
+    answers : {before after : List ℕ} {r : Result ℕ Refused} {n : ℕ} → n ≡ 14 + z.bytes → ((bs : List ℕ) → length bs ≡ n → wrote_values r ≡ wrote_owed (roomed (writes bs) (length before)))
         → after ≡ out_owed (roomed (writes whole) (length before)) before → Doubled (doubled_writing h t) before after r
     answers {before} {after} {r} e f g =
         subst⁻¹ (λ (w : Writing). Doubled w before after r) (written_out h t (told good)) (record { answered = f whole (size_is e); stored = g })
 
-    pub room_answered : (before : List ℕ) {r : Wrote} {n : ℕ} → n ≡ 14 + z.bytes → ((bs : List ℕ) → length bs ≡ n → wrote_values r ≡ wrote_owed (roomed (writes bs) (length before)))
-        → length before < n → Doubled (doubled_writing h t) before before r
-    unfolding out_owed
-    room_answered before e f l =
-        answers e f (sym (ap (λ (w : Writing). out_owed w before) (too_few whole (length before) (omega (arith, size_is e)))))
+    -- The room, by what the test of it answered.
+    module _ (before : List ℕ) {r : Result ℕ Refused} {n : ℕ} (e : n ≡ 14 + z.bytes)
+        (f : (bs : List ℕ) → length bs ≡ n → wrote_values r ≡ wrote_owed (roomed (writes bs) (length before))) where
+      pub room_answered : {refusal : Refused} → r ≡ Err refusal → Doubled (doubled_writing h t) before before (Err refusal)
+      unfolding out_owed
+      room_answered {refusal} w =
+          let l = does_not_fit whole (length before) refusal (sym (ap wrote_values w) ∙ f whole (size_is e)) in
+          subst (λ (x : Result ℕ Refused). Doubled (doubled_writing h t) before before x) w
+          (answers e f (sym (ap (λ (w : Writing). out_owed w before) (too_few whole (length before) l))))
+
+      pub enough_lent : {k : ℕ} → r ≡ Ok k → n ≤ length before
+      enough_lent {k} w = omega (arith, size_is e, (fits_in whole (length before) k (sym (ap wrote_values w) ∙ f whole (size_is e))).1)
 
     pub header_is : header_of (record { version = s.version; inputs = s.inputs; outputs = s.outputs; locals = z.locals }) ≡ doubled_header h t
     unfolding doubled_header
     header_is = λ i. record { version = sym d.its_version i; inputs = sym d.its_inputs i; outputs = sym d.its_outputs i; locals = in_limits.its_locals i }
 
-    pub writes_all : {n lent : ℕ} → n ≡ 14 + z.bytes → n ≤ lent → Writes ks xs ns 0 (record { to = 14; next = s.inputs + s.outputs }) lent
+    pub writes_all : {n lent : ℕ} → n ≡ 14 + z.bytes → n ≤ lent → Writes tab 0 (record { to = 14; next = s.inputs + s.outputs }) lent
     unfolding doubled
     writes_all e l = record {
       tree = t;
@@ -215,45 +188,47 @@ module _ {ks xs ns : List ℕ} {s : Summary} {h : Header} {t : Stmt} (d : Double
     unfolding doubled
     names_alike ρ f = ap (λ (n : ℕ). renamed ρ n (copies 0 t)) signals_are ∙ renamed_alike t ρ itself (h.inputs + h.outputs) 0 f d.lies.small
 
-    pub all_written : (before : List ℕ) {now after : List ℕ} {r : Wrote} {n : ℕ} {ρ : ℕ → ℕ} {spot : Spot} → n ≡ 14 + z.bytes
-        → ((bs : List ℕ) → length bs ≡ n → wrote_values r ≡ wrote_owed (roomed (writes bs) (length before))) → n ≤ length before
+    pub all_written : (before : List ℕ) {now after : List ℕ} {r : Result ℕ Refused} {n : ℕ} {ρ : ℕ → ℕ} {spot : Spot} → n ≡ 14 + z.bytes
+        → ((bs : List ℕ) → length bs ≡ n → wrote_values r ≡ wrote_owed (roomed (writes bs) (length before))) → {k : ℕ} → r ≡ Ok k
         → now ≡ sets before 0 (header_bytes (header_of (record { version = s.version; inputs = s.inputs; outputs = s.outputs; locals = z.locals })))
-        → ((x : ℕ) → x < 64 → ρ x ≡ x) → Copied t ρ 0 (record { to = 14; next = s.inputs + s.outputs }) spot now after → Doubled (doubled_writing h t) before after r
-    all_written before {now} {after} {ρ = ρ} e f l g names c =
+        → ((x : ℕ) → x < 64 → ρ x ≡ x) → Copied t ρ 0 (record { to = 14; next = s.inputs + s.outputs }) spot now after → Doubled (doubled_writing h t) before after (Ok k)
+    all_written before {now} {after} {r} {ρ = ρ} e f w g names c =
+        let l = enough_lent before e f w in
         let first : now ≡ sets before 0 (header_bytes (doubled_header h t)) = g ∙ ap (λ (x : Header). sets before 0 (header_bytes x)) header_is in
         let second : after ≡ sets now 14 (records (preorder (doubled h t))) = c.stored ∙ ap (λ (u : Stmt). sets now 14 (records (preorder u))) (names_alike ρ names) in
         let fits : length whole ≤ length before = omega (arith, size_is e) in
-        answers e f (second ∙ ap (λ (x : List ℕ). sets x 14 (records (preorder (doubled h t)))) first ∙ block_stored before (doubled_header h t) (doubled h t)
+        subst (λ (x : Result ℕ Refused). Doubled (doubled_writing h t) before after x) w
+        (answers e f (second ∙ ap (λ (x : List ℕ). sets x 14 (records (preorder (doubled h t)))) first ∙ block_stored before (doubled_header h t) (doubled h t)
         ∙ out_written before (doubled_header h t) (doubled h t) (omega (arith, block_length (doubled_header h t) (doubled h t)))
-        ∙ sym (ap (λ (w : Writing). out_owed w before) (enough whole (length before) fits)))
+        ∙ sym (ap (λ (w : Writing). out_owed w before) (enough whole (length before) fits))))
 
-refused_as : (b before : List ℕ) (x : Reading) {w : Why} {at : ℕ} → reading b ≡ x → answer_to x ≡ RefusedBlock w at → Doubled (doubling_of x) before before (Refused w at)
+refused_as : (b before : List ℕ) (x : Reading) {refusal : Refused} → reading b ≡ x → answer_to x ≡ Err refusal → Doubled (doubling_of x) before before (Err refusal)
 unfolding answer_to doubling_of roomed wrote_values wrote_owed out_owed
 refused_as b before (good g) q r = let z : ◌≡◌ {A = ℕ} 0 1 = cc in absurd (omega arith)
-refused_as b before (turned_down n at') {w} {at} q r =
-    let e : why_of n ≡ w = cc in
-    let f : at' ≡ at = cc in
-    let k = numbers b n at' q in
-    let v : number w ≡ n = sym (ap number e) ∙ number_back n (of_a_block n k.0 k.1) in
+refused_as b before (turned_down n at) {refusal} q r =
+    let same : refusal_of n at ≡ refusal = cc in
+    let f : at ≡ refusal.place = ap (λ (x : Refused). x.place) same in
+    let k = numbers b n at q in
+    let v : number refusal.why ≡ n = sym (ap (λ (x : Refused). number x.why) same) ∙ number_back n (of_a_block n k.0 k.1) in
     record { answered = λ i. v i ∷ sym f i ∷ 0 ∷ []; stored = refl }
 
 -- A refusal of the block is passed on; a good block's table is ready.
-pub refusal_passed : (b before : List ℕ) {a : Checked} {w : Why} {at : ℕ} → a ≡ answer_to (reading b) → a ≡ RefusedBlock w at → Doubled (doubling b) before before (Refused w at)
+pub refusal_passed : (b before : List ℕ) {a : Result Summary Refused} {refusal : Refused} → a ≡ answer_to (reading b) → a ≡ Err refusal → Doubled (doubling b) before before (Err refusal)
 unfolding doubling
-refusal_passed b before {a} {w} {at} e f = go (reading b) refl (sym e ∙ f)
+refusal_passed b before {a} {refusal} e f = go (reading b) refl (sym e ∙ f)
   where
-    go : (x : Reading) → reading b ≡ x → answer_to x ≡ RefusedBlock w at → Doubled (doubling_of x) before before (Refused w at)
+    go : (x : Reading) → reading b ≡ x → answer_to x ≡ Err refusal → Doubled (doubling_of x) before before (Err refusal)
     go x q r = refused_as b before x q r
 
-record Ready (b ks xs ns : List ℕ) (s : Summary) : Type 0 where
+record Ready (b : List ℕ) (tab : Table) (s : Summary) : Type 0 where
   read : Good
   reads : reading b ≡ good read
-  doubles : Doubles ks xs ns s read.header read.body
+  doubles : Doubles tab s read.header read.body
 
-good_as : (b ks xs ns : List ℕ) (x : Reading) {s : Summary} → reading b ≡ x → answer_to x ≡ GoodBlock s → InTable x (table_of ks xs ns) → Ready b ks xs ns s
+good_as : (b : List ℕ) (tab : Table) (x : Reading) {s : Summary} → reading b ≡ x → answer_to x ≡ Ok s → InTable x tab → Ready b tab s
 unfolding answer_to InTable
-good_as b ks xs ns (turned_down n at) q r w = let z : ◌≡◌ {A = ℕ} 0 1 = cc in absurd (omega arith)
-good_as b ks xs ns (good g) {s} q r w =
+good_as b tab (turned_down n at) q r w = let z : ◌≡◌ {A = ℕ} 0 1 = cc in absurd (omega arith)
+good_as b tab (good g) {s} q r w =
     let e : summary_of g ≡ s = cc in
     let f = sound b g q in
     record {
@@ -270,19 +245,19 @@ good_as b ks xs ns (good g) {s} q r w =
       };
     }
 
-ready_for : (b ks xs ns : List ℕ) {a : Checked} {s : Summary} → a ≡ answer_to (reading b) → a ≡ GoodBlock s → InTable (reading b) (table_of ks xs ns) → Ready b ks xs ns s
-ready_for b ks xs ns {a} {s} e f w = good_as b ks xs ns (reading b) refl (sym e ∙ f) w
+ready_for : (b : List ℕ) (tab : Table) {a : Result Summary Refused} {s : Summary} → a ≡ answer_to (reading b) → a ≡ Ok s → InTable (reading b) tab → Ready b tab s
+ready_for b tab {a} {s} e f w = good_as b tab (reading b) refl (sym e ∙ f) w
 
-passed_on : {b ks xs ns : List ℕ} {s : Summary} (g : Ready b ks xs ns s) {before after : List ℕ} {r : Wrote} → Doubled (doubled_writing g.read.header g.read.body) before after r
+passed_on : {b : List ℕ} {tab : Table} {s : Summary} (g : Ready b tab s) {before after : List ℕ} {r : Result ℕ Refused} → Doubled (doubled_writing g.read.header g.read.body) before after r
     → Doubled (doubling b) before after r
 unfolding doubling doubling_of
 passed_on g {before} {after} {r} d = subst⁻¹ (λ (x : Reading). Doubled (doubling_of x) before after r) g.reads d
 
 -- As the call needs them.
-pub table_ready : (b ks xs ns : List ℕ) {a : Checked} {s : Summary} → a ≡ answer_to (reading b) → a ≡ GoodBlock s → InTable (reading b) (table_of ks xs ns)
-    → (h : Header) × ((t : Stmt) × Doubles ks xs ns s h t)
-table_ready b ks xs ns e f w = let g = ready_for b ks xs ns e f w in (g.read.header, (g.read.body, g.doubles))
+pub table_ready : (b : List ℕ) (tab : Table) {a : Result Summary Refused} {s : Summary} → a ≡ answer_to (reading b) → a ≡ Ok s → InTable (reading b) tab
+    → (h : Header) × ((t : Stmt) × Doubles tab s h t)
+table_ready b tab e f w = let g = ready_for b tab e f w in (g.read.header, (g.read.body, g.doubles))
 
-pub all_passed : (b ks xs ns : List ℕ) {a : Checked} {s : Summary} {before after : List ℕ} {r : Wrote} → a ≡ answer_to (reading b) → a ≡ GoodBlock s → InTable (reading b) (table_of ks xs ns)
-    → ((h : Header) (t : Stmt) → Doubles ks xs ns s h t → Doubled (doubled_writing h t) before after r) → Doubled (doubling b) before after r
-all_passed b ks xs ns e f w d = let g = ready_for b ks xs ns e f w in passed_on g (d g.read.header g.read.body g.doubles)
+pub all_passed : (b : List ℕ) (tab : Table) {a : Result Summary Refused} {s : Summary} {before after : List ℕ} {r : Result ℕ Refused} → a ≡ answer_to (reading b) → a ≡ Ok s → InTable (reading b) tab
+    → ((h : Header) (t : Stmt) → Doubles tab s h t → Doubled (doubled_writing h t) before after r) → Doubled (doubling b) before after r
+all_passed b tab e f w d = let g = ready_for b tab e f w in passed_on g (d g.read.header g.read.body g.doubles)

@@ -1,17 +1,17 @@
 -- A statement's kind tells its children, and where they stand: by cases on the statement. Assumes nothing.
-use mathlib.Core.Path.{◌≡◌, refl, sym, ◌∙◌, ap, subst, subst⁻¹}
+use mathlib.Core.Path.{◌≡◌, refl, ◌∙◌, ap, subst, subst⁻¹}
 use mathlib.Core.Logic.{◌⊎◌, inl, inr}
 use mathlib.Core.List.{List, [], ◌∷◌}
 use mathlib.Core.Bool.{false, ◌||◌}
-use Prim.Native.Nat.{ℕ, ◌+◌, ◌-◌, ◌≤◌, ◌<◌}
+use Prim.Native.Nat.{ℕ, ◌+◌, ◌-◌, ◌<◌}
 use native.Mathlib.Omega.{arith}
 use lib.Dec.{T, eqb, eqb→eq}
 use lib.ListN.{get_or}
 use Rattle.sets.specs.Numbers.{listed}
 use Rattle.sets.proofs.Members.{eqb_in, or_left, or_right, or_out}
 use Rattle.rules.specs.Statements.{Stmt, nothing, pause, emit, present?◌then◌else◌, suspend◌on◌, ◌⨾◌, loop, ◌parallel◌, trap, exit, local}
-use Rattle.tables.specs.Table.{Table, kind_of, statements, Has, Small}
-use Rattle.tables.specs.Table.{table_of}
+use Rattle.tables.specs.Table.{kind_of, statements, Has, Small}
+use Rattle.tables.specs.declared.Table.{Table}
 use Rattle.tables.proofs.Rows.{has_row, some_statement}
 use Rattle.copies.specs.Nodes.{Lies, Somewhere, NoChild, a_nothing, a_pause, an_emit, an_exit, OneChild, a_suspend}
 use Rattle.copies.specs.Nodes.{a_trap, a_local, TwoChildren, a_present, a_sequence, a_parallel, HasOne, HasBody, HasTwo, Parts}
@@ -177,5 +177,5 @@ module _ {tab : Table} {at : ℕ} {t : Stmt} {r : Node} (w : Parts tab at t r) w
   as_joins e = subst (λ (r : Node). Parts tab at t r) e w
 
 -- A child may be asked for: less of the table is left.
-pub child_called : {ks xs ns : List ℕ} {at i n : ℕ} {p : Stmt} → 512 - at ≡ n → at < i → Lies (table_of ks xs ns) i p → (512 - i < n) × Somewhere ks ns i
-child_called {xs = xs} {p = p} e l h = (omega (arith, h.room, some_statement p), record { operands = xs; tree = p; lies = h })
+pub child_called : {tab : Table} {at i n : ℕ} {p : Stmt} → 512 - at ≡ n → at < i → Lies tab i p → (512 - i < n) × Somewhere tab i
+child_called {p = p} e l h = (omega (arith, h.room, some_statement p), record { tree = p; lies = h })

@@ -4,7 +4,7 @@ use Rattle.std.proofs.lemmas.List.Edits.{sets}
 use Rattle.sets.specs.Numbers.{listed}
 use Rattle.rules.specs.Statements.{Stmt}
 use Rattle.likeness.specs.Likeness.{naming}
-use Rattle.tables.specs.Table.{table_of}
+use Rattle.tables.specs.declared.Table.{Table}
 use Rattle.block.specs.Format.{preorder, bytes}
 use Rattle.block.specs.Good.{locals}
 use Rattle.writing.specs.Written.{records}
@@ -25,9 +25,9 @@ unfoldable pub names_in : ℕ → ℕ → (ℕ → ℕ) → ℕ → ℕ → ℕ
 names_in k x ρ n = cond (eqb k 26) (naming ρ x n) ρ
 
 -- A statement stands there, and there is room for its records and numbers for its locals.
-pub record Writes (ks xs ns : List ℕ) (at : ℕ) (spot : Spot) (lent : ℕ) : Type 0 where
+pub record Writes (tab : Table) (at : ℕ) (spot : Spot) (lent : ℕ) : Type 0 where
   pub tree : Stmt
-  pub lies : Lies (table_of ks xs ns) at tree
+  pub lies : Lies tab at tree
   pub room : spot.to + bytes (preorder (copies 0 tree)) ≤ lent
   pub few : spot.next + length (locals (copies 0 tree)) ≤ 64
 

@@ -1,13 +1,12 @@
 -- The call's parts: the limits by the measures, and a good block's table. Assumes nothing.
-use Rattle.std.specs.Prelude.{◌≡◌, Bool, ◌&&◌, List, ℕ, ◌+◌, ◌≤◌, leb, length}
+use Rattle.std.specs.Prelude.{◌≡◌, Bool, ◌&&◌, List, ℕ, ◌+◌, ◌≤◌, leb, length, Result}
 use Rattle.rules.specs.Statements.{Stmt}
-use Rattle.tables.specs.Table.{statements}
-use Rattle.tables.specs.Table.{table_of}
+use Rattle.tables.specs.declared.Table.{Table}
 use Rattle.block.specs.Format.{Header}
 use Rattle.block.specs.Good.{nested_traps, nested_locals}
 use Rattle.block.specs.declared.whole.Summary.{Summary}
 use Rattle.writing.specs.Answers.{Writing, roomed, wrote_values, wrote_owed, out_owed}
-use Rattle.writing.specs.declared.Wrote.{Wrote}
+use Rattle.refusals.specs.declared.Refused.{Refused}
 use Rattle.copies.specs.Nodes.{Lies}
 use Rattle.copies.specs.declared.sizes.Size.{Size}
 
@@ -16,8 +15,8 @@ unfoldable pub size_within : ℕ → Size → Bool
 size_within signals s = leb (signals + s.locals) 64 && (leb s.statements 512 && (leb s.pauses 128 && leb s.path 64))
 
 -- The table has a good block's tree, and the summary its header.
-pub record Doubles (ks xs ns : List ℕ) (s : Summary) (h : Header) (t : Stmt) : Type 0 where
-  pub lies : Lies (table_of ks xs ns) 0 t
+pub record Doubles (tab : Table) (s : Summary) (h : Header) (t : Stmt) : Type 0 where
+  pub lies : Lies tab 0 t
   pub traps_nested : nested_traps t ≤ 16
   pub locals_nested : nested_locals t ≤ 6
   pub its_version : h.version ≡ s.version
@@ -26,6 +25,6 @@ pub record Doubles (ks xs ns : List ℕ) (s : Summary) (h : Header) (t : Stmt) :
   pub signals : h.inputs + h.outputs ≤ 64
 
 -- What is owed where so much is lent: the answer and every byte.
-pub record Doubled (w : Writing) (before after : List ℕ) (r : Wrote) : Type 0 where
+pub record Doubled (w : Writing) (before after : List ℕ) (r : Result ℕ Refused) : Type 0 where
   pub answered : wrote_values r ≡ wrote_owed (roomed w (length before))
   pub stored : after ≡ out_owed (roomed w (length before)) before

@@ -1,8 +1,8 @@
 -- A statement of the table by what stands below it. Assumes nothing.
-use Rattle.std.specs.Prelude.{◌≡◌, List, ℕ, ◌+◌, ◌≤◌, ◌<◌}
+use Rattle.std.specs.Prelude.{◌≡◌, ℕ, ◌+◌, ◌≤◌, ◌<◌}
 use Rattle.rules.specs.Statements.{Depth, Stmt, nothing, pause, emit, present?◌then◌else◌, suspend◌on◌, ◌⨾◌, loop, ◌parallel◌, trap, exit, local}
-use Rattle.tables.specs.Table.{Table, statements, Has, Small}
-use Rattle.tables.specs.Table.{table_of}
+use Rattle.tables.specs.Table.{statements, Has, Small}
+use Rattle.tables.specs.declared.Table.{Table}
 use Rattle.copies.specs.declared.nodes.Node.{Node}
 use Rattle.copies.specs.declared.nodes.Node.TheVariants.{Leaf, Over, Twice, Joins}
 
@@ -13,10 +13,9 @@ pub record Lies (tab : Table) (i : ℕ) (t : Stmt) : Type 0 where
   pub small : Small t
 
 -- Some statement stands at i.
-pub record Somewhere (kinds sizes : List ℕ) (i : ℕ) : Type 0 where
-  pub operands : List ℕ
+pub record Somewhere (tab : Table) (i : ℕ) : Type 0 where
   pub tree : Stmt
-  pub lies : Lies (table_of kinds operands sizes) i tree
+  pub lies : Lies tab i tree
 
 -- Statements by their children; a loop stands for itself.
 pub data NoChild : Stmt → Type 0 where

@@ -15,22 +15,18 @@ ghost use Rattle.copies.specs.Doubling.{size_within, Doubles, Doubled};
 use crate::copying::{Spot, put_copy};
 use crate::sizes::{Size, size_at};
 use block::Declared;
-use block::whole::{Checked, Summary, read_block};
-use refusals::Why;
+use block::whole::{Summary, read_block};
+use refusals::{Refused, Why};
+use std::array;
+use tables::Table;
 use tables::kinds::wide;
-use writing::{Wrote, in_room, put_header};
+use writing::{in_room, put_header};
 
 // Each signal under its own number.
 fn own_names() -> [u16; 64]
     ensures { (s : ℕ) → s < 64 → get_or result s 0 ≡ s }
 {
-    let mut names = [0u16; 64];
-    let mut i: u16 = 0;
-    while i < 64 {
-        names[wide(i)] = i;
-        i += 1;
-    }
-    names
+    array::from_fn(|s| s as u16)
 }
 
 // The limits that doubling can pass: nested traps and nested locals do not grow.
@@ -38,41 +34,21 @@ fn within(signals: u16, size: Size) -> bool
     requires { signals ≤ 64 }
     ensures { result ≡ size_within signals size }
 {
-    if 64 - signals < size.locals {
-        return false;
-    }
-    if 512 < size.statements {
-        return false;
-    }
-    if 128 < size.pauses {
-        return false;
-    }
-    size.path <= 64
+    size.locals <= 64 - signals && size.statements <= 512 && size.pauses <= 128 && size.path <= 64
 }
 
 // The doubled block of a table, measured before it is written.
-fn put_doubled(
-    kinds: &[u16; 512],
-    operands: &[u16; 512],
-    sizes: &[u16; 512],
-    s: Summary,
-    out: &mut [u8],
-) -> Wrote
-    requires { (h : Header) × ((t : Stmt) × Doubles kinds.now operands.now sizes.now s h t) }
-    ensures { (h : Header) (t : Stmt) → Doubles kinds.now operands.now sizes.now s h t
+fn put_doubled(table: &Table, s: Summary, out: &mut [u8]) -> Result<usize, Refused>
+    requires { (h : Header) × ((t : Stmt) × Doubles table.now s h t) }
+    ensures { (h : Header) (t : Stmt) → Doubles table.now s h t
         → Doubled (doubled_writing h t) out.old out.new result }
 {
     let signals = s.inputs + s.outputs;
-    let size = size_at(kinds, sizes, 0);
+    let size = size_at(table, 0);
     if !within(signals, size) {
-        return Wrote::Refused(Why::Limit, 0);
+        return Err(Why::Limit.at(0));
     }
-    let bytes = 14 + wide(size.bytes);
-    let lent = out.len();
-    let answer = in_room(bytes, lent);
-    if lent < bytes {
-        return answer;
-    }
+    let bytes = in_room(14 + wide(size.bytes), out.len())?;
     put_header(
         out,
         Declared {
@@ -83,9 +59,7 @@ fn put_doubled(
         },
     );
     put_copy(
-        kinds,
-        operands,
-        sizes,
+        table,
         0,
         own_names(),
         Spot {
@@ -94,20 +68,15 @@ fn put_doubled(
         },
         out,
     );
-    answer
+    Ok(bytes)
 }
 
 // Writes the block with each loop body in sequence with itself, from the inside out, with locals numbered anew, the header else kept.
-pub fn double_loops(block: &[u8], out: &mut [u8]) -> Wrote
+pub fn double_loops(block: &[u8], out: &mut [u8]) -> Result<usize, Refused>
     ensures result_value { wrote_values result ≡ wrote_owed (roomed (doubling block.now) (length out.old)) }
     ensures out_after { out.new ≡ out_owed (roomed (doubling block.now) (length out.old)) out.old }
 {
-    let mut kinds = [0u16; 512];
-    let mut operands = [0u16; 512];
-    let mut sizes = [0u16; 512];
-    let answer = read_block(block, &mut kinds, &mut operands, &mut sizes);
-    match answer {
-        Checked::Refused(why, place) => Wrote::Refused(why, place),
-        Checked::Good(s) => put_doubled(&kinds, &operands, &sizes, s, out),
-    }
+    let mut table = Table::empty();
+    let s = read_block(block, &mut table)?;
+    put_doubled(&table, s, out)
 }

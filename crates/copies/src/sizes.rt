@@ -1,11 +1,12 @@
 // What the copy of a statement takes: measured before a byte is written, since a refusal leaves them all.
-ghost use Rattle.std.specs.Prelude.{◌≡◌, List, ℕ, ◌+◌, max};
+ghost use Rattle.std.specs.Prelude.{◌≡◌, ◌+◌, max};
 ghost use Rattle.rules.specs.Statements.{Stmt};
-ghost use Rattle.tables.specs.Table.{table_of};
 ghost use Rattle.copies.specs.Nodes.{Lies, Somewhere};
 ghost use Rattle.copies.specs.Sizes.{capped, own_size, onto_size, side_size, Measured};
 
 use crate::nodes::{Node, node_at};
+use tables::Table;
+use tables::kinds::{EMIT, EXIT, LOCAL, LOOP, PAUSE, PRESENT, SUSPEND};
 
 // Statements, pauses, locals, the longest path and bytes, each at most 4,000: loops nested in each other double them at each level,
 // and no sum may wrap.
@@ -21,61 +22,35 @@ pub struct Size {
 fn plus(a: u16, b: u16) -> u16
     ensures { result ≡ capped (a + b) }
 {
-    if 4000 < a {
-        return 4000;
-    }
-    if 4000 - a < b {
-        return 4000;
-    }
-    a + b
-}
-
-fn longer(a: u16, b: u16) -> u16
-    ensures { result ≡ max a b }
-{
-    if a < b { b } else { a }
+    a.saturating_add(b).min(4000)
 }
 
 // A statement's own records: a loop's is followed by that of the sequence in its body.
 fn own_size(kind: u16) -> Size
     ensures { result ≡ own_size kind }
 {
+    let plain = Size {
+        statements: 1,
+        pauses: 0,
+        locals: 0,
+        path: 1,
+        bytes: 4,
+    };
     match kind {
-        17 => Size {
-            statements: 1,
-            pauses: 1,
-            locals: 0,
-            path: 1,
-            bytes: 4,
-        },
-        18 | 19 | 20 | 25 => Size {
-            statements: 1,
-            pauses: 0,
-            locals: 0,
-            path: 1,
-            bytes: 6,
-        },
-        22 => Size {
+        PAUSE => Size { pauses: 1, ..plain },
+        EMIT | PRESENT | SUSPEND | EXIT => Size { bytes: 6, ..plain },
+        LOOP => Size {
             statements: 2,
-            pauses: 0,
-            locals: 0,
             path: 2,
             bytes: 8,
+            ..plain
         },
-        26 => Size {
-            statements: 1,
-            pauses: 0,
+        LOCAL => Size {
             locals: 1,
-            path: 1,
             bytes: 6,
+            ..plain
         },
-        _ => Size {
-            statements: 1,
-            pauses: 0,
-            locals: 0,
-            path: 1,
-            bytes: 4,
-        },
+        _ => plain,
     }
 }
 
@@ -100,28 +75,24 @@ fn side(first: Size, second: Size) -> Size
         statements: plus(first.statements, second.statements),
         pauses: plus(first.pauses, second.pauses),
         locals: plus(first.locals, second.locals),
-        path: longer(first.path, second.path),
+        path: first.path.max(second.path),
         bytes: plus(first.bytes, second.bytes),
     }
 }
 
 // The child of a loop counts twice.
-pub(crate) fn size_at(kinds: &[u16; 512], sizes: &[u16; 512], at: usize) -> Size
-    requires { Somewhere kinds.now sizes.now at }
-    ensures { (xs : List ℕ) (t : Stmt) → Lies (table_of kinds.now xs sizes.now) at t → Measured t result }
+pub(crate) fn size_at(table: &Table, at: usize) -> Size
+    requires { Somewhere table.now at }
+    ensures { (t : Stmt) → Lies table.now at t → Measured t result }
 {
-    let own = own_size(kinds[at]);
-    let node = node_at(kinds, sizes, at);
-    match node {
+    let own = own_size(table.kinds[at]);
+    match node_at(table, at) {
         Node::Leaf => own,
-        Node::Over(p) => onto(own, size_at(kinds, sizes, p)),
+        Node::Over(p) => onto(own, size_at(table, p)),
         Node::Twice(p) => {
-            let body = size_at(kinds, sizes, p);
+            let body = size_at(table, p);
             onto(own, side(body, body))
         }
-        Node::Joins(p, q) => {
-            let first = size_at(kinds, sizes, p);
-            onto(own, side(first, size_at(kinds, sizes, q)))
-        }
+        Node::Joins(p, q) => { onto(own, side(size_at(table, p), size_at(table, q))) }
     }
 }

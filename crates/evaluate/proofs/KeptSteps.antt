@@ -1,18 +1,17 @@
 -- Each way through the walk of the next state. Assumes nothing.
-use mathlib.Core.Path.{◌≡◌, refl, sym, ap, ap₂, ◌∙◌, subst⁻¹}
-use mathlib.Core.Bool.{Bool, true, false, or-false}
+use mathlib.Core.Path.{◌≡◌, sym, ap, ap₂, ◌∙◌, subst⁻¹}
+use mathlib.Core.Bool.{Bool, false}
 use mathlib.Core.List.{List}
 use Prim.Native.Nat.{ℕ, ◌<◌}
 use native.Mathlib.Omega.{arith}
 use Rattle.sets.specs.Numbers.{Numbers, empty, single, union, without, only_if, maxima, downs}
 use Rattle.sets.specs.Words.{bits, set_of}
-use Rattle.sets.proofs.Members.{ext}
 use Rattle.rules.specs.Statements.{depth, code, Stmt}
 use Rattle.rules.specs.Events.{Status, present, absent, unknown, Event, giving}
 use Rattle.rules.specs.Instant.{Step, test, catch, scope, chain, beside, held}
 use Rattle.rules.specs.MustCan.{plus, must, can, local_status, gives}
 use Rattle.rules.specs.States.{kept, executed_as}
-use Rattle.tables.specs.Table.{Table}
+use Rattle.tables.specs.declared.Table.{Table}
 use Rattle.words.specs.declared.events.Heard.{Heard}
 use Rattle.tables.specs.declared.kinds.Depth.{Depth}
 use Rattle.words.specs.declared.pauses.Kept.{Kept}

@@ -14,16 +14,16 @@ use lib.Bits.{bit_and, bit_or, bit_xor, and_mask}
 use borrow.Author.Tests.{eq-eqb}
 use Rattle.sets.specs.Numbers.{Numbers, empty, count, lowest}
 use Rattle.sets.specs.Words.{bits, set_of}
-use Rattle.sets.proofs.Members.{is_true, is_false, of_true, of_false, ext, same, and_in, and_left, and_right}
+use Rattle.sets.proofs.Members.{is_true, is_false, of_true, of_false, ext, and_in, and_left, and_right}
 use Rattle.sets.proofs.Counts.{count_add, count_cong, count_none, count_first, lowest_some, lowest_in, lowest_empty}
 use Rattle.sets.proofs.Words.{below_power, bits_zero, bits_and, bits_or, bits_less, bits_ext}
 use Rattle.rules.specs.Statements.{Block, Stmt}
-use Rattle.rules.specs.Events.{Status, present, absent, unknown, Event, known, Hearing, all_heard, status_of, event}
+use Rattle.rules.specs.Events.{Status, present, absent, unknown, Event, Hearing, all_heard, status_of, event}
 use Rattle.rules.specs.Instant.{Step}
 use Rattle.rules.specs.MustCan.{plus, must, can, Given, marked, gives}
-use Rattle.rules.specs.States.{running, finished, active_of, step, kept, next}
+use Rattle.rules.specs.States.{State, fresh, running, finished, active_of, step, kept, next}
 use Rattle.rules.specs.Rounds as rules
-use Rattle.tables.specs.Table.{Table}
+use Rattle.tables.specs.declared.Table.{Table}
 use Rattle.theorems.specs.Reach.{Reached, at_first, settling}
 use Rattle.theorems.proofs.Reach.{round_settles}
 use Rattle.theorems.proofs.RoundsEnd.{nothing_left}
@@ -33,14 +33,18 @@ use Rattle.forms.specs.declared.form.Task.{Task}
 use Rattle.forms.specs.declared.form.Form.TheVariants.{Same}
 use Rattle.words.specs.declared.pauses.Kept.{Kept}
 use Rattle.evaluate.specs.declared.rounds.Ended.{Ended}
-use Rattle.evaluate.specs.declared.rounds.Phase.{Phase}
+use Rattle.records.specs.declared.state.Phase.{Phase}
+use Rattle.evaluate.specs.declared.rounds.Done.{Done}
 use Rattle.evaluate.specs.declared.rounds.Reacted.{Reacted}
 use Rattle.words.specs.Words.{event_of, given_of, hearing_of}
 use Rattle.forms.specs.Forms.{At, Live, step_of, Does, Shows}
 use Rattle.walk.specs.Walks.{Walked}
 use Rattle.evaluate.specs.Next.{Keeping}
 use Rattle.rules.specs.Rounds.{undecided, outputs_with}
-use Rattle.evaluate.specs.Reacts.{outs_from, statuses, marks_of, Fine, Marks, Sized, Rounded, Ends, state_of, OutputsAre, Answered, Undecided, IsAnswer, Reacts}
+use Rattle.evaluate.specs.Reacts.{outs_from, statuses, marks_of, Fine, Marks, Sized, Rounded, Ends, state_of, OutputsAre, DoneAs, Answered, Undecided, IsAnswer, Reacts}
+use Rattle.records.specs.Held.{phase_held}
+use Rattle.std.specs.Prelude.{Some}
+use Rattle.std.proofs.lemmas.Option.{same_Some}
 use Rattle.words.proofs.WordLaws.{shifted, power_of}
 
 -- Masks.
@@ -549,7 +553,7 @@ module _ (c w : ℕ) (legal : (n : ℕ) → bits w n ≡ (ltb n 18 && bits c n))
 
 -- The answer.
 module _ {b : Block} {i n : ℕ} {m : Heard} (z : Sized b i n) (f : Fine (outs_from i n) m) where
-  pub outputs_stand : {r : Reacted} → r.present ≡ m.present → r.absent ≡ m.absent → r.undecided ≡ undecided (statuses i n m) → (k : ℕ) → r.rounds ≡ k → OutputsAre b (marks_of b m) k r
+  pub outputs_stand : {r : Reacted} → r.marks.present ≡ m.present → r.marks.absent ≡ m.absent → r.undecided ≡ undecided (statuses i n m) → (k : ℕ) → r.rounds ≡ k → OutputsAre b (marks_of b m) k r
   outputs_stand p a u k e = record {
     present_is = ap bits p ∙ present_words b m (fine_block z f);
     absent_is = ap bits a ∙ absent_words b m (fine_block z f);
@@ -582,16 +586,25 @@ module _ {b : Block} {e : rules.Settled} {r : Reacted} where
   unfolding IsAnswer rules.answer
   is_known o A c q u = subst (λ (x : Option ℕ). IsAnswer b (rules.answer e x A) r) (sym q) u
 
-pub kept_answer : {b : Block} {outs : List Status} {k : ℕ} {r : Reacted} (c : ℕ) (A : Numbers) → r.known ≡ true → OutputsAre b outs k r → r.code.0 ≡ c → set_of r.kept ≡ cond (eqb c 1) A empty
-    → r.active ≡ count 128 (set_of r.kept) → Answered b outs c (next c A) k r
-kept_answer c A kn st cd kp ac = record {
-  known_is = kn;
-  outputs_are = st;
+pub kept_done : {d : Done} (c : ℕ) (A : Numbers) → d.code.0 ≡ c → set_of d.kept ≡ cond (eqb c 1) A empty → d.active ≡ count 128 (set_of d.kept)
+    → DoneAs c (next c A) d
+kept_done c A cd kp ac = record {
   code_is = cd;
   kept_is = kp ∙ sym (state_active c A);
   state_is = state_next c A ∙ ap (next c) (sym kp);
   active_is = ac;
 }
+
+-- What is done in an answer is what its field has.
+pub done_there : {b : Block} {outs : List Status} {c n : ℕ} {st : State} {r : Reacted} {d : Done} → Answered b outs c st n r → r.done ≡ Some d → DoneAs c st d
+done_there {c = c} {st = st} {d = d} a e = subst (λ (x : Done). DoneAs c st x) (same_Some a.done d (sym a.done_is ∙ e)) a.done_as
+
+-- A state is the one of its phase and its active set.
+pub state_of_held : (st : State) → state_of (phase_held st) (active_of st) ≡ st
+unfolding phase_held active_of
+state_of_held fresh = refl
+state_of_held (running A) = refl
+state_of_held finished = refl
 
 -- One instant, put together.
 pub reacts_is : (b : Block) (ph : Phase) (A : Numbers) (G : Hearing) (r : Reacted) (m : Heard) (k : ℕ) (C K : Numbers)

@@ -6,7 +6,7 @@ use Rattle.rules.specs.Events.{Event}
 use Rattle.rules.specs.Instant.{Step}
 use Rattle.rules.specs.States.{kept}
 use Rattle.rules.specs.MustCan.{must, gives}
-use Rattle.tables.specs.Table.{Table}
+use Rattle.tables.specs.declared.Table.{Table}
 use Rattle.words.specs.declared.events.Heard.{Heard}
 use Rattle.words.specs.declared.pauses.Kept.{Kept}
 use Rattle.words.specs.Words.{event_of}

@@ -1,6 +1,6 @@
 -- How the code's words and numbers stand for the answer to an instant. Assumes nothing.
-use Rattle.std.specs.Prelude.{◌≡◌, Bool, true, false, ◌&&◌, List, [], ◌∷◌, ℕ, zero, suc, ◌+◌, ◌-◌, leb, ltb}
-use Rattle.sets.specs.Numbers.{Numbers, empty, count}
+use Rattle.std.specs.Prelude.{◌≡◌, Some, None, Bool, true, false, ◌&&◌, List, [], ◌∷◌, ℕ, zero, suc, ◌+◌, leb, ltb}
+use Rattle.sets.specs.Numbers.{Numbers, count}
 use Rattle.sets.specs.Words.{bits, set_of}
 use Rattle.rules.specs.Statements.{Block}
 use Rattle.rules.specs.Events.{Status, present, absent, Hearing}
@@ -8,13 +8,16 @@ use Rattle.rules.specs.Instant.{Step}
 use Rattle.rules.specs.MustCan.{marked}
 use Rattle.rules.specs.States.{State, fresh, running, finished, active_of, next}
 use Rattle.rules.specs.Rounds.{round, begin, settle, outputs_with, Answer, answered, not_constructive, react, undecided}
-use Rattle.tables.specs.Table.{Table}
+use Rattle.tables.specs.declared.Table.{Table}
 use Rattle.words.specs.declared.events.Heard.{Heard}
 use Rattle.words.specs.declared.given.MustCan.{MustCan}
+use Rattle.forms.specs.declared.form.Going.{Going}
+use Rattle.forms.specs.declared.form.Going.TheVariants.{Started, Resumed, Idle}
 use Rattle.forms.specs.declared.form.Task.{Task}
 use Rattle.evaluate.specs.declared.rounds.Ended.{Ended}
-use Rattle.evaluate.specs.declared.rounds.Phase.{Phase}
-use Rattle.evaluate.specs.declared.rounds.Phase.TheVariants.{Fresh, Running, Finished}
+use Rattle.records.specs.declared.state.Phase.{Phase}
+use Rattle.records.specs.declared.state.Phase.TheVariants.{Fresh, Running, Finished}
+use Rattle.evaluate.specs.declared.rounds.Done.{Done}
 use Rattle.evaluate.specs.declared.rounds.Reacted.{Reacted}
 use Rattle.words.specs.Words.{event_of, hearing_of}
 use Rattle.forms.specs.Forms.{Live, Does}
@@ -67,27 +70,35 @@ state_of Fresh A = fresh
 state_of Running A = running A
 state_of Finished A = finished
 
+-- How the root is taken in a phase.
+abbrev pub going_by : Phase → Going
+going_by Fresh = Started
+going_by Running = Resumed
+going_by Finished = Idle
+
 pub record OutputsAre (b : Block) (outs : List Status) (n : ℕ) (r : Reacted) : Type 0 where
-  pub present_is : bits r.present ≡ outputs_with present b outs
-  pub absent_is : bits r.absent ≡ outputs_with absent b outs
+  pub present_is : bits r.marks.present ≡ outputs_with present b outs
+  pub absent_is : bits r.marks.absent ≡ outputs_with absent b outs
   pub undecided_is : r.undecided ≡ undecided outs
   pub rounds_is : r.rounds ≡ n
 
+-- What is done: the code, and the pauses that the next state keeps.
+pub record DoneAs (c : ℕ) (st : State) (d : Done) : Type 0 where
+  pub code_is : d.code.0 ≡ c
+  pub kept_is : set_of d.kept ≡ active_of st
+  pub state_is : st ≡ next c (set_of d.kept)
+  pub active_is : d.active ≡ count 128 (set_of d.kept)
+
 -- An answer, and its words and numbers: every field is settled.
 pub record Answered (b : Block) (outs : List Status) (c : ℕ) (st : State) (n : ℕ) (r : Reacted) : Type 0 where
-  pub known_is : r.known ≡ true
   pub outputs_are : OutputsAre b outs n r
-  pub code_is : r.code.0 ≡ c
-  pub kept_is : set_of r.kept ≡ active_of st
-  pub state_is : st ≡ next c (set_of r.kept)
-  pub active_is : r.active ≡ count 128 (set_of r.kept)
+  pub done : Done
+  pub done_is : r.done ≡ Some done
+  pub done_as : DoneAs c st done
 
 pub record Undecided (b : Block) (outs : List Status) (n : ℕ) (r : Reacted) : Type 0 where
-  pub known_is : r.known ≡ false
   pub outputs_are : OutputsAre b outs n r
-  pub code_is : r.code.0 ≡ 0
-  pub kept_is : set_of r.kept ≡ empty
-  pub active_is : r.active ≡ 0
+  pub done_is : r.done ≡ None
 
 unfoldable pub IsAnswer : Block → Answer → Reacted → Type 0
 IsAnswer b (answered outs c st n) r = Answered b outs c st n r

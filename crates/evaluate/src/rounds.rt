@@ -5,30 +5,23 @@ ghost use Rattle.sets.specs.Numbers.{Numbers, empty, lowest};
 ghost use Rattle.sets.specs.Words.{bits, set_of};
 ghost use Rattle.rules.specs.Statements.{Block, Stmt};
 ghost use Rattle.rules.specs.Events.{all_heard, event};
-ghost use Rattle.rules.specs.States.{step};
+ghost use Rattle.rules.specs.States.{step, next};
 ghost use Rattle.rules.specs.Rounds.{undecided, answer, code_width};
 ghost use Rattle.words.specs.Words.{event_of, hearing_of};
-ghost use Rattle.tables.specs.Table.{table_of};
 ghost use Rattle.forms.specs.Forms.{At, Placed, Live, step_of};
 ghost use Rattle.walk.specs.Memo.{Sound};
-ghost use Rattle.evaluate.specs.Reacts.{outs_from, statuses, marks_of, Fine, Marks, Sized, Rounded, Ends, state_of, IsAnswer, Reacts};
+ghost use Rattle.evaluate.specs.Reacts.{outs_from, statuses, marks_of, Fine, Marks, Sized, Rounded, Ends, state_of, going_by, DoneAs, IsAnswer, Reacts};
 
 use crate::next::next_kept;
 use forms::active::actives;
 use forms::form::{Going, Task};
+use records::state::Phase;
+use tables::Table;
 use tables::kinds::Code;
 use walk::walk;
 use words::events::Heard;
 use words::given::{Mark, MustCan};
 use words::pauses::{Kept, members_of, pause_count};
-
-// A state's phase; the active set stands beside it.
-#[derive(Clone, Copy)]
-pub enum Phase {
-    Fresh,
-    Running,
-    Finished,
-}
 
 // Where the rounds end: the outputs' marks, and how many rounds there were.
 #[derive(Clone, Copy)]
@@ -37,17 +30,22 @@ pub struct Ended {
     pub rounds: u16,
 }
 
-// The answer to an instant.
+// What a constructive instant comes to: its code, the pauses kept for the next one, and how many they are.
 #[derive(Clone, Copy)]
-pub struct Reacted {
-    pub known: bool,
-    pub present: u64,
-    pub absent: u64,
-    pub undecided: u32,
-    pub rounds: u16,
+pub struct Done {
     pub code: Code,
     pub kept: [u64; 2],
     pub active: u32,
+}
+
+// The answer to an instant: the outputs' marks, how many outputs have none, how many rounds there were, and what is done, where the
+// program is constructive.
+#[derive(Clone, Copy)]
+pub struct Reacted {
+    pub marks: Heard,
+    pub undecided: u32,
+    pub rounds: u16,
+    pub done: Option<Done>,
 }
 
 // The signals below a number.
@@ -111,9 +109,7 @@ pub(crate) fn marked_by(outs: u64, marks: Heard, a: MustCan) -> Heard
 
 // One round.
 fn round_of(
-    kinds: &[u16; 512],
-    operands: &[u16; 512],
-    sizes: &[u16; 512],
+    table: &Table,
     live: &[bool; 512],
     memo: &mut [u64],
     task: Task,
@@ -122,32 +118,20 @@ fn round_of(
     given: Heard,
     marks: Heard,
 ) -> Heard
-    requires { (inputs + outputs ≤ 64) × Placed (table_of kinds.now operands.now sizes.now) task.at
-        × Sound (table_of kinds.now operands.now sizes.now) live.now memo.old }
-    ensures { Rounded (table_of kinds.now operands.now sizes.now) live.now task inputs outputs given marks result
-        × Sound (table_of kinds.now operands.now sizes.now) live.now memo.new }
+    requires { (inputs + outputs ≤ 64) × Placed table.now task.at
+        × Sound table.now live.now memo.old }
+    ensures { Rounded table.now live.now task inputs outputs given marks result
+        × Sound table.now live.now memo.new }
 {
     let e = heard_in(inputs, given, marks);
-    let a = walk(kinds, operands, sizes, live, memo, Mark::Plus, task, e);
+    let a = walk(table, live, memo, Mark::Plus, task, e);
     let outs = outputs_of(inputs, outputs);
     marked_by(outs, marks, a.said)
 }
 
-fn same_marks(a: Heard, b: Heard) -> bool
-    ensures { result ≡ (eqb a.present b.present && eqb a.absent b.absent) }
-{
-    if a.present == b.present {
-        a.absent == b.absent
-    } else {
-        false
-    }
-}
-
 // All rounds: the last is the first that changes nothing. Where no output is undecided that is the next one, which is counted without a walk.
 pub(crate) fn all_rounds(
-    kinds: &[u16; 512],
-    operands: &[u16; 512],
-    sizes: &[u16; 512],
+    table: &Table,
     live: &[bool; 512],
     memo: &mut [u64],
     task: Task,
@@ -155,37 +139,39 @@ pub(crate) fn all_rounds(
     outputs: u16,
     given: Heard,
 ) -> Ended
-    requires { (inputs + outputs ≤ 64) × Placed (table_of kinds.now operands.now sizes.now) task.at
-        × Sound (table_of kinds.now operands.now sizes.now) live.now memo.old }
-    ensures { Ends (table_of kinds.now operands.now sizes.now) live.now task inputs outputs given result
-        × Sound (table_of kinds.now operands.now sizes.now) live.now memo.new }
+    requires { (inputs + outputs ≤ 64) × Placed table.now task.at
+        × Sound table.now live.now memo.old }
+    ensures { Ends table.now live.now task inputs outputs given result
+        × Sound table.now live.now memo.new }
 {
     let mut marks = Heard {
         present: 0,
         absent: 0,
     };
-    let mut rounds: u16 = 0;
-    while rounds <= outputs {
+    for rounds in 0..outputs + 1 {
+        let end = Ended {
+            marks,
+            rounds: rounds + 1,
+        };
         if undecided_of(inputs, outputs, marks) == 0 {
-            return Ended {
-                marks,
-                rounds: rounds + 1,
-            };
+            return end;
         }
-        let next = round_of(
-            kinds, operands, sizes, live, memo, task, inputs, outputs, given, marks,
-        );
-        rounds += 1;
-        if same_marks(next, marks) {
-            return Ended { marks, rounds };
+        let next = round_of(table, live, memo, task, inputs, outputs, given, marks);
+        if next == marks {
+            return end;
         }
         marks = next;
     }
-    Ended { marks, rounds }
+    Ended {
+        marks,
+        rounds: outputs + 1,
+    }
 }
 
-fn going_of(phase: Phase) -> Going
-    ensures { (A : Numbers) (t : Stmt) → step_of result A t ≡ step t (state_of phase A) }
+// How the root is taken in a phase: a finished block is not taken at all.
+pub fn going_of(phase: Phase) -> Going
+    ensures going { result ≡ going_by phase }
+    ensures its_step { (A : Numbers) (t : Stmt) → step_of result A t ≡ step t (state_of phase A) }
 {
     match phase {
         Phase::Fresh => Going::Started,
@@ -205,7 +191,7 @@ fn legal_codes(codes: u32) -> u32
 fn code_in(codes: u32) -> Code
     ensures { (codes ≡ 0 → ⊥) → lowest 32 (bits codes) ≡ some result.0 }
 {
-    Code(u32::trailing_zeros(codes))
+    Code(codes.trailing_zeros())
 }
 
 // What is kept for the next instant: code 1 keeps the pauses, another code none.
@@ -225,48 +211,41 @@ fn undecided_of(inputs: u16, outputs: u16, marks: Heard) -> u32
     members_of(outs & (outs ^ decided))
 }
 
+// What is done with a code, where the walk kept these pauses.
+fn done_with(code: Code, pauses: [u64; 2]) -> Done
+    ensures { DoneAs code.0 (next code.0 (set_of pauses)) result }
+{
+    let kept = kept_for(code, pauses);
+    Done {
+        code,
+        kept,
+        active: pause_count(kept),
+    }
+}
+
 // The answer from the final marks, and must's codes with what is kept at them.
 fn answer_of(inputs: u16, outputs: u16, end: Ended, last: Kept) -> Reacted
     requires { inputs + outputs ≤ 64 }
     ensures { (b : Block) → Sized b inputs outputs → Fine (outs_from inputs outputs) end.marks
         → IsAnswer b (answer (record { statuses = marks_of b end.marks; rounds = end.rounds }) (lowest code_width (bits last.codes)) (set_of last.pauses)) result }
 {
-    let marks = end.marks;
-    let undecided = undecided_of(inputs, outputs, marks);
     let codes = legal_codes(last.codes);
-    if codes == 0 {
-        return Reacted {
-            known: false,
-            present: marks.present,
-            absent: marks.absent,
-            undecided,
-            rounds: end.rounds,
-            code: Code(0),
-            kept: [0, 0],
-            active: 0,
-        };
-    }
-    let code = code_in(codes);
-    let pauses = last.pauses;
-    let kept = kept_for(code, pauses);
-    let active = pause_count(kept);
+    let done = if codes == 0 {
+        None
+    } else {
+        Some(done_with(code_in(codes), last.pauses))
+    };
     Reacted {
-        known: true,
-        present: marks.present,
-        absent: marks.absent,
-        undecided,
+        marks: end.marks,
+        undecided: undecided_of(inputs, outputs, end.marks),
         rounds: end.rounds,
-        code,
-        kept,
-        active,
+        done,
     }
 }
 
 // One instant with this memory, for the phase that the going is of.
 fn react_with(
-    kinds: &[u16; 512],
-    operands: &[u16; 512],
-    sizes: &[u16; 512],
+    table: &Table,
     live: &[bool; 512],
     memo: &mut [u64],
     going: Going,
@@ -275,53 +254,43 @@ fn react_with(
     outputs: u16,
     given: Heard,
 ) -> Reacted
-    requires { (inputs + outputs ≤ 64) × Placed (table_of kinds.now operands.now sizes.now) 0 × Sound (table_of kinds.now operands.now sizes.now) live.now memo.old }
+    requires { (inputs + outputs ≤ 64) × Placed table.now 0 × Sound table.now live.now memo.old }
     ensures { (phase : Phase) → ((A : Numbers) (t : Stmt) → step_of going A t ≡ step t (state_of phase A))
-        → Live (table_of kinds.now operands.now sizes.now) (set_of set) live.now
-        → (body : Stmt) → At (table_of kinds.now operands.now sizes.now) 0 body
+        → Live table.now (set_of set) live.now
+        → (body : Stmt) → At table.now 0 body
         → Reacts (record { inputs = inputs; outputs = outputs; body = body }) phase (set_of set) (hearing_of given) result }
 {
     let task = Task { at: 0, going };
-    let end = all_rounds(
-        kinds, operands, sizes, live, memo, task, inputs, outputs, given,
-    );
+    let end = all_rounds(table, live, memo, task, inputs, outputs, given);
     let e = heard_in(inputs, given, end.marks);
-    let last = next_kept(kinds, operands, sizes, live, memo, set, task, e);
+    let last = next_kept(table, live, memo, set, task, e);
     answer_of(inputs, outputs, end, last)
 }
 
 // One instant of a block from a state, with the inputs that are heard present and absent. Memory costs time too: the fewest statements have none,
 // few have it for their locals alone: 512 words are the 64 entries of `body_entry` in `walk`, 2,560 these and the 256 of `task_entry`.
 pub fn react(
-    kinds: &[u16; 512],
-    operands: &[u16; 512],
-    sizes: &[u16; 512],
+    table: &Table,
     phase: Phase,
     set: [u64; 2],
     inputs: u16,
     outputs: u16,
     given: Heard,
 ) -> Reacted
-    requires { (inputs + outputs ≤ 64) × Placed (table_of kinds.now operands.now sizes.now) 0 }
-    ensures { (body : Stmt) → At (table_of kinds.now operands.now sizes.now) 0 body
+    requires { (inputs + outputs ≤ 64) × Placed table.now 0 }
+    ensures { (body : Stmt) → At table.now 0 body
         → Reacts (record { inputs = inputs; outputs = outputs; body = body }) phase (set_of set) (hearing_of given) result }
 {
-    let live = actives(kinds, operands, sizes, set);
+    let live = actives(table, set);
     let going = going_of(phase);
-    if sizes[0] < 24 {
+    if table.sizes[0] < 24 {
         let mut none = [0u64; 1];
-        return react_with(
-            kinds, operands, sizes, &live, &mut none, going, set, inputs, outputs, given,
-        );
+        return react_with(table, &live, &mut none, going, set, inputs, outputs, given);
     }
-    if sizes[0] < 64 {
+    if table.sizes[0] < 64 {
         let mut few = [0u64; 512];
-        return react_with(
-            kinds, operands, sizes, &live, &mut few, going, set, inputs, outputs, given,
-        );
+        return react_with(table, &live, &mut few, going, set, inputs, outputs, given);
     }
     let mut memo = [0u64; 2560];
-    react_with(
-        kinds, operands, sizes, &live, &mut memo, going, set, inputs, outputs, given,
-    )
+    react_with(table, &live, &mut memo, going, set, inputs, outputs, given)
 }

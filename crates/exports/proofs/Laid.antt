@@ -10,6 +10,7 @@ use lib.Seq.{drop-cons, drop-length, sets}
 use borrow.Author.Tests.{eq-eqb, ne_eqb}
 use Rattle.records.specs.Numerals.{in_bytes}
 use Rattle.records.proofs.Bytes.{length_in_bytes, sets_append, sets_front}
+use Rattle.values.proofs.Counts.{Counted}
 use Rattle.exports.specs.Layout.{laid, lent, ANSWER, Answers, AnswersOwed, Stays, BLOCK_MOST, lent_both, AnswersBoth}
 
 pub length_laid : (xs : List ℕ) → length (laid xs) ≡ 8 * length xs
@@ -73,6 +74,18 @@ not_answered count xs a n = record {
   answer = at_another count a (laid xs) a n;
   whole = λ d. absurd (n d);
 }
+
+-- The first of an answer's values is a refusal's number.
+pub numbered : {count : ℕ} {vs xs : List ℕ} → 0 < count → vs ≡ xs → Counted count xs → (0 < length vs) × (get_or vs 0 0 < 65536)
+numbered {count} {vs} {xs} p v k =
+    let n : length vs ≡ count = ap length v ∙ k.counted in
+    let first : get_or vs 0 0 ≡ get_or xs 0 0 = ap (λ (ys : List ℕ). get_or ys 0 0) v in
+    (omega (arith, n, p), omega (arith, first, k.small))
+
+-- An answer of these values is one of the values that are owed.
+pub answered_by : (count : ℕ) {vs xs a a' : List ℕ} {r : ℕ} → length xs ≡ count → vs ≡ xs → Answers (length vs) vs a a' r → Answers count xs a a' r
+answered_by count {vs} {xs} {a} {a'} {r} e v w =
+    subst (λ (n : ℕ). Answers n xs a a' r) e (subst (λ (ys : List ℕ). Answers (length ys) ys a a' r) v w)
 
 -- The same where a relation settles the values; other lent bytes stay where nothing is answered.
 module _ (count : ℕ) (Owed : List ℕ → Type 0) (a : List ℕ) where

@@ -1,6 +1,6 @@
 -- The two C names whose contract is a relation have one answer as well: what the relation holds of is settled below, and the bytes follow from the values. By whether as many
 -- bytes are lent as the answer has. Assumes nothing.
-use mathlib.Core.Path.{◌≡◌, sym, ap, ◌∙◌, subst}
+use mathlib.Core.Path.{◌≡◌, sym, ap, ◌∙◌}
 use mathlib.Core.List.{List}
 use Prim.Native.Nat.{ℕ, ◌*◌}
 use native.Mathlib.Decide.{ℕ_discrete}

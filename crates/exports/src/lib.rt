@@ -14,7 +14,7 @@ ghost use Rattle.values.specs.Whole.{Compares, doubling_owed, doubling_leaves, c
 ghost use Rattle.exports.specs.Layout.{lent, Answers, AnswersOwed, Stays, lent_both, AnswersBoth};
 ghost use Rattle.values.specs.Calls.{told_values, logged_values, asked_by, told_why, install_owed, install_leaves, fetch_owed, fetch_leaves, withdraw_owed, withdraw_leaves};
 
-use crate::layout::put_values;
+use crate::layout::put_answer;
 use values::whole;
 
 const ANSWER: u16 = 64;
@@ -33,8 +33,7 @@ pub extern "C" fn foldheron_check(block: &[u8], answer: &mut [u8]) -> u16
         return ANSWER;
     }
     let values = values::check(block);
-    put_values(answer, &values);
-    values[0] as u16
+    put_answer(answer, &values)
 }
 
 // 16 bytes: the number and the place.
@@ -47,8 +46,7 @@ pub extern "C" fn foldheron_fresh(block: &[u8], state: &mut [u8], answer: &mut [
         return ANSWER;
     }
     let values = values::fresh(block, state);
-    put_values(answer, &values);
-    values[0] as u16
+    put_answer(answer, &values)
 }
 
 // 80 bytes: the number, the place, the pair, present, absent and undecided outputs, rounds, code, active pauses.
@@ -66,8 +64,7 @@ pub extern "C" fn foldheron_instant(
         return ANSWER;
     }
     let values = values::instant(block, state, inputs);
-    put_values(answer, &values[..10]);
-    values[0] as u16
+    put_answer(answer, &values[..10])
 }
 
 // 88 bytes: those of an instant, and the log's new end.
@@ -91,8 +88,7 @@ pub extern "C" fn foldheron_instant_logged(
         return ANSWER;
     }
     let values = values::instant_logged(block, state, inputs, log, end);
-    put_values(answer, &values);
-    values[0] as u16
+    put_answer(answer, &values)
 }
 
 // The same for the inputs present and the inputs absent, the rest being unknown.
@@ -112,8 +108,7 @@ pub extern "C" fn foldheron_instant_heard(
         return ANSWER;
     }
     let values = values::instant_heard(block, state, present, absent);
-    put_values(answer, &values[..10]);
-    values[0] as u16
+    put_answer(answer, &values[..10])
 }
 
 // The same with a log, 88 bytes.
@@ -138,8 +133,7 @@ pub extern "C" fn foldheron_instant_heard_logged(
         return ANSWER;
     }
     let values = values::instant_heard_logged(block, state, present, absent, log, end);
-    put_values(answer, &values);
-    values[0] as u16
+    put_answer(answer, &values)
 }
 
 // 32 bytes: the number, the place, and the offset and size of the part of the block.
@@ -151,8 +145,7 @@ pub extern "C" fn foldheron_excerpt(block: &[u8], n: usize, answer: &mut [u8]) -
         return ANSWER;
     }
     let values = values::excerpt(block, n);
-    put_values(answer, &values);
-    values[0] as u16
+    put_answer(answer, &values)
 }
 
 // 40 bytes: the number, the place, the pair, and the statement that is named.
@@ -172,8 +165,7 @@ pub extern "C" fn foldheron_reason(
         return ANSWER;
     }
     let values = values::reason(block, state, present, absent, asked, about);
-    put_values(answer, &values);
-    values[0] as u16
+    put_answer(answer, &values)
 }
 
 // 16 bytes: the number and the place.
@@ -192,8 +184,7 @@ pub extern "C" fn foldheron_install(
         return ANSWER;
     }
     let values = values::install(shelf, party, name, block);
-    put_values(answer, &values);
-    values[0] as u16
+    put_answer(answer, &values)
 }
 
 // 24 bytes: the number, the place, and how many bytes the block has, which is copied to the front of 3,086 lent bytes.
@@ -215,8 +206,7 @@ pub extern "C" fn foldheron_fetch(
         return ANSWER;
     }
     let values = values::fetch(shelf, party, name, block);
-    put_values(answer, &values);
-    values[0] as u16
+    put_answer(answer, &values)
 }
 
 // 16 bytes: the number and the place.
@@ -234,8 +224,7 @@ pub extern "C" fn foldheron_withdraw(
         return ANSWER;
     }
     let values = values::withdraw(shelf, party, name);
-    put_values(answer, &values);
-    values[0] as u16
+    put_answer(answer, &values)
 }
 
 // 32 bytes: the number, the place, which block is turned down, and the size of the run, which is written to the front of the lent bytes.
@@ -253,8 +242,7 @@ pub extern "C" fn foldheron_alike(
         return ANSWER;
     }
     let values = whole::alike(first, second, run);
-    put_values(answer, &values);
-    values[0] as u16
+    put_answer(answer, &values)
 }
 
 // 24 bytes: the number, the place, and how many bytes were written to the front of the lent ones.
@@ -267,8 +255,7 @@ pub extern "C" fn foldheron_double_loops(block: &[u8], out: &mut [u8], answer: &
         return ANSWER;
     }
     let values = whole::double_loops(block, out);
-    put_values(answer, &values);
-    values[0] as u16
+    put_answer(answer, &values)
 }
 
 // 24 bytes: the same of a block of edition 2 written in edition 1.
@@ -281,8 +268,7 @@ pub extern "C" fn foldheron_convert(block: &[u8], out: &mut [u8], answer: &mut [
         return ANSWER;
     }
     let values = whole::convert(block, out);
-    put_values(answer, &values);
-    values[0] as u16
+    put_answer(answer, &values)
 }
 
 // 24 bytes: the same of the text of a block.
@@ -295,8 +281,7 @@ pub extern "C" fn foldheron_write_text(block: &[u8], text: &mut [u8], answer: &m
         return ANSWER;
     }
     let values = whole::write_text(block, text);
-    put_values(answer, &values);
-    values[0] as u16
+    put_answer(answer, &values)
 }
 
 // 24 bytes: the same of the block that a text stands for.
@@ -309,8 +294,7 @@ pub extern "C" fn foldheron_read_text(text: &[u8], block: &mut [u8], answer: &mu
         return ANSWER;
     }
     let values = whole::read_text(text, block);
-    put_values(answer, &values);
-    values[0] as u16
+    put_answer(answer, &values)
 }
 
 // 40 bytes: the number, the place, and the signals whose rooms win, lose and draw.
@@ -322,8 +306,7 @@ pub extern "C" fn foldheron_maze(block: &[u8], inputs: u64, answer: &mut [u8]) -
         return ANSWER;
     }
     let values = whole::maze(block, inputs);
-    put_values(answer, &values);
-    values[0] as u16
+    put_answer(answer, &values)
 }
 
 // 48 bytes: the number, the place, which corridor, and the room that it leads to by its three numbers.
@@ -343,6 +326,5 @@ pub extern "C" fn foldheron_corridor(
         return ANSWER;
     }
     let values = whole::corridor(block, inputs, room, first, second, n);
-    put_values(answer, &values);
-    values[0] as u16
+    put_answer(answer, &values)
 }

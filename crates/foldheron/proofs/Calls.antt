@@ -1,7 +1,7 @@
 -- The calls of an instant: what each answer says of the verdict behind it. A number tells the cases apart, so by cases on the verdict.
 -- Assumes nothing.
 use mathlib.Core.Path.{◌≡◌, refl, sym, ◌∙◌, ap, ap₂, subst}
-use mathlib.Core.Logic.{◌≢◌, inl, inr}
+use mathlib.Core.Logic.{◌≢◌}
 use mathlib.Core.Bool.{Bool, true, false, cond}
 use mathlib.Core.List.{List, [], ◌∷◌}
 use mathlib.Core.Option.{Option, none, some}
@@ -9,8 +9,7 @@ use Prim.Native.Nat.{ℕ, ◌+◌, ◌≤◌}
 use native.Mathlib.Omega.{arith}
 use lib.Dec.{T}
 use lib.ListN.{length}
-use denote.Enum.Declared.{tag_of}
-use types.Run.{OneOf}
+use Rattle.std.specs.Prelude.{Result, Ok, Err, IsErr, IsErrAnd}
 use Rattle.refusals.specs.Refusals.{number, has_number, has_refusal}
 use Rattle.refusals.proofs.Laws.{of_a_block}
 use Rattle.rules.specs.States.{State, active_of}
@@ -21,14 +20,12 @@ use Rattle.block.specs.Format.{Good, Reading, good, turned_down, reading}
 use Rattle.block.proofs.GoodReadings.{InRange, numbers}
 use Rattle.records.specs.StateRecord.{state_size, version_in, statements_in, Found, not_a_state, state, read_state, names_block, Pair as Pairing, first_clash}
 use Rattle.records.specs.LogRecord.{log_size, no_room, logged_at}
-use Rattle.records.specs.Held.{state_bytes}
+use Rattle.records.specs.Held.{state_bytes, phase_number}
 use Rattle.records.proofs.Reading.{found_sized}
 use Rattle.reaction.specs.declared.Given.{Given}
-use Rattle.reaction.specs.declared.Instant.{Instant}
-use Rattle.reaction.specs.declared.Instant.TheVariants.{Refused, Clash, Answered, NotConstructive}
-use Rattle.reaction.specs.declared.Reaction.{Reaction}
+use Rattle.reaction.specs.declared.Unanswered.{Unanswered}
+use Rattle.reaction.specs.declared.Unanswered.TheVariants.{Refused, Clash, NotConstructive}
 use Rattle.reaction.specs.declared.Outcome.{Outcome}
-use Rattle.reaction.specs.contracts.Instant.{the_type}
 use Rattle.reaction.specs.Fronts.{stopped, ready, wrong_inputs, try_inputs, try_clash, clash_tried, try_names, try_state, try_block, front}
 use Rattle.reaction.specs.Instants.{Verdict, refused, clash, reacted, Told, told, goes_on, verdict, state_after, log_after, end_after}
 use Rattle.reaction.specs.Answers.{instant_told}
@@ -81,44 +78,41 @@ apart : {A : Type 0} (m n : ℕ) → m ≡ n → m ≢ n → A
 apart m n e f = absurd (f e)
 
 -- An answered instant comes from an answer of the rules, and has its fields.
-pub record WasAnswered (given : Given) (v : Verdict) (s : List ℕ) (roomless : Bool) (o : Outcome) (r : Reaction) : Type 0 where
+pub record WasAnswered (given : Given) (v : Verdict) (s : List ℕ) (roomless : Bool) (o : Outcome) : Type 0 where
   pub sized : length s ≡ state_size
   pub room : roomless ≡ false
-  pub state_is : state_after s v ≡ state_bytes (version_in s) (statements_in s) o.phase o.kept
+  pub state_is : state_after s v ≡ state_bytes (version_in s) (statements_in s) (phase_number o.phase) o.kept
   pub log_is : (log : List ℕ) (end : ℕ)
       → log_after log end given v ≡ logged_at log end (record {
         inputs_present = o.heard.present;
         inputs_absent = o.heard.absent;
-        outputs_present = r.present;
-        code = r.code.0;
-        rounds = r.rounds;
+        outputs_present = o.reaction.present;
+        code = o.reaction.code.0;
+        rounds = o.reaction.rounds;
       })
   pub end_is : (end : ℕ) → end_after end v ≡ end + log_size
 
-answered_by : (given : Given) (v : Verdict) (s : List ℕ) (roomless : Bool) (o : Outcome) (r : Reaction) → Leaves v s roomless → Comes given v o
-    → o.answer ≡ Answered r → WasAnswered given v s roomless o r
+answered_by : (given : Given) (v : Verdict) (s : List ℕ) (roomless : Bool) (o : Outcome) → Leaves v s roomless → Comes given v (Ok o) → WasAnswered given v s roomless o
 unfolding Leaves told instant_told Writes Hears case_of case_for state_after log_after end_after
-answered_by given (refused n at) s roomless o r l c e = apart 2 0 (sym (ap case_of e) ∙ c.same_case) (omega arith)
-answered_by given (clash pair) s roomless o r l c e = apart 2 1 (sym (ap case_of e) ∙ c.same_case) (omega arith)
-answered_by given (reacted b (not_constructive outs n)) s roomless o r l c e = apart 2 3 (sym (ap case_of e) ∙ c.same_case) (omega arith)
-answered_by given (reacted b (answered outs k st n)) s roomless o r l c e =
-    let t : instant_told (Answered r) ≡ told (reacted b (answered outs k st n)) = sym (ap instant_told e) ∙ c.told_is in
-    record {
-      sized = l.0;
-      room = l.1;
-      state_is = sym (c.writes (version_in s) (statements_in s));
-      log_is =
-          λ log end. ap₂ (λ (p a : ℕ). logged_at log end (record { inputs_present = p; inputs_absent = a; outputs_present = word 64 (outputs_with present b outs); code = k; rounds = n }))
-          (sym c.hears.0) (sym c.hears.1)
-          ∙ ap (λ (x : Told). logged_at log end (record {
-            inputs_present = o.heard.present;
-            inputs_absent = o.heard.absent;
-            outputs_present = x.present_outputs;
-            code = x.code;
-            rounds = x.rounds;
-          })) (sym t);
-      end_is = λ end. refl;
-    }
+answered_by given (refused n at) s roomless o l c = apart 2 0 c.same_case (omega arith)
+answered_by given (clash pair) s roomless o l c = apart 2 1 c.same_case (omega arith)
+answered_by given (reacted b (not_constructive outs n)) s roomless o l c = apart 2 3 c.same_case (omega arith)
+answered_by given (reacted b (answered outs k st n)) s roomless o l c = record {
+  sized = l.0;
+  room = l.1;
+  state_is = sym (c.writes (version_in s) (statements_in s));
+  log_is =
+      λ log end. ap₂ (λ (p a : ℕ). logged_at log end (record { inputs_present = p; inputs_absent = a; outputs_present = word 64 (outputs_with present b outs); code = k; rounds = n }))
+      (sym c.hears.0) (sym c.hears.1)
+      ∙ ap (λ (x : Told). logged_at log end (record {
+        inputs_present = o.heard.present;
+        inputs_absent = o.heard.absent;
+        outputs_present = x.present_outputs;
+        code = x.code;
+        rounds = x.rounds;
+      })) (sym c.told_is);
+  end_is = λ end. refl;
+}
 
 -- Any other answer leaves state and log, and gives end 0.
 pub record Refuses (v : Verdict) : Type 0 where
@@ -126,32 +120,33 @@ pub record Refuses (v : Verdict) : Type 0 where
   pub log_stays : (log : List ℕ) (end : ℕ) (given : Given) → log_after log end given v ≡ log
   pub no_end : (end : ℕ) → end_after end v ≡ 0
 
-refuses : (given : Given) (v : Verdict) (o : Outcome) → Comes given v o → (case_of o.answer ≡ 2 → ⊥) → Refuses v
-unfolding case_for state_after log_after end_after
-refuses given (refused n at) o c h = record { state_stays = λ s. refl; log_stays = λ log end given. refl; no_end = λ end. refl }
-refuses given (clash pair) o c h = record { state_stays = λ s. refl; log_stays = λ log end given. refl; no_end = λ end. refl }
-refuses given (reacted b (answered outs k st n)) o c h = absurd (h c.same_case)
-refuses given (reacted b (not_constructive outs n)) o c h = record { state_stays = λ s. refl; log_stays = λ log end given. refl; no_end = λ end. refl }
-
--- One of the last three variants is not the first.
-other : (a : Instant) → OneOf (1 ∷ 2 ∷ 3 ∷ []) (tag_of the_type a) → case_of a ≡ 2 → ⊥
+other : (u : Unanswered) → case_of (Err u) ≡ 2 → ⊥
 unfolding case_of
-other (Answered r) (inl z) e = omega arith
-other (Answered r) (inr (inl z)) e = omega arith
-other (Answered r) (inr (inr z)) e = omega arith
-other (NotConstructive d) t e = omega arith
-other (Clash m n) t e = omega arith
-other (Refused w at) t e = omega arith
+other (NotConstructive d) e = omega arith
+other (Clash m n) e = omega arith
+other (Refused r) e = omega arith
+
+refuses : (given : Given) (v : Verdict) (u : Unanswered) → Comes given v (Err u) → Refuses v
+unfolding case_for state_after log_after end_after
+refuses given (refused n at) u c = record { state_stays = λ s. refl; log_stays = λ log end given. refl; no_end = λ end. refl }
+refuses given (clash pair) u c = record { state_stays = λ s. refl; log_stays = λ log end given. refl; no_end = λ end. refl }
+refuses given (reacted b (answered outs k st n)) u c = absurd (other u c.same_case)
+refuses given (reacted b (not_constructive outs n)) u c = record { state_stays = λ s. refl; log_stays = λ log end given. refl; no_end = λ end. refl }
 
 -- So for the calls: what an answered instant writes, and that any other leaves every byte.
-module _ (b s : List ℕ) (given : Given) (roomless : Bool) {o : Outcome} (c : Comes given (verdict b s given roomless) o) where
-  pub was_answered : {r : Reaction} → o.answer ≡ Answered r → WasAnswered given (verdict b s given roomless) s roomless o r
-  was_answered {r} e = answered_by given (verdict b s given roomless) s roomless o r (leaves b s given roomless) c e
+module _ (b s : List ℕ) (given : Given) (roomless : Bool) where
+  pub was_answered : {o : Outcome} → Comes given (verdict b s given roomless) (Ok o) → WasAnswered given (verdict b s given roomless) s roomless o
+  was_answered {o} c = answered_by given (verdict b s given roomless) s roomless o (leaves b s given roomless) c
 
-  pub was_not : OneOf (1 ∷ 2 ∷ 3 ∷ []) (tag_of the_type o.answer) → Refuses (verdict b s given roomless)
-  was_not t = refuses given (verdict b s given roomless) o c (other o.answer t)
+  pub was_not : {u : Unanswered} → Comes given (verdict b s given roomless) (Err u) → Refuses (verdict b s given roomless)
+  was_not {u} c = refuses given (verdict b s given roomless) u c
 
 -- With a log, what comes of the room that was found is what comes of the log.
-pub with_log : (b s : List ℕ) (given : Given) (log : List ℕ) (end : ℕ) {x : Bool} {o : Outcome} → x ≡ no_room log end → Comes given (verdict b s given x) o
-    → Comes given (verdict b s given (no_room log end)) o
-with_log b s given log end {x} {o} e c = subst (λ (y : Bool). Comes given (verdict b s given y) o) e c
+pub with_log : (b s : List ℕ) (given : Given) (log : List ℕ) (end : ℕ) {x : Bool} {a : Result Outcome Unanswered} → x ≡ no_room log end → Comes given (verdict b s given x) a
+    → Comes given (verdict b s given (no_room log end)) a
+with_log b s given log end {x} {a} e c = subst (λ (y : Bool). Comes given (verdict b s given y) a) e c
+
+-- What a `?` passes on.
+pub passed_on : {T E : Type 0} {e : E} (r : Result T E) → IsErr r × IsErrAnd r (λ f. f ≡ e) → r ≡ Err e
+passed_on (Ok x) h = absurd h.1
+passed_on (Err f) h = ap Err h.1

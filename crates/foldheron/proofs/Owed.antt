@@ -8,39 +8,38 @@ use native.Mathlib.Omega.{arith}
 use lib.ListN.{length, get_or}
 use denote.Ref.{Bor}
 use borrow.Author.Tests.{eq-eqb, ne_eqb, lt-ltb, le-ltb}
+use Rattle.std.specs.Prelude.{Ok, Err}
 use Rattle.refusals.specs.Refusals.{number}
-use Rattle.refusals.specs.declared.Why.{Why}
-use Rattle.refusals.specs.declared.Why.TheVariants.{State}
+use Rattle.refusals.specs.declared.Why.TheVariants.{State, Index}
+use Rattle.refusals.specs.declared.Refused.{Refused}
 use Rattle.refusals.proofs.Laws.{numbers_differ, number_above}
 use Rattle.rules.specs.Statements.{Stmt}
 use Rattle.rules.specs.States.{fresh}
-use Rattle.tables.specs.Table.{Table, Has, statements}
+use Rattle.tables.specs.Table.{Has, statements}
+use Rattle.tables.specs.declared.Table.{Table}
 use Rattle.block.specs.Format.{Good, Reading, good, reading, preorder, numbered, bytes, offset}
 use Rattle.block.specs.Told.{ReadWhole}
 use Rattle.tables.specs.Codes.{Tabled, Listed}
 use Rattle.block.specs.declared.whole.Summary.{Summary}
 use Rattle.records.specs.StateRecord.{state_size, state_record}
-use Rattle.records.specs.Held.{state_bytes}
+use Rattle.records.specs.Held.{state_bytes, phase_number}
+use Rattle.records.specs.declared.state.Phase.TheVariants.{Fresh}
 use Rattle.records.proofs.Writing.{fresh_written as fresh_record}
-use Rattle.block.specs.declared.whole.Checked.{Checked}
-use Rattle.block.specs.declared.whole.Checked.TheVariants.{Good as GoodOne, Refused}
 use Rattle.block.proofs.Answered.{was_good, was_turned_down, has_body}
 use Rattle.block.proofs.GoodReadings.{Sound, sound}
 use Rattle.tables.proofs.Places.{At, at_number, has_row}
 use Rattle.block.proofs.Offsets.{tabled_listed, offset_below, offset_most}
-use Rattle.foldheron.specs.Answers.{check_values, check_owed, begun_values, begun_owed, state_owed, absent_part, part_owed, part_lies}
+use Rattle.foldheron.specs.Answers.{Checked, check_values, check_owed, Begun, begun_values, begun_owed, state_owed, PartTold, FoundPart, part_told, part_owed, refusal_at}
 use Rattle.records.specs.Parts.{LiesAt}
-use Rattle.foldheron.specs.declared.Begun.{Begun}
-use Rattle.foldheron.specs.declared.Begun.TheVariants.{Fresh, TurnedDown}
 use Rattle.foldheron.specs.declared.Part.{Part}
 
 module _ (b : List ℕ) {tab : Table} {a : Checked} (w : ReadWhole (reading b) tab a) where
-  module _ {why : Why} {at : ℕ} (e : a ≡ Refused why at) where
-    check_refused : check_values (Refused why at) ≡ check_owed (reading b)
+  module _ {r : Refused} (e : a ≡ Err r) where
+    check_refused : check_values (Err r) ≡ check_owed (reading b)
     unfolding check_values check_owed
     check_refused = ap check_owed (sym (was_turned_down b w e))
 
-    pub fresh_refused : (state : List ℕ) → begun_values (TurnedDown why at) ≡ begun_owed (reading b) state
+    pub fresh_refused : (state : List ℕ) → begun_values (Err r) ≡ begun_owed (reading b) state
     unfolding begun_values begun_owed
     fresh_refused state = ap (λ (x : Reading). begun_owed x state) (sym (was_turned_down b w e))
 
@@ -48,35 +47,35 @@ module _ (b : List ℕ) {tab : Table} {a : Checked} (w : ReadWhole (reading b) t
     unfolding state_owed
     state_stays state = ap (λ (x : Reading). state_owed x state) (sym (was_turned_down b w e))
 
-    pub part_refused : (i : ℕ) {n : ℕ} → n ≡ number why → absent_part n at ≡ part_owed (reading b) i
-    unfolding part_owed
-    part_refused i d = ap (λ (n : ℕ). absent_part n at) d ∙ ap (λ (x : Reading). part_owed x i) (sym (was_turned_down b w e))
+    pub part_refused : (i : ℕ) → part_told (Err r) ≡ part_owed (reading b) i
+    unfolding part_told part_owed
+    part_refused i = ap (λ (x : Reading). part_owed x i) (sym (was_turned_down b w e))
 
-  module _ {s : Summary} (e : a ≡ GoodOne s) where
+  module _ {s : Summary} (e : a ≡ Ok s) where
     abbrev g : Good
     g = (was_good w e).0
 
     is_good : reading b ≡ good g
     is_good = (was_good w e).1
 
-    check_good : check_values (GoodOne s) ≡ check_owed (reading b)
+    check_good : check_values (Ok s) ≡ check_owed (reading b)
     unfolding check_values check_owed
-    check_good = ap (λ (s : Summary). check_values (GoodOne s)) (sym (was_good w e).2) ∙ ap check_owed (sym is_good)
+    check_good = ap (λ (s : Summary). check_values (Ok s)) (sym (was_good w e).2) ∙ ap check_owed (sym is_good)
 
-    pub fresh_written : (state : List ℕ) → length state ≡ state_size → begun_values Fresh ≡ begun_owed (reading b) state
+    pub fresh_written : (state : List ℕ) → length state ≡ state_size → begun_values (Ok tt) ≡ begun_owed (reading b) state
     unfolding begun_values begun_owed
     fresh_written state l =
         let q : begun_owed (good g) state ≡ 0 ∷ 0 ∷ [] = simp (eq-eqb (length state) state_size l) in
         sym (ap (λ (x : Reading). begun_owed x state) is_good ∙ q)
 
-    pub state_written : (state : List ℕ) → length state ≡ state_size → state_bytes s.version s.statements 0 (0 ∷ 0 ∷ []) ≡ state_owed (reading b) state
-    unfolding state_owed
+    pub state_written : (state : List ℕ) → length state ≡ state_size → state_bytes s.version s.statements (phase_number Fresh) (0 ∷ 0 ∷ []) ≡ state_owed (reading b) state
+    unfolding state_owed phase_number
     state_written state l =
         let q : state_owed (good g) state ≡ state_record g.header.version g.statements fresh = simp (eq-eqb (length state) state_size l) in
         fresh_record s.version s.statements ∙ ap (λ (y : Summary). state_record y.version y.statements fresh) (sym (was_good w e).2)
         ∙ sym (ap (λ (x : Reading). state_owed x state) is_good ∙ q)
 
-    pub other_size : (state : List ℕ) → (length state ≡ state_size → ⊥) → begun_values (TurnedDown State 0) ≡ begun_owed (reading b) state
+    pub other_size : (state : List ℕ) → (length state ≡ state_size → ⊥) → begun_values (Err (refusal_at State 0)) ≡ begun_owed (reading b) state
     unfolding begun_values begun_owed number
     other_size state n =
         let q : begun_owed (good g) state ≡ 9 ∷ 0 ∷ [] = simp (ne_eqb (length state) state_size n) in
@@ -95,11 +94,11 @@ module _ (b : List ℕ) {tab : Table} {a : Checked} (w : ReadWhole (reading b) t
     count_is : s.statements ≡ statements g.body
     count_is = ap (λ (s : Summary). s.statements) (sym (was_good w e).2) ∙ facts.counted
 
-    pub part_past : (i : ℕ) → s.statements ≤ i → absent_part 14 0 ≡ part_owed (reading b) i
-    unfolding part_owed
+    pub part_past : (i : ℕ) → s.statements ≤ i → part_told (Err (refusal_at Index 0)) ≡ part_owed (reading b) i
+    unfolding part_told part_owed number
     part_past i l =
         let m : g.statements ≤ i = omega (arith, count_is, facts.counted) in
-        let q : part_owed (good g) i ≡ absent_part 14 0 = simp (le-ltb i g.statements m) in
+        let q : part_owed (good g) i ≡ part_told (Err (refusal_at Index 0)) = simp (le-ltb i g.statements m) in
         sym (ap (λ (x : Reading). part_owed x i) is_good ∙ q)
 
     module _ (i : ℕ) (l : i < s.statements) where
@@ -135,8 +134,8 @@ module _ (b : List ℕ) {tab : Table} {a : Checked} (w : ReadWhole (reading b) t
         pub end_within : end ≤ length b
         end_within = omega (arith, end_is, offset_below g.body i there, offset_most g.body (i + statements (numbered g.body i)), facts.whole)
 
-        pub part_found : record { number = 0; place = 0; offset = start; size = end - start } ≡ part_owed (reading b) i
-        unfolding part_owed
+        pub part_found : part_told (Ok (record { offset = start; size = end - start })) ≡ part_owed (reading b) i
+        unfolding part_told part_owed
         part_found =
             let k : i < g.statements = omega (arith, count_is, facts.counted) in
             let o : part_owed (good g) i ≡ record { number = 0; place = 0; offset = offset g.body i; size = bytes (preorder (numbered g.body i)) } = simp (lt-ltb i g.statements k) in
@@ -151,18 +150,15 @@ module _ (b : List ℕ) {tab : Table} {a : Checked} (w : ReadWhole (reading b) t
   check_is = go a refl
     where
       go : (x : Checked) → a ≡ x → check_values a ≡ check_owed (reading b)
-      go (GoodOne s) e = ap check_values e ∙ check_good e
-      go (Refused why at) e = ap check_values e ∙ check_refused e
-
--- No part lies in any block.
-pub no_part_within : (b : List ℕ) {p : Part} {n at : ℕ} → p ≡ absent_part n at → p.offset + p.size ≤ length b
-no_part_within b {p} e = let o : p.offset ≡ 0 = ap (λ (q : Part). q.offset) e in let s : p.size ≡ 0 = ap (λ (q : Part). q.size) e in omega arith
+      go (Ok s) e = ap check_values e ∙ check_good e
+      go (Err r) e = ap check_values e ∙ check_refused e
 
 -- The part as it is cut out of the block.
-pub part_cut : (r b : Bor (List ℕ)) {p q : Part} → p ≡ q → LiesAt r b p.offset (p.offset + p.size - p.offset) → part_lies r b q
-part_cut r b {p} {q} e l =
+pub part_cut : (r b : Bor (List ℕ)) (p : Part) {q : PartTold} → part_told (Ok p) ≡ q → LiesAt r b p.offset (p.offset + p.size - p.offset) → LiesAt r b q.offset q.size
+unfolding part_told
+part_cut r b p {q} e l =
     let d : p.offset + p.size - p.offset ≡ p.size = omega arith in
-    subst (part_lies r b) e (subst (LiesAt r b p.offset) d l)
+    subst (λ (x : PartTold). LiesAt r b x.offset x.size) e (subst (LiesAt r b p.offset) d l)
 
 -- Different answers have different values: an answer's number and values give the answer back.
 nth : ℕ → List ℕ → ℕ
@@ -170,7 +166,7 @@ nth n l = get_or l n 0
 
 pub check_told_apart : (x y : Checked) → check_values x ≡ check_values y → x ≡ y
 unfolding check_values nth
-check_told_apart (GoodOne s) (GoodOne t) e = λ i. GoodOne (record {
+check_told_apart (Ok s) (Ok t) e = λ i. Ok (record {
   version = ap (nth 2) e i;
   inputs = ap (nth 3) e i;
   outputs = ap (nth 4) e i;
@@ -178,13 +174,20 @@ check_told_apart (GoodOne s) (GoodOne t) e = λ i. GoodOne (record {
   statements = ap (nth 6) e i;
   pauses = ap (nth 7) e i;
 })
-check_told_apart (GoodOne s) (Refused w at) e = absurd (number_above w (sym (ap (nth 0) e)))
-check_told_apart (Refused v at) (GoodOne s) e = absurd (number_above v (ap (nth 0) e))
-check_told_apart (Refused v at) (Refused w place) e = λ i. Refused (numbers_differ v w (ap (nth 0) e) i) (ap (nth 1) e i)
+check_told_apart (Ok s) (Err r) e = absurd (number_above r.why (sym (ap (nth 0) e)))
+check_told_apart (Err r) (Ok s) e = absurd (number_above r.why (ap (nth 0) e))
+check_told_apart (Err r) (Err q) e = λ i. Err (refusal_at (numbers_differ r.why q.why (ap (nth 0) e) i) (ap (nth 1) e i))
 
 pub begun_told_apart : (x y : Begun) → begun_values x ≡ begun_values y → x ≡ y
 unfolding begun_values nth
-begun_told_apart Fresh Fresh e = refl
-begun_told_apart Fresh (TurnedDown w at) e = absurd (number_above w (sym (ap (nth 0) e)))
-begun_told_apart (TurnedDown v at) Fresh e = absurd (number_above v (ap (nth 0) e))
-begun_told_apart (TurnedDown v at) (TurnedDown w place) e = λ i. TurnedDown (numbers_differ v w (ap (nth 0) e) i) (ap (nth 1) e i)
+begun_told_apart (Ok done) (Ok too) e = refl
+begun_told_apart (Ok done) (Err r) e = absurd (number_above r.why (sym (ap (nth 0) e)))
+begun_told_apart (Err r) (Ok done) e = absurd (number_above r.why (ap (nth 0) e))
+begun_told_apart (Err r) (Err q) e = λ i. Err (refusal_at (numbers_differ r.why q.why (ap (nth 0) e) i) (ap (nth 1) e i))
+
+pub part_told_apart : (x y : FoundPart) → part_told x ≡ part_told y → x ≡ y
+unfolding part_told
+part_told_apart (Ok p) (Ok q) e = λ i. Ok (record { offset = (e i).offset; size = (e i).size })
+part_told_apart (Ok p) (Err r) e = absurd (number_above r.why (sym (ap (λ (t : PartTold). t.number) e)))
+part_told_apart (Err r) (Ok q) e = absurd (number_above r.why (ap (λ (t : PartTold). t.number) e))
+part_told_apart (Err r) (Err q) e = λ i. Err (refusal_at (numbers_differ r.why q.why (ap (λ (t : PartTold). t.number) e) i) ((e i).place))

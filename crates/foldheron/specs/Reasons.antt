@@ -1,6 +1,6 @@
 -- What is answered to a question about an instant, on the caller's bytes: the tests before the rules in their written order, then the reason, or QUESTION where the
 -- thing asked about is not so. Assumes nothing.
-use Rattle.std.specs.Prelude.{List, [], ◌∷◌, ℕ}
+use Rattle.std.specs.Prelude.{List, [], ◌∷◌, ℕ, Ok, Err}
 use Rattle.std.proofs.Math.Option.{Option, none, some}
 use Rattle.refusals.specs.Refusals.{number}
 use Rattle.rules.specs.States.{State}
@@ -9,17 +9,17 @@ use Rattle.block.specs.Format.{Good}
 use Rattle.reaction.specs.Fronts.{Front, stopped, clashing, ready, front}
 use Rattle.reaction.specs.Instants.{CLASH, block_of, heard_of}
 use Rattle.reaction.specs.declared.Given.TheVariants.{Two}
-use Rattle.foldheron.specs.declared.say_why.Reason.{Reason}
-use Rattle.foldheron.specs.declared.say_why.Reason.TheVariants.{Statement, Clash, Refused}
+use Rattle.reaction.specs.declared.Stopped.TheVariants.{Clash, Refused}
+use Rattle.foldheron.specs.Answers.{Reason}
 
 abbrev pub QUESTION : ℕ
 QUESTION = 16
 
 -- An answer: number and place, the pair of a clash, and the statement that is named.
 unfoldable pub reason_values : Reason → List ℕ
-reason_values (Statement n) = 0 ∷ 0 ∷ 0 ∷ 0 ∷ n ∷ []
-reason_values (Clash m n) = CLASH ∷ 0 ∷ m ∷ n ∷ 0 ∷ []
-reason_values (Refused w at) = number w ∷ at ∷ 0 ∷ 0 ∷ 0 ∷ []
+reason_values (Ok n) = 0 ∷ 0 ∷ 0 ∷ 0 ∷ n ∷ []
+reason_values (Err (Clash m n)) = CLASH ∷ 0 ∷ m ∷ n ∷ 0 ∷ []
+reason_values (Err (Refused r)) = number r.why ∷ r.place ∷ 0 ∷ 0 ∷ 0 ∷ []
 
 -- The statement that is the reason; none, where the thing asked about is not so.
 unfoldable pub named_owed : Option ℕ → List ℕ

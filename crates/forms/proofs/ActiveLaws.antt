@@ -1,5 +1,5 @@
 -- Which statements hold an active pause, and the pauses of a run of rows. Assumes nothing.
-use mathlib.Core.Path.{◌≡◌, refl, sym, ap, ap₂, ◌∙◌, subst, subst₂}
+use mathlib.Core.Path.{◌≡◌, refl, sym, ap, ap₂, ◌∙◌, subst}
 use mathlib.Core.Bool.{Bool, true, false, cond, ◌&&◌, ◌||◌, or-false, or_assoc, and-true, and-false, and-or_distrib_left}
 use mathlib.Core.Logic.{◌⊎◌, inl, inr}
 use mathlib.Core.List.{List, [], ◌∷◌, ◌++◌, append-nil, append_assoc}
@@ -17,7 +17,8 @@ use Rattle.sets.proofs.Members.{is_true, is_false, of_true, ext, same, and_right
 use Rattle.sets.proofs.Counts.{listed_append}
 use Rattle.rules.specs.Statements.{depth, Stmt, nothing, pause, emit, present?◌then◌else◌, suspend◌on◌, ◌⨾◌, loop, ◌parallel◌, trap, exit, local, pauses}
 use Rattle.rules.specs.Instant.{any, active, held}
-use Rattle.tables.specs.Table.{Table, kind_of, operand_of, statements, Row, Has, Small}
+use Rattle.tables.specs.Table.{kind_of, operand_of, statements, Row, Has, Small}
+use Rattle.tables.specs.declared.Table.{Table}
 use Rattle.forms.specs.Forms.{At, Live, LiveFrom, NoPauseFrom, row_pauses, pauses_in, among}
 use Rattle.tables.proofs.Rows.{has_row, some_statement}
 use Rattle.forms.proofs.FormLaws.{in_table, Second, second_at, Kid, Kids, kids, Flags}
@@ -177,13 +178,13 @@ pauses_found tab i (exit d) h = row_first tab i ∙ row_other tab i 25 h.its_kin
 pauses_found tab i (local s p) h = one_child tab i p 26 h.0.its_kind refl (pauses_found tab (i + 1) p h.1)
 
 -- Rows without a pause: a statement there holds none, so that it is not active whatever the set.
-pub none_more : (kinds : List ℕ) (from i found r : ℕ) → (found ≡ 0 → (j : ℕ) → from ≤ j → j < i → get_or kinds j 0 ≡ 17 → ⊥)
-    → (r ≡ 0 → get_or kinds i 0 ≡ 17 → ⊥) → found + r ≡ 0 → (j : ℕ) → from ≤ j → j < i + 1 → get_or kinds j 0 ≡ 17 → ⊥
-none_more kinds from i found r f g e j h k w = go (ℕ_discrete j i)
+pub none_more : (kinds : List ℕ) (from i : ℕ) → ((j : ℕ) → from ≤ j → j < i → get_or kinds j 0 ≡ 17 → ⊥) → (get_or kinds i 0 ≡ 17 → ⊥)
+    → (j : ℕ) → from ≤ j → j < i + 1 → get_or kinds j 0 ≡ 17 → ⊥
+none_more kinds from i f g j h k w = go (ℕ_discrete j i)
   where
     go : Dec (j ≡ i) → ⊥
-    go (yes d) = g (omega arith) (subst (λ (x : ℕ). get_or kinds x 0 ≡ 17) d w)
-    go (no d) = f (omega arith) j h (omega arith) w
+    go (yes d) = g (subst (λ (x : ℕ). get_or kinds x 0 ≡ 17) d w)
+    go (no d) = f j h (omega arith) w
 
 no_pauses_in : (tab : Table) (i n : ℕ) → ((k : ℕ) → i ≤ k → k < i + n → get_or tab.kinds k 0 ≡ 17 → ⊥) → pauses_in tab i n ≡ []
 unfolding pauses_in
@@ -288,10 +289,7 @@ live_step {tab} {A} live i b h l e f g =
     let back : LiveFrom tab A live (i - 1 + 1) = subst (LiveFrom tab A live) (omega arith) f in
     live_more live (i - 1) b (omega arith) back (g back)
 
--- Numbers of a loop that counts down, and of one that has reached its end.
-pub pred_less : (i : ℕ) → 0 < i → i - 1 < i
-pred_less i h = omega arith
-
+-- Numbers of a loop that has reached its end.
 pub none_left : (i : ℕ) → i ≤ 0 → i ≡ 0
 none_left i h = omega arith
 

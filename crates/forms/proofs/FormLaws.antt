@@ -9,7 +9,8 @@ use lib.ListN.{get_or}
 use Rattle.sets.specs.Numbers.{Numbers}
 use Rattle.rules.specs.Statements.{depth, Stmt, nothing, pause, emit, present?◌then◌else◌, suspend◌on◌, ◌⨾◌, loop, ◌parallel◌, trap, exit, local}
 use Rattle.rules.specs.Instant.{done, stay, chain, active, held, started, resumed}
-use Rattle.tables.specs.Table.{Table, kind_of, operand_of, statements, Has, Small}
+use Rattle.tables.specs.Table.{kind_of, operand_of, statements, Has, Small}
+use Rattle.tables.specs.declared.Table.{Table}
 use Rattle.tables.proofs.Rows.{has_row, some_statement}
 use Rattle.forms.specs.declared.form.Going.{Going}
 use Rattle.forms.specs.declared.form.Going.TheVariants.{Started, Resumed, Held, Idle}

@@ -1,8 +1,8 @@
 // What a statement of the table has to do in this instant, started or resumed.
 ghost use Rattle.std.specs.Prelude.{◌≡◌, Bool, cond, false, List, ◌+◌, ◌<◌, get_or};
-ghost use Rattle.tables.specs.Table.{table_of};
 ghost use Rattle.forms.specs.Forms.{Placed, Formed};
 
+use tables::Table;
 use tables::kinds::Depth;
 use tables::loops::second_at;
 
@@ -43,7 +43,7 @@ pub enum Form {
 pub(crate) fn live_at(live: &[bool; 512], at: usize) -> bool
     ensures { at < 512 → result ≡ get_or live.now at false }
 {
-    if at < 512 { live[at] } else { false }
+    at < 512 && live[at]
 }
 
 fn chosen(first: bool, p: Task, q: Task) -> Task
@@ -55,36 +55,22 @@ fn chosen(first: bool, p: Task, q: Task) -> Task
 fn arm(active: bool, at: usize) -> Task
     ensures { result ≡ record { at = at; going = cond active Going.Resumed Going.Idle } }
 {
-    if active {
-        Task {
-            at,
-            going: Going::Resumed,
-        }
-    } else {
-        Task {
-            at,
-            going: Going::Idle,
-        }
-    }
+    let going = if active { Going::Resumed } else { Going::Idle };
+    Task { at, going }
 }
 
-pub fn started_form(
-    kinds: &[u16; 512],
-    operands: &[u16; 512],
-    sizes: &[u16; 512],
-    at: usize,
-) -> Form
-    requires { Placed (table_of kinds.now operands.now sizes.now) at }
-    ensures { (live : List Bool) → Formed (table_of kinds.now operands.now sizes.now) live (record { at = at; going = Going.Started }) result }
+pub fn started_form(table: &Table, at: usize) -> Form
+    requires { Placed table.now at }
+    ensures { (live : List Bool) → Formed table.now live (record { at = at; going = Going.Started }) result }
 {
-    let kind = kinds[at];
-    let operand = operands[at];
+    let kind = table.kinds[at];
+    let operand = table.operands[at];
     let p = Task {
         at: at + 1,
         going: Going::Started,
     };
     let q = Task {
-        at: second_at(sizes, at),
+        at: second_at(table, at),
         going: Going::Started,
     };
     match kind {
@@ -103,19 +89,13 @@ pub fn started_form(
     }
 }
 
-pub fn resumed_form(
-    kinds: &[u16; 512],
-    operands: &[u16; 512],
-    sizes: &[u16; 512],
-    live: &[bool; 512],
-    at: usize,
-) -> Form
-    requires { Placed (table_of kinds.now operands.now sizes.now) at }
-    ensures { Formed (table_of kinds.now operands.now sizes.now) live.now (record { at = at; going = Going.Resumed }) result }
+pub fn resumed_form(table: &Table, live: &[bool; 512], at: usize) -> Form
+    requires { Placed table.now at }
+    ensures { Formed table.now live.now (record { at = at; going = Going.Resumed }) result }
 {
-    let kind = kinds[at];
-    let operand = operands[at];
-    let next = second_at(sizes, at);
+    let kind = table.kinds[at];
+    let operand = table.operands[at];
+    let next = second_at(table, at);
     let first_live = live_at(live, at + 1);
     let next_live = live_at(live, next);
     let held = Task {
@@ -156,21 +136,15 @@ pub fn resumed_form(
     }
 }
 
-pub fn form_of(
-    kinds: &[u16; 512],
-    operands: &[u16; 512],
-    sizes: &[u16; 512],
-    live: &[bool; 512],
-    task: Task,
-) -> Form
-    requires { Placed (table_of kinds.now operands.now sizes.now) task.at }
-    ensures { Formed (table_of kinds.now operands.now sizes.now) live.now task result }
+pub fn form_of(table: &Table, live: &[bool; 512], task: Task) -> Form
+    requires { Placed table.now task.at }
+    ensures { Formed table.now live.now task result }
 {
     let at = task.at;
     let going = task.going;
     match going {
-        Going::Started => started_form(kinds, operands, sizes, at),
-        Going::Resumed => resumed_form(kinds, operands, sizes, live, at),
+        Going::Started => started_form(table, at),
+        Going::Resumed => resumed_form(table, live, at),
         Going::Held => Form::Keep(at),
         Going::Idle => Form::Done,
     }

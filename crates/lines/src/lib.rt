@@ -1,62 +1,89 @@
-// The lines of a run as text, put into a buffer that is lent. Each `put` starts at `at` and answers where the text then ends.
+// The lines of a run as text.
 #![tactic(auto)]
 
-ghost use Rattle.std.specs.Prelude.{◌+◌, ◌≤◌, length};
+ghost use Rattle.std.specs.Prelude.{◌≡◌, ℕ, ◌+◌, ◌≤◌, length};
 
 use itoa::Buffer;
+use std::marker::Model;
 
-// Bytes as they are.
-fn put(out: &mut [u8], at: usize, bytes: &[u8]) -> usize
-    requires { at + length bytes.now ≤ length out.old }
-    ensures { result ≤ at + length bytes.now }
-{
-    let end = at + bytes.len();
-    out[at..end].copy_from_slice(bytes);
-    end
+// Lines one after the other, in a buffer of SIZE bytes. A contract sees how many bytes they have.
+#[derive(Drop)]
+pub struct Text<const SIZE: usize> {
+    bytes: [u8; SIZE],
+    len: usize,
 }
 
-// A number in decimal and the byte after it: at most 21 bytes.
-fn put_number(out: &mut [u8], at: usize, n: u64, after: u8) -> usize
-    requires { at + 21 ≤ length out.old }
-    ensures { result ≤ at + 21 }
-{
-    let mut digits = Buffer::new();
-    let end = put(out, at, digits.format(n).as_bytes());
-    out[end] = after;
-    end + 1
+impl<const SIZE: usize> Model for Text<SIZE> {
+    ghost Value = { ℕ };
+
+    ghost view = { λ t. t.len };
+
+    ghost invariant = { λ t. t.len ≤ SIZE };
 }
 
-// The line of an instant, its six numbers: at most 126 bytes.
-pub fn put_line(out: &mut [u8], at: usize, numbers: &[u64; 6]) -> usize
-    requires { at + 126 ≤ length out.old }
-    ensures { result ≤ at + 126 }
-{
-    let mut end = at;
-    for i in 0..6usize {
-        end = put_number(out, end, numbers[i], after(i));
+impl<const SIZE: usize> Text<SIZE> {
+    pub fn new() -> Self
+        ensures { result ≡ 0 }
+    {
+        Text {
+            bytes: [0; SIZE],
+            len: 0,
+        }
     }
-    end
-}
 
-// What follows a number of a line: a space, and after the last the end of the line.
-fn after(i: usize) -> u8 {
-    if i < 5 { b' ' } else { b'\n' }
-}
+    pub fn as_bytes(&self) -> &[u8]
+        ensures { length result.now ≡ self.now }
+    {
+        &self.bytes[..self.len]
+    }
 
-// The line for 1 to 7 bytes that are left: 6 bytes.
-pub fn put_short(out: &mut [u8], at: usize) -> usize
-    requires { at + 6 ≤ length out.old }
-    ensures { result ≤ at + 6 }
-{
-    put(out, at, b"short\n")
-}
+    // Bytes as they are.
+    fn put(&mut self, bytes: &[u8])
+        requires { self.old + length bytes.now ≤ SIZE }
+        ensures { self.new ≡ self.old + length bytes.now }
+    {
+        let end = self.len + bytes.len();
+        let all = &mut self.bytes[..];
+        all[self.len..end].copy_from_slice(bytes);
+        self.len = end;
+    }
 
-// The line of a block that is turned down: at most 48 bytes.
-pub fn put_block(out: &mut [u8], number: u16, place: usize) -> usize
-    requires { 48 ≤ length out.old }
-    ensures { result ≤ length out.new }
-{
-    let a = put(out, 0, b"block ");
-    let b = put_number(out, a, number as u64, b' ');
-    put_number(out, b, place as u64, b'\n')
+    // A number in decimal and the byte after it: at most 21 bytes.
+    fn put_number(&mut self, n: u64, after: u8)
+        requires { self.old + 21 ≤ SIZE }
+        ensures { self.new ≤ self.old + 21 }
+    {
+        self.put(Buffer::new().format(n).as_bytes());
+        self.put(&[after]);
+    }
+
+    // The line of an instant, its six numbers: at most 126 bytes.
+    pub fn put_line(&mut self, numbers: &[u64; 6])
+        requires { self.old + 126 ≤ SIZE }
+        ensures { self.new ≤ self.old + 126 }
+    {
+        let (last, front) = numbers.split_last().unwrap();
+        for n in front {
+            self.put_number(*n, b' ');
+        }
+        self.put_number(*last, b'\n');
+    }
+
+    // The line for 1 to 7 bytes that are left: 6 bytes.
+    pub fn put_short(&mut self)
+        requires { self.old + 6 ≤ SIZE }
+        ensures { self.new ≤ self.old + 6 }
+    {
+        self.put(b"short\n");
+    }
+
+    // The line of a block that is turned down: at most 48 bytes.
+    pub fn put_block(&mut self, number: u16, place: usize)
+        requires { self.old + 48 ≤ SIZE }
+        ensures { self.new ≤ self.old + 48 }
+    {
+        self.put(b"block ");
+        self.put_number(number.into(), b' ');
+        self.put_number(place as u64, b'\n');
+    }
 }

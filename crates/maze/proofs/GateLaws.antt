@@ -7,7 +7,8 @@ use Prim.Native.Nat.{ℕ, zero, suc, ◌+◌, ◌≤◌}
 use native.Mathlib.Omega.{arith}
 use lib.ListN.{get_or}
 use Rattle.rules.specs.Statements.{Stmt, nothing, pause, emit, present?◌then◌else◌, suspend◌on◌, ◌⨾◌, loop, ◌parallel◌, trap, exit, local}
-use Rattle.tables.specs.Table.{Table, Row, Has, operand_of, statements}
+use Rattle.tables.specs.Table.{Row, Has, operand_of, statements}
+use Rattle.tables.specs.declared.Table.{Table}
 use Rattle.tables.proofs.Rows.{some_statement}
 use Rattle.forms.specs.Forms.{At}
 use Rattle.mazes.specs.Mazes.{is_nothing, Corridor, visible, secret, signal, part, dungeon, gate_corridors, nth}

@@ -1,20 +1,20 @@
 -- The corridors of a part, row by row: what stands ahead is a list of statements of the form one after the other, a parallel's arms take its place, and every other statement gives at most
 -- one corridor and is passed with all below it. One lemma for each way round the loop. Assumes nothing.
 use mathlib.Core.Path.{◌≡◌, refl, sym, ◌∙◌, ap, ap₂, subst, subst⁻¹}
-use mathlib.Core.Logic.{◌⊎◌, inl, inr}
 use mathlib.Core.Bool.{Bool, true, false, cond, true≢false}
 use mathlib.Core.List.{List, [], ◌∷◌, ◌++◌, append-nil, append_assoc}
-use mathlib.Core.Option.{Option, none, some}
+use mathlib.Core.Option.{none, some}
 use Prim.Native.Nat.{ℕ, zero, suc, ◌+◌, ◌-◌, ◌≤◌, ◌<◌}
 use native.Mathlib.Omega.{arith}
-use lib.Dec.{T, eqb}
+use lib.Dec.{eqb}
 use lib.ListN.{get_or}
 use Rattle.rules.specs.Statements.{Stmt, nothing, emit, present?◌then◌else◌, ◌parallel◌}
-use Rattle.tables.specs.Table.{Table, Row, Has, kind_of, operand_of, statements}
+use Rattle.tables.specs.Table.{Has, kind_of, operand_of, statements}
+use Rattle.tables.specs.declared.Table.{Table}
 use Rattle.tables.proofs.Rows.{has_row, some_statement}
 use Rattle.mazes.specs.Mazes.{OfForm, an_emit, with_then, with_else, a_parallel, Corridor, visible, gate, dungeon, corridors, nth}
 use Rattle.maze.specs.declared.Corridor.TheVariants.{NoMore}
-use Rattle.maze.specs.Ways.{Way, way_by, way_told, gives_one, all_rows, all_corridors, Stand}
+use Rattle.maze.specs.Ways.{Way, way_by, corridor_told, gives_one, all_rows, all_corridors, Stand}
 
 module _ (tab : Table) (a i : ℕ) (t : Stmt) (n : ℕ) where
   pub record Going (j left : ℕ) : Type 0 where
@@ -175,8 +175,8 @@ module _ (tab : Table) (a i : ℕ) (t : Stmt) (n j left on k x size : ℕ) (g : 
               }
 
 -- What is told of the end and of the corridor found.
-pub none_told : (cs : List Corridor) (n : ℕ) → nth cs n ≡ none → way_told NoMore ≡ way_by (nth cs n)
-unfolding way_told
+pub none_told : (cs : List Corridor) (n : ℕ) → nth cs n ≡ none → corridor_told NoMore ≡ way_by (nth cs n)
+unfolding corridor_told
 none_told cs n e = ap way_by (sym e)
 
 pub one_told : {w : Way} (cs : List Corridor) (n : ℕ) (c : Corridor) → w ≡ way_by (nth (c ∷ []) 0) → nth cs n ≡ some c → w ≡ way_by (nth cs n)

@@ -1,25 +1,25 @@
 -- The rows of the table and the form: what a row's kind says, the rows one after the other, and that all rows fit exactly when the tree in the table is of the form. Assumes nothing.
 use mathlib.Core.Path.{◌≡◌, refl, sym, ◌∙◌, ap, ap₂, subst, subst⁻¹}
-use mathlib.Core.Logic.{◌⊎◌, inl, inr}
 use mathlib.Core.Bool.{Bool, true, false, not, cond, ◌&&◌}
 use mathlib.Core.List.{List}
 use Prim.Native.Nat.{ℕ, zero, suc, ◌+◌, ◌≤◌, ◌<◌}
-use native.Mathlib.Nat.{zero-add, add_assoc}
+use native.Mathlib.Nat.{zero-add}
 use native.Mathlib.Decide.{dec_lt, ℕ_discrete}
 use native.Mathlib.Omega.{arith}
 use lib.Dec.{T, eqb, ltb}
 use lib.ListN.{get_or}
-use borrow.Author.Tests.{lt-ltb, le-ltb, eq-eqb}
-use Rattle.sets.proofs.Members.{is_true, is_false, of_true, of_false, same, and_in, and_left, and_right}
+use borrow.Author.Tests.{lt-ltb, le-ltb}
+use Rattle.sets.proofs.Members.{is_false, of_true, of_false, same, and_in, and_left, and_right}
 use Rattle.rules.specs.Statements.{Stmt, nothing, pause, emit, present?◌then◌else◌, suspend◌on◌, ◌⨾◌, loop, ◌parallel◌, trap, exit, local, numbered}
-use Rattle.rules.proofs.Preorder.{first_is, some_statement}
-use Rattle.tables.specs.Table.{Table, Has, kind_of, statements}
+use Rattle.rules.proofs.Preorder.{some_statement}
+use Rattle.tables.specs.Table.{Has, kind_of, statements}
+use Rattle.tables.specs.declared.Table.{Table}
 use Rattle.tables.proofs.Places.{has_row, at_number}
 use Rattle.forms.specs.Forms.{At}
 use Rattle.mazes.specs.Mazes.{is_nothing, of_form}
 use Rattle.mazes.specs.Fitting.{one_alone, neither, fits}
 use Rattle.mazes.proofs.Standing.{not_nothing}
-use Rattle.mazes.proofs.Forms.{of_form_is, is_of_form, AllFit, fitting, all_fit}
+use Rattle.mazes.proofs.Forms.{of_form_is, is_of_form, fitting, all_fit}
 use Rattle.maze.specs.Rows.{nothing_at, second_of, row_fits, all_fit_to, rows_fit}
 
 pub second_is : (ns : List ℕ) (i r : ℕ) → (i + 1 < 512 → r ≡ i + 1 + get_or ns (i + 1) 0) → (512 ≤ i + 1 → r ≡ i + 1) → r ≡ second_of ns i

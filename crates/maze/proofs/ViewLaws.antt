@@ -1,39 +1,38 @@
 -- One lemma for each way through the call, and who wins by the words: a bit of the winning word is a signal present in the final round, and that is a room that wins. Assumes nothing.
+use Rattle.std.specs.Prelude.{Result, Ok, Err}
+use Rattle.refusals.specs.declared.Refused.{Refused}
 use mathlib.Core.Path.{◌≡◌, refl, sym, ◌∙◌, ap, ap₂, subst, subst⁻¹}
-use mathlib.Core.Logic.{◌⊎◌, inl, inr, ◌↔◌}
+use mathlib.Core.Logic.{◌⊎◌, inl, inr}
 use mathlib.Core.Bool.{Bool, true, false, not, cond, ◌&&◌, ◌||◌, true≢false}
 use mathlib.Core.List.{List}
 use mathlib.Core.Option.{Option, none, some}
 use Prim.Native.Nat.{ℕ, ◌+◌, ◌-◌, ◌/◌, ◌^◌, ◌≤◌, ◌<◌}
 use native.Mathlib.Decide.{dec_lt}
 use native.Mathlib.Omega.{arith}
-use lib.Dec.{T, eqb, ltb, leb, ltb→lt}
+use lib.Dec.{T, eqb, ltb, ltb→lt}
 use lib.Bits.{bit_and, bit_or, bit_xor}
 use lib.ListN.{length, get_or, get_or-eq_default}
 use borrow.Author.Tests.{lt-ltb, le-ltb, le-leb, lt-leb, ltb-false, eqb-true}
 use Rattle.refusals.specs.Refusals.{number}
 use Rattle.refusals.specs.declared.Why.{Why}
-use Rattle.refusals.specs.declared.Why.TheVariants as Why
 use Rattle.sets.specs.Numbers.{Numbers, lowest}
 use Rattle.sets.specs.Words.{bits}
-use Rattle.sets.proofs.Members.{is_true, is_false, of_true, of_false, cases, and_in, and_left, and_right}
+use Rattle.sets.proofs.Members.{is_true, is_false, of_true, cases, and_in, and_left, and_right}
 use Rattle.sets.proofs.Words.{bits_or, bits_less}
 use Rattle.rules.specs.Statements.{Block}
 use Rattle.rules.specs.Events.{Status, present, absent, unknown, known, Hearing, all_heard, event}
 use Rattle.rules.specs.Instant.{started}
 use Rattle.rules.specs.MustCan.{must, gives}
 use Rattle.rules.specs.States.{fresh, step, kept}
-use Rattle.rules.specs.Rounds.{same, outputs_with, Settled, Answer, answer, code_width, react, final_of}
-use Rattle.rules.proofs.RoundLaws.{same_is, same_refl}
+use Rattle.rules.specs.Rounds.{same, outputs_with, Settled, answer, code_width, react, final_of}
+use Rattle.rules.proofs.RoundLaws.{same_is}
 use Rattle.theorems.specs.Reach.{at_first}
 use Rattle.theorems.proofs.Reach.{event_output, reached_length}
 use Rattle.theorems.proofs.RoundsEnd.{final, last_reached}
-use Rattle.tables.specs.Table.{Table, statements}
-use Rattle.block.specs.Format.{Good, Reading, good, turned_down, reading}
+use Rattle.tables.specs.declared.Table.{Table}
+use Rattle.block.specs.Format.{Good, Reading, good, reading}
 use Rattle.block.specs.Told.{ReadWhole}
 use Rattle.block.specs.declared.whole.Summary.{Summary}
-use Rattle.block.specs.declared.whole.Checked.{Checked}
-use Rattle.block.specs.declared.whole.Checked.TheVariants.{Good as GoodBlock, Refused as RefusedBlock}
 use Rattle.block.proofs.Answered.{was_turned_down}
 use Rattle.block.proofs.GoodReadings.{sound}
 use Rattle.records.specs.StateRecord.{undeclared_input}
@@ -45,15 +44,13 @@ use Rattle.evaluate.specs.Reacts.{IsAnswer, OutputsAre}
 use Rattle.reaction.specs.Instants.{block_of}
 use Rattle.reaction.specs.Outcomes.{Opened}
 use Rattle.reaction.proofs.Fronts.{placed, same_block}
-use Rattle.mazes.specs.Mazes.{of_form, signal, maze_of, Wins, Loses, Draws}
+use Rattle.mazes.specs.Mazes.{of_form}
 use Rattle.mazes.specs.AsRounds.{final_status, AsRounds}
 use Rattle.mazes.proofs.Forms.{of_form_is}
 use Rattle.mazes.proofs.AsRounds.{input_is, as_rounds}
 use Rattle.maze.specs.declared.Rooms.{Rooms}
-use Rattle.maze.specs.declared.Maze.{Maze}
-use Rattle.maze.specs.declared.Maze.TheVariants.{Rooms as Ended, Refused}
 use Rattle.maze.specs.Rows.{rows_fit}
-use Rattle.maze.specs.Views.{View, refused, shown, try_form, try_inputs, try_block, view, Shows, Views, EndsOf}
+use Rattle.maze.specs.Views.{refused, shown, try_form, try_inputs, try_block, view, Shows, Views, EndsOf}
 use Rattle.maze.proofs.RowLaws.{rows_are}
 
 -- The words.
@@ -207,7 +204,7 @@ declared_inputs k w e n t = go (dec_lt n k)
 module _ {tab : Table} {s : Summary} {g : Good} (o : Opened tab s g) (given : ℕ) where
   pub rooms_way : {heard : Heard} (x : Reacted) {r : Rooms} → ((b : Block) → b.inputs ≡ s.inputs → hearing_of heard ≡ all_heard b (bits given))
       → IsAnswer (record { inputs = s.inputs; outputs = s.outputs; body = g.body }) (react (record { inputs = s.inputs; outputs = s.outputs; body = g.body }) fresh (hearing_of heard)) x
-      → EndsOf s.inputs s.outputs heard x.present x.absent r
+      → EndsOf s.inputs s.outputs heard x.marks.present x.marks.absent r
       → undeclared_input g.header.inputs given ≡ false → of_form g.body ≡ true → Shows (block_of g) (bits given) r
   rooms_way {heard} x {r} h a e u f =
       shows b (bits given) (declared_inputs g.header.inputs given u) ended r
@@ -258,36 +255,36 @@ module _ {tab : Table} {s : Summary} {g : Good} (o : Opened tab s g) (given : �
   pub its_inputs : undeclared_input s.inputs given ≡ undeclared_input g.header.inputs given
   its_inputs = ap (λ (y : Summary). undeclared_input y.inputs given) o.summed
 
-  pub input_way : {x : Bool} → x ≡ undeclared_input s.inputs given → x ≡ true → Views (try_inputs g given) (Refused Why.Input 0)
+  pub input_way : {x : Bool} → x ≡ undeclared_input s.inputs given → x ≡ true → Views (try_inputs g given) (Err (record { why = Why.Input; place = 0 }))
   unfolding try_inputs Views number
-  input_way {x} d t = subst (λ (y : Bool). Views (cond y (refused 11 0) (try_form g given)) (Refused Why.Input 0)) (sym t ∙ d ∙ its_inputs) (refl, refl)
+  input_way {x} d t = subst (λ (y : Bool). Views (cond y (refused 11 0) (try_form g given)) (Err (record { why = Why.Input; place = 0 }))) (sym t ∙ d ∙ its_inputs) (refl, refl)
 
   pub its_form : {x : Bool} → x ≡ rows_fit tab.kinds tab.sizes s.statements → x ≡ of_form g.body
   its_form d = rows_are tab g.body (placed o) (ap (λ (y : Summary). y.statements) o.summed ∙ (sound o.bytes g o.its_reading).counted) d
 
   pub form_way : {x y : Bool} → x ≡ undeclared_input s.inputs given → x ≡ false → y ≡ rows_fit tab.kinds tab.sizes s.statements → y ≡ false
-      → Views (try_inputs g given) (Refused Why.Form 0)
+      → Views (try_inputs g given) (Err (record { why = Why.Form; place = 0 }))
   unfolding try_inputs try_form Views number
   form_way {x} {y} d f e k =
-      subst (λ (z : Bool). Views (cond z (refused 11 0) (try_form g given)) (Refused Why.Form 0)) (sym f ∙ d ∙ its_inputs)
-      (subst (λ (z : Bool). Views (cond z (shown (block_of g) (bits given)) (refused 26 0)) (Refused Why.Form 0)) (sym k ∙ its_form e) (refl, refl))
+      subst (λ (z : Bool). Views (cond z (refused 11 0) (try_form g given)) (Err (record { why = Why.Form; place = 0 }))) (sym f ∙ d ∙ its_inputs)
+      (subst (λ (z : Bool). Views (cond z (shown (block_of g) (bits given)) (refused 26 0)) (Err (record { why = Why.Form; place = 0 }))) (sym k ∙ its_form e) (refl, refl))
 
   pub shown_way : {x y : Bool} {r : Rooms} → x ≡ undeclared_input s.inputs given → x ≡ false → y ≡ rows_fit tab.kinds tab.sizes s.statements → y ≡ true
-      → (undeclared_input g.header.inputs given ≡ false → of_form g.body ≡ true → Shows (block_of g) (bits given) r) → Views (try_inputs g given) (Ended r)
+      → (undeclared_input g.header.inputs given ≡ false → of_form g.body ≡ true → Shows (block_of g) (bits given) r) → Views (try_inputs g given) (Ok r)
   unfolding try_inputs try_form Views
   shown_way {x} {y} {r} d f e k h =
       let u : undeclared_input g.header.inputs given ≡ false = sym its_inputs ∙ sym d ∙ f in
       let v : of_form g.body ≡ true = sym (its_form e) ∙ k in
-      subst⁻¹ (λ (z : Bool). Views (cond z (refused 11 0) (try_form g given)) (Ended r)) u
-      (subst⁻¹ (λ (z : Bool). Views (cond z (shown (block_of g) (bits given)) (refused 26 0)) (Ended r)) v (h u v))
+      subst⁻¹ (λ (z : Bool). Views (cond z (refused 11 0) (try_form g given)) (Ok r)) u
+      (subst⁻¹ (λ (z : Bool). Views (cond z (shown (block_of g) (bits given)) (refused 26 0)) (Ok r)) v (h u v))
 
 -- The reading.
-module _ (b : List ℕ) (given : ℕ) {tab : Table} {x : Checked} (w : ReadWhole (reading b) tab x) where
-  pub block_fails : {why : Why} {at : ℕ} → x ≡ RefusedBlock why at → Views (view b given) (Refused why at)
+module _ (b : List ℕ) (given : ℕ) {tab : Table} {x : Result Summary Refused} (w : ReadWhole (reading b) tab x) where
+  pub block_fails : {r : Refused} → x ≡ Err r → Views (view b given) (Err r)
   unfolding view try_block Views
-  block_fails {why} {at} e = subst⁻¹ (λ (y : Reading). Views (try_block given y) (Refused why at)) (was_turned_down b w e) (refl, refl)
+  block_fails {r} e = subst⁻¹ (λ (y : Reading). Views (try_block given y) (Err r)) (was_turned_down b w e) (refl, refl)
 
-pub block_way : (b : List ℕ) (given : ℕ) {g : Good} (r : Maze) → reading b ≡ good g → Views (try_inputs g given) r → Views (view b given) r
+pub block_way : (b : List ℕ) (given : ℕ) {g : Good} (r : Result Rooms Refused) → reading b ≡ good g → Views (try_inputs g given) r → Views (view b given) r
 unfolding view try_block
 block_way b given {g} r e h = subst⁻¹ (λ (y : Reading). Views (try_block given y) r) e h
 

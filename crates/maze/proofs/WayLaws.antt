@@ -1,5 +1,7 @@
 -- The rooms of a block that was read, and one lemma for each way through the call: a statement of a tree of the form is nothing or of the form itself, and its row says which.
 -- Assumes nothing.
+use Rattle.std.specs.Prelude.{Err}
+use Rattle.refusals.specs.declared.Refused.{Refused}
 use mathlib.Core.Path.{◌≡◌, refl, sym, ◌∙◌, ap, ap₂, subst}
 use mathlib.Core.Bool.{Bool, true, false, cond, ◌&&◌, true≢false}
 use mathlib.Core.List.{List, [], ◌∷◌}
@@ -9,13 +11,12 @@ use native.Mathlib.Omega.{arith}
 use lib.Dec.{T, eqb, ltb, ltb→lt}
 use lib.ListN.{get_or}
 use borrow.Author.Tests.{lt-ltb, le-ltb, eq-eqb, ne_eqb}
-use Rattle.refusals.specs.Refusals.{number}
-use Rattle.refusals.specs.declared.Why.{Why}
 use Rattle.sets.specs.Words.{bits}
 use Rattle.sets.proofs.Members.{of_true, and_right}
 use Rattle.rules.specs.Statements.{Stmt, nothing, pause, emit, present?◌then◌else◌, suspend◌on◌, ◌⨾◌, loop, ◌parallel◌, trap, exit, local, numbered}
 use Rattle.rules.proofs.Preorder.{some_statement}
-use Rattle.tables.specs.Table.{Table, Has, kind_of, statements}
+use Rattle.tables.specs.Table.{Has, kind_of, statements}
+use Rattle.tables.specs.declared.Table.{Table}
 use Rattle.block.specs.Format.{Good, Reading, good, reading}
 use Rattle.block.specs.declared.whole.Summary.{Summary}
 use Rattle.block.proofs.GoodReadings.{sound}
@@ -28,13 +29,12 @@ use Rattle.reaction.proofs.Fronts.{placed}
 use Rattle.mazes.specs.Mazes.{OfForm, is_nothing, of_form, Room, signal, part, gate, dungeon, visible, corridors, gate_corridors, maze_of, nth}
 use Rattle.mazes.specs.Fitting.{fits}
 use Rattle.mazes.proofs.Forms.{of_form_is, fitting, all_fit}
-use Rattle.maze.specs.declared.Maze.TheVariants as maze
 use Rattle.maze.specs.declared.Room as code
 use Rattle.maze.specs.declared.Room.TheVariants.{Signal, Part, Gate, Dungeon}
-use Rattle.maze.specs.declared.Corridor.TheVariants.{NoMore, NoRoom, Refused}
+use Rattle.maze.specs.declared.Corridor.TheVariants.{NoMore, NoRoom}
 use Rattle.maze.specs.Rows.{nothing_at, rows_fit}
 use Rattle.maze.specs.Views.{View, refused, shown, try_form, try_inputs, try_block, view, Views}
-use Rattle.maze.specs.Ways.{room_of, is_present, has_room, Way, turned, no_room, way_by, way_in, way_told}
+use Rattle.maze.specs.Ways.{room_of, is_present, has_room, Way, turned, no_room, way_by, way_in, way_told, corridor_told}
 use Rattle.maze.proofs.RowLaws.{nothing_is}
 use Rattle.maze.proofs.ViewLaws.{its_inputs, its_form}
 
@@ -53,8 +53,8 @@ kind_test (trap p) = refl
 kind_test (exit d) = refl
 kind_test (local s p) = refl
 
-none_there : (a i n : ℕ) (t : Stmt) → is_nothing t ≡ true → way_told NoMore ≡ way_by (nth (corridors a i t) n)
-unfolding corridors nth way_told
+none_there : (a i n : ℕ) (t : Stmt) → is_nothing t ≡ true → corridor_told NoMore ≡ way_by (nth (corridors a i t) n)
+unfolding corridors nth corridor_told
 none_there a i n nothing e = refl
 none_there a i n (pause k) e = absurd (true≢false (sym e))
 none_there a i n (emit s) e = absurd (true≢false (sym e))
@@ -98,8 +98,8 @@ module _ {tab : Table} {s : Summary} {g : Good} (o : Opened tab s g) where
     unfolding way_in
     room_there r h d = d ∙ ap (λ (z : Bool). cond z (way_by (nth (maze_of (block_of g) (bits given) r) n)) no_room) (sym h)
 
-    room_not_there : (r : Room) → has_room (block_of g) r ≡ false → way_told NoRoom ≡ way_in (shown (block_of g) (bits given)) r n
-    unfolding way_in way_told
+    room_not_there : (r : Room) → has_room (block_of g) r ≡ false → corridor_told NoRoom ≡ way_in (shown (block_of g) (bits given)) r n
+    unfolding way_in corridor_told
     room_not_there r h = ap (λ (z : Bool). cond z (way_by (nth (maze_of (block_of g) (bits given) r) n)) no_room) (sym h)
 
     -- A signal's room.
@@ -108,7 +108,7 @@ module _ {tab : Table} {s : Summary} {g : Good} (o : Opened tab s g) where
       unfolding has_room
       its_signals = d ∙ ap (λ (y : Summary). ltb a (y.inputs + y.outputs)) o.summed
 
-      pub no_signal : x ≡ false → way_told NoRoom ≡ way_in (shown (block_of g) (bits given)) (signal a) n
+      pub no_signal : x ≡ false → corridor_told NoRoom ≡ way_in (shown (block_of g) (bits given)) (signal a) n
       no_signal e = room_not_there (signal a) (sym its_signals ∙ e)
 
       pub input_room : {k : ℕ} {w : Way} → x ≡ true → k ≡ s.inputs → a < k → w ≡ way_by (nth (cond (bits given a) (visible dungeon ∷ []) []) n)
@@ -138,10 +138,10 @@ module _ {tab : Table} {s : Summary} {g : Good} (o : Opened tab s g) where
       below_count t =
           ltb→lt i (statements g.body) (and_right (ltb a ((block_of g).inputs + (block_of g).outputs)) (ltb i (statements g.body)) (of_true (sym its_parts ∙ t)))
 
-      pub no_part : x ≡ false → way_told NoRoom ≡ way_in (shown (block_of g) (bits given)) (part i a) n
+      pub no_part : x ≡ false → corridor_told NoRoom ≡ way_in (shown (block_of g) (bits given)) (part i a) n
       no_part e = room_not_there (part i a) (sym its_parts ∙ e)
 
-      pub nothing_part : {y : Bool} → x ≡ true → y ≡ nothing_at tab.kinds i → y ≡ true → way_told NoMore ≡ way_in (shown (block_of g) (bits given)) (part i a) n
+      pub nothing_part : {y : Bool} → x ≡ true → y ≡ nothing_at tab.kinds i → y ≡ true → corridor_told NoMore ≡ way_in (shown (block_of g) (bits given)) (part i a) n
       unfolding maze_of
       nothing_part t e z =
           room_there (part i a) (sym its_parts ∙ t) (none_there a i n (numbered g.body i) (sym (nothing_there i (below_count t)) ∙ sym e ∙ z))
@@ -168,7 +168,7 @@ module _ {tab : Table} {s : Summary} {g : Good} (o : Opened tab s g) where
       gate_there t =
           and_again (ltb a ((block_of g).inputs + (block_of g).outputs)) (ltb i (statements g.body)) (is_present (numbered g.body i)) (sym its_parts ∙ t)
 
-      pub no_gate : x ≡ false → way_told NoRoom ≡ way_in (shown (block_of g) (bits given)) (gate i a) n
+      pub no_gate : x ≡ false → corridor_told NoRoom ≡ way_in (shown (block_of g) (bits given)) (gate i a) n
       unfolding has_room
       no_gate e =
           room_not_there (gate i a)
@@ -178,7 +178,7 @@ module _ {tab : Table} {s : Summary} {g : Good} (o : Opened tab s g) where
         its_kind_there : get_or tab.kinds i 0 ≡ kind_of (numbered g.body i)
         its_kind_there = (has_row (numbered g.body i) (stands_at i (below_count t)).has).its_kind
 
-        pub no_test : (get_or tab.kinds i 0 ≡ 19 → ⊥) → way_told NoRoom ≡ way_in (shown (block_of g) (bits given)) (gate i a) n
+        pub no_test : (get_or tab.kinds i 0 ≡ 19 → ⊥) → corridor_told NoRoom ≡ way_in (shown (block_of g) (bits given)) (gate i a) n
         no_test f =
             room_not_there (gate i a)
             (gate_there t ∙ sym (kind_test (numbered g.body i)) ∙ ne_eqb (kind_of (numbered g.body i)) 19 (λ e. f (its_kind_there ∙ e)))
@@ -191,8 +191,8 @@ module _ {tab : Table} {s : Summary} {g : Good} (o : Opened tab s g) where
             sym (kind_test (numbered g.body i)) ∙ eq-eqb (kind_of (numbered g.body i)) 19 (sym its_kind_there ∙ e) in
             room_there (gate i a) (gate_there t ∙ y) (h (numbered g.body i) (stands_at i (below_count t)) y)
 
-    pub dungeon_room : way_told NoMore ≡ way_in (shown (block_of g) (bits given)) dungeon n
-    unfolding way_in way_told has_room maze_of nth
+    pub dungeon_room : corridor_told NoMore ≡ way_in (shown (block_of g) (bits given)) dungeon n
+    unfolding way_in corridor_told has_room maze_of nth
     dungeon_room = refl
 
 -- The room that the caller names.
@@ -214,10 +214,10 @@ module _ (v : View) (n : ℕ) {w : Way} {x : code.Room} where
   dungeon_named e h = h ∙ ap (λ (y : code.Room). way_in v (room_of y) n) (sym e)
 
 -- What is told of a refusal.
-pub refused_told : (v : View) (r : Room) (n : ℕ) (why : Why) (at : ℕ) → Views v (maze.Refused why at) → way_told (Refused why at) ≡ way_in v r n
+pub refused_told : (v : View) (r : Room) (n : ℕ) (why : Refused) → Views v (Err why) → way_told (Err why) ≡ way_in v r n
 unfolding Views way_in way_told
-refused_told (refused k p) r n why at h = let d = h.0 in let e = h.1 in λ j. turned (d j) (e j)
-refused_told (shown b given) r n why at h = absurd h
+refused_told (refused k p) r n why h = let d = h.0 in let e = h.1 in λ j. turned (d j) (e j)
+refused_told (shown b given) r n why h = absurd h
 
 -- The tests are passed.
 pub shown_told : {tab : Table} {s : Summary} {g : Good} (o : Opened tab s g) (given : ℕ) (r : Room) (n : ℕ) {x y : Bool} {w : Way} → x ≡ undeclared_input s.inputs given → x ≡ false

@@ -1,5 +1,5 @@
 -- The maze view on the caller's bytes: what the call comes to, and its answer. Assumes nothing.
-use Rattle.std.specs.Prelude.{◌≡◌, ◌↔◌, cond, not, ◌&&◌, ◌||◌, List, ℕ, ◌+◌, ◌<◌, T, ltb}
+use Rattle.std.specs.Prelude.{◌≡◌, ◌↔◌, cond, not, ◌&&◌, ◌||◌, List, ℕ, ◌+◌, ◌<◌, T, ltb, Result, Ok, Err}
 use Rattle.refusals.specs.Refusals.{number}
 use Rattle.sets.specs.Numbers.{Numbers}
 use Rattle.sets.specs.Words.{bits}
@@ -11,8 +11,7 @@ use Rattle.reaction.specs.Fronts.{INPUT}
 use Rattle.reaction.specs.Instants.{block_of}
 use Rattle.mazes.specs.Mazes.{of_form, signal, maze_of, Wins, Loses, Draws}
 use Rattle.maze.specs.declared.Rooms.{Rooms}
-use Rattle.maze.specs.declared.Maze.{Maze}
-use Rattle.maze.specs.declared.Maze.TheVariants.{Rooms as Ended, Refused}
+use Rattle.refusals.specs.declared.Refused.{Refused}
 
 abbrev pub FORM : ℕ
 FORM = 26
@@ -49,11 +48,11 @@ pub record Shows (b : Block) (given : Numbers) (r : Rooms) : Type 0 where
   pub draws : (n : ℕ) → T (bits r.drawn n) ↔ ((n < b.inputs + b.outputs) × Draws (maze_of b given) (signal n))
 
 -- The whole answer.
-unfoldable pub Views : View → Maze → Type 0
-Views (refused n at) (Refused w place) = (number w ≡ n) × (place ≡ at)
-Views (refused n at) (Ended r) = ⊥
-Views (shown b given) (Refused w place) = ⊥
-Views (shown b given) (Ended r) = Shows b given r
+unfoldable pub Views : View → Result Rooms Refused → Type 0
+Views (refused n at) (Err r) = (number r.why ≡ n) × (r.place ≡ at)
+Views (refused n at) (Ok r) = ⊥
+Views (shown b given) (Err r) = ⊥
+Views (shown b given) (Ok r) = Shows b given r
 
 -- How the words are made: what is heard of the inputs and the outputs' marks, and of the declared signals the rest.
 pub record EndsOf (inputs outputs : ℕ) (heard : Heard) (present absent : ℕ) (r : Rooms) : Type 0 where

@@ -1,14 +1,16 @@
 -- The corridors of a room one by one, on the caller's bytes. Assumes nothing.
-use Rattle.std.specs.Prelude.{◌≡◌, Bool, true, false, cond, ◌&&◌, List, [], ◌∷◌, ◌++◌, ℕ, ◌+◌, ◌≤◌, ltb, eqb}
+use Rattle.std.specs.Prelude.{Bool, true, false, cond, ◌&&◌, List, [], ◌∷◌, ◌++◌, ℕ, ◌+◌, ltb, eqb, Result, Ok, Err}
 use Rattle.std.proofs.Math.Option.{Option, none, some}
 use Rattle.refusals.specs.Refusals.{number}
 use Rattle.rules.specs.Statements.{Block, Stmt, nothing, pause, emit, present?◌then◌else◌, suspend◌on◌, ◌⨾◌, loop, ◌parallel◌, trap, exit, local, preorder, numbered}
-use Rattle.tables.specs.Table.{Table, statements, Has}
+use Rattle.tables.specs.Table.{statements, Has}
+use Rattle.tables.specs.declared.Table.{Table}
 use Rattle.mazes.specs.Mazes.{OfForm, Room, signal, part, gate, dungeon, Corridor, visible, secret, corridors, maze_of, nth}
 use Rattle.maze.specs.declared.Room as code
 use Rattle.maze.specs.declared.Room.TheVariants.{Signal, Part, Gate, Dungeon}
+use Rattle.refusals.specs.declared.Refused.{Refused}
 use Rattle.maze.specs.declared.Corridor as told
-use Rattle.maze.specs.declared.Corridor.TheVariants.{Visible, Secret, NoMore, NoRoom, Refused}
+use Rattle.maze.specs.declared.Corridor.TheVariants.{Visible, Secret, NoMore, NoRoom}
 use Rattle.maze.specs.Views.{View, refused, shown}
 
 -- The room that the caller names.
@@ -55,14 +57,18 @@ unfolding has_room maze_of nth
 way_in (refused n at) r k = turned n at
 way_in (shown b given) r k = cond (has_room b r) (way_by (nth (maze_of b given r) k)) no_room
 
--- What the answer says.
-unfoldable pub way_told : told.Corridor → Way
+-- What a corridor of the code says.
+unfoldable pub corridor_told : told.Corridor → Way
 unfolding room_of
-way_told (Visible r) = leads (visible (room_of r))
-way_told (Secret r) = leads (secret (room_of r))
-way_told NoMore = no_more
-way_told NoRoom = no_room
-way_told (Refused w at) = turned (number w) at
+corridor_told (Visible r) = leads (visible (room_of r))
+corridor_told (Secret r) = leads (secret (room_of r))
+corridor_told NoMore = no_more
+corridor_told NoRoom = no_room
+
+-- What the answer says.
+unfoldable pub way_told : Result told.Corridor Refused → Way
+way_told (Ok c) = corridor_told c
+way_told (Err r) = turned (number r.why) r.place
 
 -- A row by itself: whether it gives a's room a corridor, and how many rows are passed by it.
 unfoldable pub gives_one : ℕ → ℕ → ℕ → Bool

@@ -2,13 +2,13 @@
 ghost use Rattle.std.specs.Prelude.{◌≡◌, true, cond, [], ◌∷◌, ◌≤◌, eqb};
 ghost use Rattle.sets.specs.Words.{bits};
 ghost use Rattle.rules.specs.Statements.{Stmt};
-ghost use Rattle.tables.specs.Table.{table_of};
 ghost use Rattle.forms.specs.Forms.{At};
 ghost use Rattle.mazes.specs.Mazes.{OfForm, visible, secret, signal, part, dungeon, gate, corridors, gate_corridors, nth};
-ghost use Rattle.maze.specs.Ways.{is_present, way_by, way_told, gives_one};
+ghost use Rattle.maze.specs.Ways.{is_present, way_by, corridor_told, gives_one};
 
 use crate::form::is_nothing;
 use crate::{Corridor, Room};
+use tables::Table;
 use tables::kinds::wide;
 use tables::loops::second_at;
 
@@ -16,16 +16,15 @@ use tables::loops::second_at;
 fn gives_one(kind: u16, operand: u16, a: usize) -> bool
     ensures { result ≡ gives_one kind operand a }
 {
-    if kind == 18 {
-        a == wide(operand)
-    } else {
-        kind == 19
+    match kind {
+        18 => a == wide(operand),
+        _ => kind == 19,
     }
 }
 
 // That corridor: from an emit to the dungeon, from a test to its gate.
 fn given_by(kind: u16, at: usize, a: usize) -> Corridor
-    ensures { way_told result ≡ way_by (nth (visible (cond (eqb kind 19) (gate at a) dungeon) ∷ []) 0) }
+    ensures { corridor_told result ≡ way_by (nth (visible (cond (eqb kind 19) (gate at a) dungeon) ∷ []) 0) }
 {
     if kind == 19 {
         return Corridor::Visible(Room::Gate(at, a));
@@ -37,48 +36,38 @@ fn given_by(kind: u16, at: usize, a: usize) -> Corridor
 fn passed(kind: u16, size: u16) -> usize
     ensures { (1 ≤ result) × (result ≤ 65536) × (kind ≡ 19 → 1 ≤ size → result ≡ size) × ((kind ≡ 19 → ⊥) → result ≡ 1) }
 {
-    if kind == 19 {
-        if 0 < size {
-            return wide(size);
-        }
+    if kind == 19 && 0 < size {
+        wide(size)
+    } else {
+        1
     }
-    1
 }
 
 // Corridor n of the room of the statement at i as a sees it.
-pub(crate) fn from_part(
-    kinds: &[u16; 512],
-    operands: &[u16; 512],
-    sizes: &[u16; 512],
-    i: usize,
-    a: usize,
-    n: usize,
-) -> Corridor
-    requires { (t : Stmt) × At (table_of kinds.now operands.now sizes.now) i t }
-    ensures { (t : Stmt) → At (table_of kinds.now operands.now sizes.now) i t → OfForm t → way_told result ≡ way_by (nth (corridors a i t) n) }
+pub(crate) fn from_part(table: &Table, i: usize, a: usize, n: usize) -> Corridor
+    requires { (t : Stmt) × At table.now i t }
+    ensures { (t : Stmt) → At table.now i t → OfForm t → corridor_told result ≡ way_by (nth (corridors a i t) n) }
 {
-    let end = i + wide(sizes[i]);
+    let end = i + wide(table.sizes[i]);
     let mut j = i;
     let mut left = n;
     while j < end {
-        let kind = kinds[j];
-        let on = passed(kind, sizes[j]);
-        if gives_one(kind, operands[j], a) {
+        let kind = table.kinds[j];
+        let on = passed(kind, table.sizes[j]);
+        if gives_one(kind, table.operands[j], a) {
             if left == 0 {
                 return given_by(kind, j, a);
             }
             left -= 1;
-            j += on;
-        } else {
-            j += on;
         }
+        j += on;
     }
     Corridor::NoMore
 }
 
 // Corridor n of the gate of a test of s whose then part is at p.
 fn then_gate(s: usize, p: usize, a: usize, n: usize) -> Corridor
-    ensures { way_told result ≡ way_by (nth (visible (signal s) ∷ visible (part p a) ∷ []) n) }
+    ensures { corridor_told result ≡ way_by (nth (visible (signal s) ∷ visible (part p a) ∷ []) n) }
 {
     match n {
         0 => Corridor::Visible(Room::Signal(s)),
@@ -89,7 +78,7 @@ fn then_gate(s: usize, p: usize, a: usize, n: usize) -> Corridor
 
 // And of one whose else part is at q: there the corridor to the signal's room is secret.
 fn else_gate(s: usize, q: usize, a: usize, n: usize) -> Corridor
-    ensures { way_told result ≡ way_by (nth (secret (signal s) ∷ visible (part q a) ∷ []) n) }
+    ensures { corridor_told result ≡ way_by (nth (secret (signal s) ∷ visible (part q a) ∷ []) n) }
 {
     match n {
         0 => Corridor::Secret(Room::Signal(s)),
@@ -99,21 +88,14 @@ fn else_gate(s: usize, q: usize, a: usize, n: usize) -> Corridor
 }
 
 // Corridor n of the gate of the test at i as a sees it.
-pub(crate) fn from_gate(
-    kinds: &[u16; 512],
-    operands: &[u16; 512],
-    sizes: &[u16; 512],
-    i: usize,
-    a: usize,
-    n: usize,
-) -> Corridor
-    requires { (t : Stmt) × At (table_of kinds.now operands.now sizes.now) i t }
-    ensures { (t : Stmt) → At (table_of kinds.now operands.now sizes.now) i t → is_present t ≡ true
-        → way_told result ≡ way_by (nth (gate_corridors a i t) n) }
+pub(crate) fn from_gate(table: &Table, i: usize, a: usize, n: usize) -> Corridor
+    requires { (t : Stmt) × At table.now i t }
+    ensures { (t : Stmt) → At table.now i t → is_present t ≡ true
+        → corridor_told result ≡ way_by (nth (gate_corridors a i t) n) }
 {
-    let s = wide(operands[i]);
-    let second = second_at(sizes, i);
-    if is_nothing(kinds, second) {
+    let s = wide(table.operands[i]);
+    let second = second_at(table, i);
+    if is_nothing(table, second) {
         return then_gate(s, i + 1, a, n);
     }
     else_gate(s, second, a, n)
@@ -123,18 +105,15 @@ pub(crate) fn from_gate(
 fn is_given(given: u64, s: usize) -> bool
     ensures { result ≡ bits given s }
 {
-    if s < 64 { (given >> s) % 2 == 1 } else { false }
+    s < 64 && (given >> s) % 2 == 1
 }
 
 // Corridor n of an input's room: one to the dungeon where it is present, none where it is absent.
 pub(crate) fn from_input(given: u64, s: usize, n: usize) -> Corridor
-    ensures { way_told result ≡ way_by (nth (cond (bits given s) (visible dungeon ∷ []) []) n) }
+    ensures { corridor_told result ≡ way_by (nth (cond (bits given s) (visible dungeon ∷ []) []) n) }
 {
-    if n == 0 {
-        if is_given(given, s) {
-            return Corridor::Visible(Room::Dungeon);
-        }
-        return Corridor::NoMore;
+    if n == 0 && is_given(given, s) {
+        return Corridor::Visible(Room::Dungeon);
     }
     Corridor::NoMore
 }

@@ -3,57 +3,42 @@ ghost use Rattle.std.specs.Prelude.{◌≡◌, true, ◌&&◌, ◌≤◌, ◌<�
 ghost use Rattle.mazes.specs.Fitting.{one_alone, neither};
 ghost use Rattle.maze.specs.Rows.{nothing_at, row_fits, rows_fit};
 
+use tables::Table;
 use tables::loops::second_at;
 
 // Row i is a nothing; past the table's end there is none.
-pub(crate) fn is_nothing(kinds: &[u16; 512], i: usize) -> bool
-    ensures { result ≡ nothing_at kinds.now i }
+#[tactic(auto, unfolding(crate::specs::Rows::nothing_at))]
+pub(crate) fn is_nothing(table: &Table, i: usize) -> bool
+    ensures { result ≡ nothing_at table.now.kinds i }
 {
-    if i < 512 { kinds[i] == 16 } else { false }
-}
-
-fn one_alone(first: bool, second: bool) -> bool
-    ensures { result ≡ one_alone first second }
-{
-    if first { !second } else { second }
-}
-
-fn neither(first: bool, second: bool) -> bool
-    ensures { result ≡ neither first second }
-{
-    if first { false } else { !second }
+    i < 512 && table.kinds[i] == 16
 }
 
 // A present has nothing in exactly one branch, a parallel in no arm; besides these only emits stand, and the nothings that a present has.
-fn row_fits(kinds: &[u16; 512], sizes: &[u16; 512], i: usize) -> bool
+fn row_fits(table: &Table, i: usize) -> bool
     requires { i < 512 }
-    ensures { result ≡ row_fits kinds.now sizes.now i }
+    ensures { result ≡ row_fits table.now.kinds table.now.sizes i }
 {
-    let first = is_nothing(kinds, i + 1);
-    let second = is_nothing(kinds, second_at(sizes, i));
-    let kind = kinds[i];
-    match kind {
-        16 => true,
-        18 => true,
-        19 => one_alone(first, second),
-        23 => neither(first, second),
+    let first = is_nothing(table, i + 1);
+    let second = is_nothing(table, second_at(table, i));
+    match table.kinds[i] {
+        16 | 18 => true,
+        19 => first != second,
+        23 => !first && !second,
         _ => false,
     }
 }
 
 // Every row of the first so many, and the root is not nothing.
-pub(crate) fn in_form(kinds: &[u16; 512], sizes: &[u16; 512], count: usize) -> bool
+pub(crate) fn in_form(table: &Table, count: usize) -> bool
     requires { count ≤ 512 }
-    ensures { result ≡ rows_fit kinds.now sizes.now count }
+    ensures { result ≡ rows_fit table.now.kinds table.now.sizes count }
 {
-    if is_nothing(kinds, 0) {
+    if is_nothing(table, 0) {
         return false;
     }
-    let mut i = 0;
-    while i < count {
-        if row_fits(kinds, sizes, i) {
-            i += 1;
-        } else {
+    for i in 0..count {
+        if !row_fits(table, i) {
             return false;
         }
     }

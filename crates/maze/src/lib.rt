@@ -6,21 +6,12 @@ pub mod form;
 pub mod view;
 pub mod ways;
 
-use refusals::Why;
-
 // The signals whose rooms win, lose and draw, as bits by signal number.
 #[derive(Clone, Copy)]
 pub struct Rooms {
     pub winning: u64,
     pub losing: u64,
     pub drawn: u64,
-}
-
-// The maze's rooms, or why the call is turned down and where.
-#[derive(Clone, Copy)]
-pub enum Maze {
-    Rooms(Rooms),
-    Refused(Why, usize),
 }
 
 // A room: a signal's; a part's, by its statement's number, as a signal's room sees it; a test's gate, by the test's number, as a signal's room sees it; the dungeon.
@@ -32,12 +23,11 @@ pub enum Room {
     Dungeon,
 }
 
-// A corridor and where it leads; none of that number; no such room; or why the call is turned down and where.
+// A corridor and where it leads; none of that number; or no such room.
 #[derive(Clone, Copy)]
 pub enum Corridor {
     Visible(Room),
     Secret(Room),
     NoMore,
     NoRoom,
-    Refused(Why, usize),
 }

@@ -2,7 +2,6 @@
 ghost use Rattle.std.specs.Prelude.{◌≡◌, true, false, ◌+◌, ◌≤◌};
 ghost use Rattle.sets.specs.Words.{bits};
 ghost use Rattle.block.specs.Format.{Good};
-ghost use Rattle.tables.specs.Table.{table_of};
 ghost use Rattle.records.specs.StateRecord.{undeclared_input};
 ghost use Rattle.reaction.specs.Instants.{block_of};
 ghost use Rattle.reaction.specs.Outcomes.{Opened};
@@ -10,12 +9,14 @@ ghost use Rattle.mazes.specs.Mazes.{of_form};
 ghost use Rattle.maze.specs.Views as views;
 ghost use Rattle.maze.specs.Views.{try_inputs, Shows, Views, EndsOf};
 
+use crate::Rooms;
 use crate::form::in_form;
-use crate::{Maze, Rooms};
-use block::whole::{Checked, Summary, read_block};
-use evaluate::rounds::{Phase, all_heard, below, react};
+use block::whole::{Summary, read_block};
+use evaluate::rounds::{all_heard, below, react};
 use records::bits::input_over;
-use refusals::Why;
+use records::state::Phase;
+use refusals::{Refused, Why};
+use tables::Table;
 use words::events::Heard;
 
 // Who wins, loses and draws: the inputs as they are heard, the outputs as they are marked, and the rest of the declared signals.
@@ -34,63 +35,37 @@ fn ends_of(inputs: u16, outputs: u16, heard: Heard, present: u64, absent: u64) -
 }
 
 // The rooms of a block of the form.
-fn rooms_of(
-    kinds: &[u16; 512],
-    operands: &[u16; 512],
-    sizes: &[u16; 512],
-    s: Summary,
-    inputs: u64,
-) -> Rooms
-    requires { (g : Good) × Opened (table_of kinds.now operands.now sizes.now) s g }
-    ensures { (g : Good) → Opened (table_of kinds.now operands.now sizes.now) s g
+fn rooms_of(table: &Table, s: Summary, inputs: u64) -> Rooms
+    requires { (g : Good) × Opened table.now s g }
+    ensures { (g : Good) → Opened table.now s g
         → undeclared_input g.header.inputs inputs ≡ false → of_form g.body ≡ true → Shows (block_of g) (bits inputs) result }
 {
     let first = s.inputs;
     let outputs = s.outputs;
     let heard = all_heard(first, inputs);
-    let r = react(
-        kinds,
-        operands,
-        sizes,
-        Phase::Fresh,
-        [0, 0],
-        first,
-        outputs,
-        heard,
-    );
-    ends_of(first, outputs, heard, r.present, r.absent)
+    let r = react(table, Phase::Fresh, [0, 0], first, outputs, heard);
+    ends_of(first, outputs, heard, r.marks.present, r.marks.absent)
 }
 
 // After the reading: INPUT, FORM, then the rooms.
-fn past_reading(
-    kinds: &[u16; 512],
-    operands: &[u16; 512],
-    sizes: &[u16; 512],
-    s: Summary,
-    inputs: u64,
-) -> Maze
-    requires { (g : Good) × Opened (table_of kinds.now operands.now sizes.now) s g }
-    ensures { (g : Good) → Opened (table_of kinds.now operands.now sizes.now) s g → Views (try_inputs g inputs) result }
+fn past_reading(table: &Table, s: Summary, inputs: u64) -> Result<Rooms, Refused>
+    requires { (g : Good) × Opened table.now s g }
+    ensures { (g : Good) → Opened table.now s g → Views (try_inputs g inputs) result }
 {
     if input_over(s.inputs, inputs) {
-        return Maze::Refused(Why::Input, 0);
+        return Err(Why::Input.at(0));
     }
-    if in_form(kinds, sizes, s.statements) {
-        return Maze::Rooms(rooms_of(kinds, operands, sizes, s, inputs));
+    if in_form(table, s.statements) {
+        return Ok(rooms_of(table, s, inputs));
     }
-    Maze::Refused(Why::Form, 0)
+    Err(Why::Form.at(0))
 }
 
 // Which rooms of the maze win, lose and draw, for the caller's block and input set.
-pub fn maze(block: &[u8], inputs: u64) -> Maze
+pub fn maze(block: &[u8], inputs: u64) -> Result<Rooms, Refused>
     ensures { Views (views.view block.now inputs) result }
 {
-    let mut kinds = [0u16; 512];
-    let mut operands = [0u16; 512];
-    let mut sizes = [0u16; 512];
-    let checked = read_block(block, &mut kinds, &mut operands, &mut sizes);
-    match checked {
-        Checked::Refused(why, place) => Maze::Refused(why, place),
-        Checked::Good(s) => past_reading(&kinds, &operands, &sizes, s, inputs),
-    }
+    let mut table = Table::empty();
+    let s = read_block(block, &mut table)?;
+    past_reading(&table, s, inputs)
 }

@@ -6,7 +6,7 @@ use mathlib.Core.List.{List, [], ◌∷◌, map}
 use Prim.Native.Nat.{ℕ}
 use Rattle.sets.specs.Numbers.{listed, some_to, maxima, down, downs, lowest}
 use Rattle.sets.specs.Words.{bits, word}
-use Rattle.rules.specs.Statements.{code, Block, Stmt, nothing, pause, emit, present?◌then◌else◌, ◌⨾◌, ◌parallel◌, pauses}
+use Rattle.rules.specs.Statements.{code, Stmt, nothing, pause, emit, present?◌then◌else◌, ◌⨾◌, ◌parallel◌, pauses}
 use Rattle.rules.specs.Events.{event}
 use Rattle.rules.specs.Instant.{any, active, held, started, resumed}
 use Rattle.rules.specs.MustCan.{gives}

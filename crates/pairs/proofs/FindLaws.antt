@@ -1,20 +1,28 @@
--- A row that is looked for from the front. Assumes nothing.
-use mathlib.Core.Path.{◌≡◌, subst}
-use Prim.Native.Nat.{ℕ, suc, ◌+◌, ◌≤◌, ◌<◌}
-use native.Mathlib.Omega.{arith}
-use native.Mathlib.Decide.{dec_lt}
-use Rattle.pairs.specs.Rows.{Rows, Row, row_at, Finds}
+-- A pair that is looked for among the first rows. Assumes nothing.
+use Rattle.std.proofs.Common.{◌≡◌, ℕ, ◌<◌, ◌≤◌, take, length, get_or, subst, sym, arith}
+use Rattle.std.proofs.lemmas.List.{length-take-le, get_or-take}
+use Rattle.std.specs.List.{AllWithin, HoldsAt}
+use Rattle.std.specs.Option.{MatchOption}
+use Rattle.std.specs.Prelude.{Option, None, Some}
+use Rattle.pairs.specs.Rows.{no_pair, row_at, NotAmong, Finds}
+use Rattle.pairs.specs.declared.rows.Pair.{Pair}
+use Rattle.pairs.specs.declared.rows.Rows.{Rows}
 
-module _ (rows : Rows) (x : Row) (k : ℕ) where
-  pub found_here : (count : ℕ) → k < count → row_at rows k ≡ x → ((j : ℕ) → j < k → row_at rows j ≡ x → ⊥) → Finds rows count x k
-  found_here count h e n = record { at_most = omega arith; there = λ l. e; none_before = n }
+module _ (rows : Rows) (p : Pair) where
+  within : rows.count ≤ length rows.pairs
+  within = omega (arith, rows.few, rows.all)
 
-  pub one_passed : ((j : ℕ) → j < k → row_at rows j ≡ x → ⊥) → (row_at rows k ≡ x → ⊥) → (j : ℕ) → j < k + 1 → row_at rows j ≡ x → ⊥
-  one_passed n m j l e = go (dec_lt j k)
-    where
-      go : Dec (j < k) → ⊥
-      go (yes h) = n j h e
-      go (no h) = let z : j ≡ k = omega arith in m (subst (λ (i : ℕ). row_at rows i ≡ x) z e)
+  row_in : (k : ℕ) → k < rows.count → get_or (take rows.count rows.pairs) k no_pair ≡ row_at rows k
+  row_in k h = get_or-take rows.count rows.pairs k no_pair h
 
-  pub none_found : (count : ℕ) → k ≤ count → count ≤ k → ((j : ℕ) → j < k → row_at rows j ≡ x → ⊥) → Finds rows count x count
-  none_found count h l n = record { at_most = omega arith; there = λ z. absurd (omega arith); none_before = λ j z. n j (omega arith) }
+  none_in : (n : ℕ) → n ≤ rows.count → AllWithin (λ (x : Pair). x ≡ p → ⊥) (take rows.count rows.pairs) 0 n → NotAmong rows n p
+  none_in n l a k h e = a k no_pair (omega arith) h (subst (λ (x : Pair). x ≡ p) (sym (row_in k (omega arith))) e)
+
+  pub found : (r : Option ℕ) → MatchOption r (AllWithin (λ (x : Pair). x ≡ p → ⊥) (take rows.count rows.pairs) 0 (length (take rows.count rows.pairs)))
+      (λ i. (i < length (take rows.count rows.pairs)) × HoldsAt (λ (x : Pair). x ≡ p) (take rows.count rows.pairs) i × AllWithin (λ (x : Pair). x ≡ p → ⊥) (take rows.count rows.pairs) 0 i)
+      → Finds rows p r
+  unfolding Finds
+  found None a = none_in rows.count (omega arith) (subst (AllWithin (λ (x : Pair). x ≡ p → ⊥) (take rows.count rows.pairs) 0) (length-take-le rows.count rows.pairs within) a)
+  found (Some k) a =
+      let h : k < rows.count = omega (arith, a.0, length-take-le rows.count rows.pairs within) in
+      (h, subst (λ (x : Pair). x ≡ p) (row_in k h) (a.1 no_pair), none_in k (omega arith) a.2)

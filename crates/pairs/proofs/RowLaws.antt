@@ -1,50 +1,58 @@
--- Rows and the pairs of states that they stand for: a row settles its pair, and the pair its row. Assumes nothing.
+-- Pairs and the states that they stand for: a pair settles its states, and the states their pair. Assumes nothing.
 use mathlib.Core.Path.{◌≡◌, refl, sym, ap, ◌∙◌}
-use Prim.Native.Nat.{ℕ, ◌^◌, ◌<◌}
+use mathlib.Core.List.{List}
+use Prim.Native.Nat.{ℕ, ◌<◌}
 use native.Mathlib.Omega.{arith}
-use lib.ListN.{get_or}
+use native.Mathlib.Decide.{dec_lt}
+use lib.ListN.{get_or, length}
+use Rattle.std.proofs.lemmas.List.{ext_get_or}
 use Rattle.sets.specs.Numbers.{Numbers}
-use Rattle.sets.specs.Words.{word, two_words}
-use Rattle.rules.specs.States.{State, fresh, running, finished, phase_of, active_of}
+use Rattle.sets.specs.Words.{word, set_of}
+use Rattle.rules.specs.States.{phase_of}
 use Rattle.records.specs.StateRecord.{upper}
 use Rattle.records.proofs.TwoWords.{words_low, words_high}
+use Rattle.evaluate.specs.Reacts.{state_of}
+use Rattle.records.specs.declared.state.Phase.{Phase}
+use Rattle.records.specs.declared.state.Phase.TheVariants.{Fresh, Running, Finished}
 use Rattle.pairs.specs.Blocks.{States}
-use Rattle.pairs.specs.Rows.{Row, Holds}
+use Rattle.pairs.specs.Rows.{Words, Holds}
+use Rattle.pairs.specs.declared.rows.Pair.{Pair}
 
-pub row_ext : {x y : Row} → x.low ≡ y.low → x.high ≡ y.high → x.low2 ≡ y.low2 → x.high2 ≡ y.high2 → x.phase ≡ y.phase → x ≡ y
-row_ext a b c d e = λ i. record { low = a i; high = b i; low2 = c i; high2 = d i; phase = e i }
+-- Two pairs of states with one pair are the same.
+pub same_states : {x y : States} {p : Pair} → Holds x p → Holds y p → x ≡ y
+same_states h k = λ i. record { of_first = (h.first_is ∙ sym k.first_is) i; of_second = (h.second_is ∙ sym k.second_is) i }
 
--- A state is known by its phase and its active pauses.
-state_ext : (st su : State) → phase_of st ≡ phase_of su → active_of st ≡ active_of su → st ≡ su
-unfolding phase_of active_of
-state_ext fresh fresh e d = refl
-state_ext fresh (running B) e d = absurd (omega arith)
-state_ext fresh finished e d = absurd (omega arith)
-state_ext (running A) fresh e d = absurd (omega arith)
-state_ext (running A) (running B) e d = ap running d
-state_ext (running A) finished e d = absurd (omega arith)
-state_ext finished fresh e d = absurd (omega arith)
-state_ext finished (running B) e d = absurd (omega arith)
-state_ext finished finished e d = refl
+-- A set has one array.
+words_same : {a b : List ℕ} → Words a → Words b → set_of a ≡ set_of b → a ≡ b
+words_same {a} {b} h k e = ext_get_or 0 a b (h.two ∙ sym k.two) (λ i l. at i l (dec_lt i 1))
+  where
+    low : get_or a 0 0 ≡ get_or b 0 0
+    low = sym (words_low (get_or a 0 0) (get_or a 1 0) h.low_fits h.high_fits) ∙ ap (word 64) e ∙ words_low (get_or b 0 0) (get_or b 1 0) k.low_fits k.high_fits
 
--- Two pairs with one row are the same.
-pub same_states : {x y : States} {r : Row} → Holds x r → Holds y r → x ≡ y
-same_states {x} {y} h k = λ i. record {
-  of_first = state_ext x.of_first y.of_first (h.first_phase ∙ sym k.first_phase) (h.first_active ∙ sym k.first_active) i;
-  of_second = state_ext x.of_second y.of_second (h.second_phase ∙ sym k.second_phase) (h.second_active ∙ sym k.second_active) i;
+    high : get_or a 1 0 ≡ get_or b 1 0
+    high = sym (words_high (get_or a 0 0) (get_or a 1 0) h.low_fits h.high_fits) ∙ ap (λ (A : Numbers). word 64 (upper A)) e ∙ words_high (get_or b 0 0) (get_or b 1 0) k.low_fits k.high_fits
+
+    at : (i : ℕ) → i < length a → Dec (i < 1) → get_or a i 0 ≡ get_or b i 0
+    at i l (yes n) = let z : i ≡ 0 = omega arith in rw z low
+    at i l (no n) = let z : i ≡ 1 = omega (arith, l, h.two) in rw z high
+
+-- A state has one phase.
+one_phase : (p q : Phase) (A B : Numbers) → phase_of (state_of p A) ≡ phase_of (state_of q B) → p ≡ q
+unfolding phase_of
+one_phase Fresh Fresh A B e = refl
+one_phase Fresh Running A B e = absurd (omega arith)
+one_phase Fresh Finished A B e = absurd (omega arith)
+one_phase Running Fresh A B e = absurd (omega arith)
+one_phase Running Running A B e = refl
+one_phase Running Finished A B e = absurd (omega arith)
+one_phase Finished Fresh A B e = absurd (omega arith)
+one_phase Finished Running A B e = absurd (omega arith)
+one_phase Finished Finished A B e = refl
+
+-- States have one pair.
+pub same_pair : {x : States} {p q : Pair} → Holds x p → Holds x q → p ≡ q
+same_pair {x} {p} {q} h k = λ i. record {
+  phase = one_phase p.phase q.phase (set_of p.first) (set_of q.first) (ap phase_of (sym h.first_is ∙ k.first_is)) i;
+  first = words_same h.first_words k.first_words (sym h.first_active ∙ k.first_active) i;
+  second = words_same h.second_words k.second_words (sym h.second_active ∙ k.second_active) i;
 }
-
-words_same : (a b c d : ℕ) → a < 2 ^ 64 → b < 2 ^ 64 → c < 2 ^ 64 → d < 2 ^ 64 → two_words 64 a b ≡ two_words 64 c d → (a ≡ c) × (b ≡ d)
-words_same a b c d h k l n e = (
-  sym (words_low a b h k) ∙ ap (word 64) e ∙ words_low c d l n,
-  sym (words_high a b h k) ∙ ap (λ (A : Numbers). word 64 (upper A)) e ∙ words_high c d l n,
-)
-
--- A pair has one row.
-pub same_row : {x : States} {r s : Row} → Holds x r → Holds x s → r ≡ s
-same_row {x} {r} {s} h k =
-    let f = h.fits in
-    let g = k.fits in
-    let a = words_same r.low r.high s.low s.high f.low_fits f.high_fits g.low_fits g.high_fits (sym h.first_active ∙ k.first_active) in
-    let b = words_same r.low2 r.high2 s.low2 s.high2 f.low2_fits f.high2_fits g.low2_fits g.high2_fits (sym h.second_active ∙ k.second_active) in
-    row_ext a.0 a.1 b.0 b.1 (sym h.first_phase ∙ k.first_phase)

@@ -1,8 +1,8 @@
 -- Two blocks under every input run, in the words of Ticket 10. Assumes nothing.
-use Rattle.std.specs.Prelude.{Bool, true, false, not, ◌&&◌, List, ℕ, ◌^◌, eqb}
+use Rattle.std.specs.Prelude.{Bool, true, false, not, ◌&&◌, ℕ, ◌^◌, eqb}
 use Rattle.sets.specs.Words.{bits, word}
 use Rattle.rules.specs.Statements.{Block}
-use Rattle.rules.specs.Events.{Status, present, all_heard}
+use Rattle.rules.specs.Events.{present, all_heard}
 use Rattle.rules.specs.States.{State, fresh}
 use Rattle.rules.specs.Rounds.{outputs_with, Answer, answered, not_constructive, react}
 use Rattle.theorems.specs.Traces.{after}

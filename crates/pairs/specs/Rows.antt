@@ -1,109 +1,63 @@
--- The rows that the search keeps, and how its numbers stand for pairs of states and for runs. Assumes nothing.
-use Rattle.std.specs.Prelude.{◌≡◌, Bool, true, false, not, List, ℕ, ◌^◌, ◌≤◌, ◌<◌, get_or, length, set}
-use Rattle.sets.specs.Words.{two_words, set_of}
+-- The rows that the search keeps, and how its pairs stand for pairs of states. Assumes nothing.
+use Rattle.std.specs.Prelude.{◌≡◌, true, false, List, ℕ, ◌+◌, ◌^◌, ◌<◌, [], ◌∷◌, Option, None, Some, get_or, set, length}
+use Rattle.sets.specs.Words.{set_of}
 use Rattle.rules.specs.Statements.{Block}
-use Rattle.rules.specs.States.{State, phase_of, active_of}
-use Rattle.pairs.specs.Runs.{Run, start, ◌▸◌}
-use Rattle.pairs.specs.Blocks.{States, both_after, told_apart}
+use Rattle.rules.specs.States.{active_of}
+use Rattle.rules.specs.Rounds.{Answer}
+use Rattle.theorems.specs.Traces.{after}
+use Rattle.evaluate.specs.Reacts.{state_of}
+use Rattle.records.specs.declared.state.Phase.TheVariants.{Fresh}
+use Rattle.pairs.specs.Blocks.{States, told_alike, both_after, told_apart}
 use Rattle.pairs.specs.declared.rows.Pair.{Pair}
-use Rattle.pairs.specs.declared.steps.Step.{Step}
+use Rattle.pairs.specs.declared.rows.Rows.{Rows}
 
--- The arrays: the two words of the first block's active pauses, those of the second's, and the phase.
-pub record Rows : Type 0 where
-  pub lows : List ℕ
-  pub highs : List ℕ
-  pub lows2 : List ℕ
-  pub highs2 : List ℕ
-  pub phases : List ℕ
+-- The pair of two fresh blocks.
+abbrev pub both_fresh : Pair
+both_fresh = record { phase = Fresh; first = 0 ∷ 0 ∷ []; second = 0 ∷ 0 ∷ [] }
 
-abbrev pub rows_of : List ℕ → List ℕ → List ℕ → List ℕ → List ℕ → Rows
-rows_of a b c d p = record { lows = a; highs = b; lows2 = c; highs2 = d; phases = p }
+-- What stands past the rows.
+abbrev pub no_pair : Pair
+no_pair = record { phase = Fresh; first = []; second = [] }
 
-pub record Full (rows : Rows) : Type 0 where
-  pub all_lows : length rows.lows ≡ 1024
-  pub all_highs : length rows.highs ≡ 1024
-  pub all_lows2 : length rows.lows2 ≡ 1024
-  pub all_highs2 : length rows.highs2 ≡ 1024
-  pub all_phases : length rows.phases ≡ 1024
+-- The pair of row k.
+abbrev pub row_at : Rows → ℕ → Pair
+row_at rows k = get_or rows.pairs k no_pair
 
--- One row.
-pub record Row : Type 0 where
-  pub low : ℕ
-  pub high : ℕ
-  pub low2 : ℕ
-  pub high2 : ℕ
-  pub phase : ℕ
+-- A pair has none of the first so many rows.
+abbrev pub NotAmong : Rows → ℕ → Pair → Type 0
+NotAmong rows n p = (k : ℕ) → k < n → row_at rows k ≡ p → ⊥
 
-abbrev pub row_at : Rows → ℕ → Row
-row_at rows k = record {
-  low = get_or rows.lows k 0;
-  high = get_or rows.highs k 0;
-  low2 = get_or rows.lows2 k 0;
-  high2 = get_or rows.highs2 k 0;
-  phase = get_or rows.phases k 0;
-}
+-- A pair's first row is found, or it has none.
+unfoldable pub Finds : Rows → Pair → Option ℕ → Type 0
+Finds rows p None = NotAmong rows rows.count p
+Finds rows p (Some k) = (k < rows.count) × (row_at rows k ≡ p) × NotAmong rows k p
 
-abbrev pub row_of : Pair → Row
-row_of p = record {
-  low = get_or p.first 0 0;
-  high = get_or p.first 1 0;
-  low2 = get_or p.second 0 0;
-  high2 = get_or p.second 1 0;
-  phase = p.phase;
-}
+-- A pair gets the next row.
+pub record Pushed (rows : Rows) (p : Pair) (rows' : Rows) : Type 0 where
+  pub new_pairs : rows'.pairs ≡ set rows.pairs rows.count p
+  pub new_count : rows'.count ≡ rows.count + 1
 
--- A row is found, or none is it.
-pub record Finds (rows : Rows) (count : ℕ) (x : Row) (r : ℕ) : Type 0 where
-  pub at_most : r ≤ count
-  pub there : r < count → row_at rows r ≡ x
-  pub none_before : (k : ℕ) → k < r → row_at rows k ≡ x → ⊥
+-- Two words as an array of them: they fit their type.
+pub record Words (a : List ℕ) : Type 0 where
+  pub two : length a ≡ 2
+  pub low_fits : get_or a 0 0 < 2 ^ 64
+  pub high_fits : get_or a 1 0 < 2 ^ 64
 
--- A row is stored.
-pub record Added (before after : Rows) (k : ℕ) (x : Row) : Type 0 where
-  pub new_lows : after.lows ≡ set before.lows k x.low
-  pub new_highs : after.highs ≡ set before.highs k x.high
-  pub new_lows2 : after.lows2 ≡ set before.lows2 k x.low2
-  pub new_highs2 : after.highs2 ≡ set before.highs2 k x.high2
-  pub new_phases : after.phases ≡ set before.phases k x.phase
+-- A pair stands for two states.
+pub record Holds (x : States) (p : Pair) : Type 0 where
+  pub first_is : x.of_first ≡ state_of p.phase (set_of p.first)
+  pub second_is : x.of_second ≡ state_of p.phase (set_of p.second)
+  pub first_active : active_of x.of_first ≡ set_of p.first
+  pub second_active : active_of x.of_second ≡ set_of p.second
+  pub first_words : Words p.first
+  pub second_words : Words p.second
 
--- How each pair was found: from which pair, and by which set.
-pub record Links : Type 0 where
-  pub parents : List ℕ
-  pub sets : List ℕ
+-- Two answers from a pair: they are told apart, or both go on to a pair.
+unfoldable pub Told : Block → Block → Pair → Answer → Answer → Option Pair → Type 0
+Told b d p a c None = told_alike b a d c ≡ false
+Told b d p a c (Some q) = (told_alike b a d c ≡ true) × ((x : States) → Holds x p → Holds (record { of_first = after x.of_first a; of_second = after x.of_second c }) q)
 
-abbrev pub links_of : List ℕ → List ℕ → Links
-links_of ps ss = record { parents = ps; sets = ss }
-
-pub record FullLinks (links : Links) : Type 0 where
-  pub all_parents : length links.parents ≡ 1024
-  pub all_sets : length links.sets ≡ 1024
-
-pub record Joined (before after : Links) (k at s : ℕ) : Type 0 where
-  pub new_parents : after.parents ≡ set before.parents k at
-  pub new_sets : after.sets ≡ set before.sets k s
-
--- The runs to the pairs below a count: a pair's is the run to its parent, and then its set.
-pub record Linked (links : Links) (walk : ℕ → Run) (count : ℕ) : Type 0 where
-  pub begins : walk 0 ≡ start
-  pub falls : (k : ℕ) → 0 < k → k < count → get_or links.parents k 0 < k
-  pub linked : (k : ℕ) → 0 < k → k < count → walk k ≡ walk (get_or links.parents k 0) ▸ get_or links.sets k 0
-
--- The words of a row fit their type.
-pub record Fitting (r : Row) : Type 0 where
-  pub low_fits : r.low < 2 ^ 64
-  pub high_fits : r.high < 2 ^ 64
-  pub low2_fits : r.low2 < 2 ^ 64
-  pub high2_fits : r.high2 < 2 ^ 64
-
--- A row stands for two states.
-pub record Holds (x : States) (r : Row) : Type 0 where
-  pub first_phase : phase_of x.of_first ≡ r.phase
-  pub second_phase : phase_of x.of_second ≡ r.phase
-  pub first_active : active_of x.of_first ≡ two_words 64 r.low r.high
-  pub second_active : active_of x.of_second ≡ two_words 64 r.low2 r.high2
-  pub fits : Fitting r
-
--- One step of both blocks from a pair.
-pub record Stepped (b d : Block) (p : Pair) (set : ℕ) (r : Step) : Type 0 where
-  pub alike_is : (x : States) → Holds x (row_of p) → r.alike ≡ not (told_apart b d x set)
-  pub next_is : (x : States) → Holds x (row_of p) → r.alike ≡ true → Holds (both_after b d x set) (row_of r.next)
+-- One step of both blocks from a pair: they are told apart, or both go on.
+unfoldable pub Stepped : Block → Block → Pair → ℕ → Option Pair → Type 0
+Stepped b d p set None = (x : States) → Holds x p → told_apart b d x set ≡ true
+Stepped b d p set (Some q) = (x : States) → Holds x p → (told_apart b d x set ≡ false) × Holds (both_after b d x set) q

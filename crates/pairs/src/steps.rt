@@ -1,104 +1,68 @@
 // One instant of both blocks from a pair of states.
-ghost use Rattle.std.specs.Prelude.{◌≡◌, true, ◌+◌, ◌≤◌};
+ghost use Rattle.std.specs.Prelude.{◌≡◌, ℕ, ◌+◌, ◌≤◌};
 ghost use Rattle.sets.specs.Numbers.{Numbers};
 ghost use Rattle.rules.specs.Statements.{Block, Stmt};
-ghost use Rattle.rules.specs.States.{State, phase_of, active_of};
+ghost use Rattle.rules.specs.States.{next};
 ghost use Rattle.rules.specs.Rounds.{Answer};
-ghost use Rattle.tables.specs.Table.{table_of};
 ghost use Rattle.forms.specs.Forms.{At, Placed};
 ghost use Rattle.evaluate.specs.Reacts.{state_of, IsAnswer};
-ghost use Rattle.theorems.specs.Traces.{after};
-ghost use Rattle.pairs.specs.Blocks.{States, told_alike};
-ghost use Rattle.pairs.specs.Rows.{row_of, Holds, Stepped};
+ghost use Rattle.pairs.specs.Rows.{Words, Told, Stepped};
 
 use crate::rows::Pair;
-use evaluate::rounds::{Phase, Reacted, all_heard, react};
+use evaluate::rounds::{Done, Reacted, all_heard, react};
+use records::state::Phase;
+use tables::Table;
 
-// Whether both are told alike, and the pair that they go on from.
-#[derive(Clone, Copy)]
-pub struct Step {
-    pub alike: bool,
-    pub next: Pair,
-}
-
-// The phase of a number.
-fn phase_of(n: u8) -> Phase
-    ensures { (st : State) → phase_of st ≡ n → st ≡ state_of result (active_of st) }
+// The next states of both after one code: only code 1 leaves something to do.
+#[tactic(auto, unfolding(rules::specs::States::next))]
+fn next_states(a: Done, c: Done) -> Pair
+    ensures phase { (A : Numbers) → next a.code.0 A ≡ state_of result.phase A }
+    ensures first { (result.first ≡ a.kept) × Words result.first }
+    ensures second { (result.second ≡ c.kept) × Words result.second }
 {
-    match n {
-        0 => Phase::Fresh,
-        1 => Phase::Running,
-        _ => Phase::Finished,
+    let first = a.kept;
+    let second = c.kept;
+    Pair {
+        phase: if a.code.0 == 1 {
+            Phase::Running
+        } else {
+            Phase::Finished
+        },
+        first,
+        second,
     }
 }
 
-// Both are 13, or both are answered with the same outputs and code.
-fn same_told(r: Reacted, q: Reacted) -> bool
-    ensures { (b d : Block) (a c : Answer) → IsAnswer b a r → IsAnswer d c q → result ≡ told_alike b a d c }
+// The pair after two instants that are told alike: both are answered with the same outputs and code, and there are the next states, or both are
+// 13, and the states stay.
+fn next_pair(p: Pair, r: Reacted, q: Reacted) -> Option<Pair>
+    ensures { (b d : Block) (a c : Answer) → IsAnswer b a r → IsAnswer d c q → Told b d p a c result }
 {
-    if r.known {
-        if q.known {
-            if r.present == q.present {
-                return r.code.0 == q.code.0;
-            }
-        }
-        return false;
+    match (r.done, q.done) {
+        (Some(a), Some(c)) if r.marks.present == q.marks.present && a.code.0 == c.code.0 => Some(
+            next_states(a, c),
+        ),
+        (None, None) => Some(p),
+        _ => None,
     }
-    !q.known
 }
 
-// The pair after two instants that are told alike: the next states, or after a 13 the same ones.
-fn next_pair(p: Pair, r: Reacted, q: Reacted) -> Pair
-    ensures { (b d : Block) (a c : Answer) (x : States) → IsAnswer b a r → IsAnswer d c q → told_alike b a d c ≡ true → Holds x (row_of p)
-        → Holds (record { of_first = after x.of_first a; of_second = after x.of_second c }) (row_of result) }
-{
-    if r.known {
-        let first = r.kept;
-        let second = q.kept;
-        if r.code.0 == 1 {
-            return Pair {
-                phase: 1,
-                first,
-                second,
-            };
-        }
-        return Pair {
-            phase: 2,
-            first,
-            second,
-        };
-    }
-    p
-}
-
-// One instant of both.
+// One instant of both: the pair that they go on from, or none where they are told apart.
 pub fn one_instant(
-    kinds: &[u16; 512],
-    operands: &[u16; 512],
-    sizes: &[u16; 512],
-    kinds2: &[u16; 512],
-    operands2: &[u16; 512],
-    sizes2: &[u16; 512],
+    table: &Table,
+    other: &Table,
     inputs: u16,
     outputs: u16,
     p: Pair,
     set: u8,
-) -> Step
-    requires { (inputs + outputs ≤ 64) × Placed (table_of kinds.now operands.now sizes.now) 0 × Placed (table_of kinds2.now operands2.now sizes2.now) 0 }
-    ensures { (t u : Stmt) → At (table_of kinds.now operands.now sizes.now) 0 t
-        → At (table_of kinds2.now operands2.now sizes2.now) 0 u
+) -> Option<Pair>
+    requires { (inputs + outputs ≤ 64) × Placed table.now 0 × Placed other.now 0 }
+    ensures { (t u : Stmt) → At table.now 0 t
+        → At other.now 0 u
         → Stepped (record { inputs = inputs; outputs = outputs; body = t }) (record { inputs = inputs; outputs = outputs; body = u }) p set result }
 {
-    let phase = phase_of(p.phase);
     let heard = all_heard(inputs, set as u64);
-    let first = p.first;
-    let second = p.second;
-    let r = react(kinds, operands, sizes, phase, first, inputs, outputs, heard);
-    let q = react(
-        kinds2, operands2, sizes2, phase, second, inputs, outputs, heard,
-    );
-    Step {
-        alike: same_told(r, q),
-        next: next_pair(p, r, q),
-    }
+    let r = react(table, p.phase, p.first, inputs, outputs, heard);
+    let q = react(other, p.phase, p.second, inputs, outputs, heard);
+    next_pair(p, r, q)
 }

@@ -18,7 +18,7 @@ use Rattle.block.proofs.GoodReadings.{sound}
 use Rattle.records.specs.Numerals.{Bytes}
 use Rattle.reaction.specs.declared.Given.{Given}
 use Rattle.reaction.specs.declared.Given.TheVariants.{All, Two}
-use Rattle.reaction.specs.declared.Instant.{Instant}
+use Rattle.foldheron.specs.Answers.{Instant}
 use Rattle.reaction.specs.Fronts.{INPUT, OTHER_BLOCK, stopped, ready, wrong_inputs, try_inputs, try_clash, clash_tried, try_names, try_state, try_block, front}
 use Rattle.reaction.specs.Instants.{block_of, heard_of, refused, goes_on, verdict, Told, told_refusal, told_reaction, told, state_after}
 use Rattle.reaction.specs.Answers.{instant_told}

@@ -16,11 +16,11 @@ use Rattle.records.specs.StateRecord.{state_record}
 use Rattle.reaction.specs.Instants.{block_of, Verdict, reacted, Told, told, told_reaction, state_after, log_after, end_after, verdict}
 use Rattle.records.specs.LogRecord.{no_room}
 use Rattle.reaction.specs.declared.Given.{Given}
-use Rattle.reaction.specs.declared.Instant.{Instant}
-use Rattle.foldheron.specs.declared.Logged.{Logged}
+use Rattle.foldheron.specs.Answers.{Instant}
+use Rattle.foldheron.specs.Answers.{Logging, answer_in}
 use Rattle.reaction.specs.Answers.{instant_told}
-use Rattle.block.specs.declared.whole.Checked.TheVariants.{Good as GoodOne}
-use Rattle.foldheron.specs.declared.Begun.TheVariants.{Fresh}
+use Rattle.std.specs.Prelude.{Ok}
+use Rattle.std.specs.Prelude.{Ok}
 use Rattle.foldheron.specs.Answers.{check_values, check_owed, begun_values, begun_owed, state_owed}
 use Rattle.promises.specs.Promised.{ReadAs, Holds, Inputs, rules_answer, PromisedAnswer, PromisedLogged, PromisedCalls}
 use Rattle.promises.specs.Promised as promised
@@ -35,11 +35,11 @@ nth : ℕ → List ℕ → ℕ
 nth n l = get_or l n 0
 
 -- `check` answered Good: the reading is good, and its values are those that were said.
-pub good_is_read : (b : List ℕ) (said : Summary) → CheckCalled b (GoodOne said) → ReadAs b said
+pub good_is_read : (b : List ℕ) (said : Summary) → CheckCalled b (Ok said) → ReadAs b said
 unfolding check_values check_owed nth
 good_is_read b said c = go (reading b) refl (check_says b c)
   where
-    go : (x : Reading) → reading b ≡ x → check_values (GoodOne said) ≡ check_owed x → ReadAs b said
+    go : (x : Reading) → reading b ≡ x → check_values (Ok said) ≡ check_owed x → ReadAs b said
     go (good g) e v = record {
       block = g;
       its_reading = e;
@@ -65,7 +65,7 @@ calls_are b (one_more {ws = ws} c t) =
     )
 
 -- `fresh` wrote this record: it is found legal, and holds the fresh state.
-pub fresh_is_held : (b : List ℕ) → Bytes b → (g : Good) → reading b ≡ good g → (s s' : List ℕ) → FreshCalled b s Fresh s' → Holds g s' fresh
+pub fresh_is_held : (b : List ℕ) → Bytes b → (g : Good) → reading b ≡ good g → (s s' : List ℕ) → FreshCalled b s (Ok tt) s' → Holds g s' fresh
 unfolding begun_values begun_owed state_owed Legal nth
 fresh_is_held b bytes g e s s' c = go (eqb (length s) 26) refl
   where
@@ -103,7 +103,7 @@ module _ (b : List ℕ) (g : Good) (e : reading b ≡ good g) (s : List ℕ) (st
       let p = promised_run b g e s st h ws in
       (r.0 ∙ p.told_in_numbers, subst⁻¹ (λ (x : List ℕ). Holds g x (arrives (block_of g) st (sets ws))) r.1 p.ends_holding)
 
-  pub call_with_log : (w : Inputs g) (log : List ℕ) (end : ℕ) → end + 32 ≤ length log → (r : Logged) (s' log' : List ℕ)
+  pub call_with_log : (w : Inputs g) (log : List ℕ) (end : ℕ) → end + 32 ≤ length log → (r : Logging) (s' log' : List ℕ)
       → LoggedFor b s w.given log end r s' log' → PromisedLogged g s st w log end r s' log'
   unfolding end_after log_after
   call_with_log w log end room r s' log' c =
@@ -111,7 +111,7 @@ module _ (b : List ℕ) (g : Good) (e : reading b ≡ good g) (s : List ℕ) (st
       let same : v ≡ verdict b s w.given false = same_verdict log end room b s w.given in
       let is : v ≡ reacted (block_of g) (rules_answer g st w) = same ∙ (kept b g e s st h w).is_reaction in
       record {
-        answer = by_verdict w v same (instant_told r.answer) s' (logged_answer b c) (logged_state b c);
+        answer = by_verdict w v same (instant_told (answer_in r)) s' (logged_answer b c) (logged_state b c);
         end_is = logged_end b c ∙ ap (end_after end) is;
         log_is = logged_log b c ∙ ap (log_after log end w.given) is;
       }

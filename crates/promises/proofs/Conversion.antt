@@ -18,13 +18,13 @@ use Rattle.likeness.specs.Runs.{SameAnswer, SameRun}
 use Rattle.likeness.proofs.Runs.{heard_there}
 use Rattle.block.specs.Format.{LIMIT, Header, Good, Reading, good, reading}
 use Rattle.block.specs.Told.{summary_of}
-use Rattle.block.specs.declared.whole.Checked.{Checked}
-use Rattle.block.specs.declared.whole.Checked.TheVariants.{Good as GoodOne}
+use Rattle.foldheron.specs.Answers.{Checked}
+use Rattle.std.specs.Prelude.{Ok}
 use Rattle.foldheron.specs.Answers.{check_values, check_owed}
 use Rattle.foldheron.proofs.Owed.{check_told_apart}
 use Rattle.records.specs.Numerals.{Bytes}
 use Rattle.writing.specs.Written.{written}
-use Rattle.writing.specs.declared.Wrote.{Wrote}
+use Rattle.foldheron.specs.Answers.{Wrote}
 use Rattle.writing.specs.Answers.{Writing, writes, refuses, roomed, wrote_values, wrote_owed, out_owed}
 use Rattle.doubled.specs.Copies.{within_limits}
 use Rattle.everyday.specs.Statements.{Everyday}
@@ -42,7 +42,7 @@ use Rattle.reaction.specs.Fronts.{INPUT, wrong_inputs}
 use Rattle.reaction.specs.Instants.{ROOM, block_of, heard_in, heard_of, Told, told_refusal, told_reaction}
 use Rattle.reaction.specs.declared.Given.{Given}
 use Rattle.reaction.specs.declared.Given.TheVariants.{All, Two}
-use Rattle.reaction.specs.declared.Instant.{Instant}
+use Rattle.foldheron.specs.Answers.{Instant}
 use Rattle.promises.specs.Beside.{SameButActive}
 use Rattle.promises.specs.Conversion.{meant, told_directly, ToldAs, at_end, and_then, wide_block, GoodWith, MeansTheSame, WroteConverted, converted_bytes}
 use Rattle.promises.specs.Conversion.{LimitOfConverted, PassesLimitWide, TooFewLentWide, of_wide, late_tests, convert_tests, PlacedWide, in_block, at_0}
@@ -242,7 +242,7 @@ module _ (b : List ℕ) where
     unfolding check_values check_owed
     good_with h p bs d {r} k = record {
       says = summary_of (written h (converted p));
-      is_good = check_told_apart r (GoodOne (summary_of (written h (converted p)))) (check_says bs k ∙ ap check_owed d);
+      is_good = check_told_apart r (Ok (summary_of (written h (converted p)))) (check_says bs k ∙ ap check_owed d);
       version_kept = refl;
       inputs_kept = refl;
       outputs_kept = refl;
@@ -271,7 +271,7 @@ module _ (b : List ℕ) where
         cases true q = cc
         cases false q = let z : ◌≡◌ {A = ℕ} 0 1 = cc in absurd (omega arith)
 
-    pub the_converted_block_is_good_and_means_the_same : {n : ℕ} {out out' : List ℕ} → ConvertCalled b out (Wrote.Bytes n) out' → WroteConverted b out n out'
+    pub the_converted_block_is_good_and_means_the_same : {n : ℕ} {out out' : List ℕ} → ConvertCalled b out (Ok n) out' → WroteConverted b out n out'
     unfolding converting converting_of
     the_converted_block_is_good_and_means_the_same {n} {out} {out'} c =
         let f = written_in_front (converting b) (named b) out n out' (convert_says c).0 (convert_says c).1 in

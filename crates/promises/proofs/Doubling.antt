@@ -4,7 +4,7 @@ use mathlib.Core.Path.{◌≡◌, refl, sym, ap, ap₂, ◌∙◌, subst, subst�
 use mathlib.Core.Logic.{inl, inr, ◌≢◌}
 use mathlib.Core.Bool.{Bool, true, false, cond, ◌&&◌, true≢false}
 use mathlib.Core.List.{List, [], ◌∷◌, ◌++◌, map}
-use mathlib.Core.Option.{Option, none, some}
+use Rattle.std.specs.Prelude.{Option, Some, None}
 use Prim.Native.Nat.{ℕ, zero, suc, ◌-◌, ◌≤◌, ◌<◌}
 use native.Mathlib.Omega.{arith}
 use lib.Dec.{leb, ltb}
@@ -23,17 +23,18 @@ use Rattle.likeness.specs.Runs.{SameAnswer, both_answered, both_refused, SameRun
 use Rattle.likeness.proofs.Runs.{with_body, heard_there}
 use Rattle.tables.specs.Table.{kind_of, operand_of}
 use Rattle.block.specs.Format.{LIMIT, Header, Good, Reading, good, turned_down, reading}
-use Rattle.tables.specs.Kinds.{Shape, shape}
+use Rattle.tables.specs.declared.kinds.Shape.{Shape}
+use Rattle.tables.specs.Kinds.{shape}
 use Rattle.block.specs.Told.{summary_of}
 use Rattle.block.specs.declared.whole.Summary.{Summary}
-use Rattle.block.specs.declared.whole.Checked.{Checked}
-use Rattle.block.specs.declared.whole.Checked.TheVariants.{Good as GoodOne}
+use Rattle.foldheron.specs.Answers.{Checked}
+use Rattle.std.specs.Prelude.{Ok, Err}
 use Rattle.block.proofs.GoodReadings.{numbers as refusal_numbers}
 use Rattle.foldheron.specs.Answers.{check_values, check_owed}
 use Rattle.foldheron.proofs.Owed.{check_told_apart}
 use Rattle.records.specs.Numerals.{Bytes, in_bytes}
 use Rattle.writing.specs.Written.{operand_bytes, shaped_bytes, records, header_bytes, block_bytes, written}
-use Rattle.writing.specs.declared.Wrote.{Wrote}
+use Rattle.foldheron.specs.Answers.{Wrote, refusal_at}
 use Rattle.copies.proofs.double_loops.Kinds as double_kinds
 use Rattle.copies.proofs.double_loops.Reads as double_reads
 use Rattle.copies.proofs.double_loops.Statement as double_statement
@@ -45,7 +46,7 @@ use Rattle.reaction.specs.Fronts.{INPUT, wrong_inputs}
 use Rattle.reaction.specs.Instants.{ROOM, block_of, heard_of, told_refusal, told_reaction}
 use Rattle.reaction.specs.declared.Given.{Given}
 use Rattle.reaction.specs.declared.Given.TheVariants.{All, Two}
-use Rattle.reaction.specs.declared.Instant.{Instant}
+use Rattle.foldheron.specs.Answers.{Instant}
 use Rattle.promises.specs.Beside.{Ran, Each, SameButActive}
 use Rattle.promises.specs.Doubling.{GoodToo, SameBlockDoubled, WroteDoubled, LimitOfDoubled, doubled_bytes, PassesLimit, TooFewLent, double_tests}
 use Rattle.promises.specs.Calls.{CheckCalled, DoubleCalled}
@@ -73,8 +74,8 @@ operand_is_bytes (suc n) x = in_bytes_bytes 2 x
 
 record_is_bytes : (k x : ℕ) (o : Option Shape) → Bytes (shaped_bytes k x o)
 unfolding shaped_bytes
-record_is_bytes k x none = no_bytes
-record_is_bytes k x (some s) = both_bytes _ _ (in_bytes_bytes 2 s.length) (both_bytes _ _ (in_bytes_bytes 2 k) (operand_is_bytes s.operands x))
+record_is_bytes k x None = no_bytes
+record_is_bytes k x (Some s) = both_bytes _ _ (in_bytes_bytes 2 s.length) (both_bytes _ _ (in_bytes_bytes 2 k) (operand_is_bytes s.operands x))
 
 records_are_bytes : (ps : List Stmt) → Bytes (records ps)
 unfolding records
@@ -214,8 +215,8 @@ a_doubling : (b : List ℕ) (lent : ℕ) → (r : Wrote) × (wrote_values r ≡ 
 unfolding wrote_values wrote_owed number
 a_doubling b lent =
     by_tests b lent (λ w. (r : Wrote) × (wrote_values r ≡ wrote_owed w))
-    (λ n at e. (Wrote.Refused (why_of n) at, ap (λ (m : ℕ). m ∷ at ∷ 0 ∷ []) (named_in_block b n at e))) (λ p. (Wrote.Refused Why.Limit 0, refl))
-    (λ g e w l. (Wrote.Refused Why.Room 0, refl)) (λ g e w l. (Wrote.Bytes (length (doubled_bytes g)), refl))
+    (λ n at e. (Err (refusal_at (why_of n) at), ap (λ (m : ℕ). m ∷ at ∷ 0 ∷ []) (named_in_block b n at e))) (λ p. (Err (refusal_at Why.Limit 0), refl))
+    (λ g e w l. (Err (refusal_at Why.Room 0), refl)) (λ g e w l. (Ok (length (doubled_bytes g)), refl))
 
 pub double_loops_has_one_answer : (b out : List ℕ) → ExactlyOne (λ (x : Wrote × List ℕ). DoubleCalled b out x.0 x.1)
 double_loops_has_one_answer b out =
@@ -270,7 +271,7 @@ module _ (b : List ℕ) where
   -- "Prove that from fresh, any input run gives the same outputs, codes and 13 on both blocks": what was written is checked Good, with the header else kept, and is told the same
   -- by calls from fresh.
   module _ (bytes : Bytes b) where
-    good_too : (g : Good) → reading b ≡ good g → (bs : List ℕ) → reading bs ≡ good (there g) → {said : Summary} {r : Checked} → CheckCalled b (GoodOne said) → CheckCalled bs r
+    good_too : (g : Good) → reading b ≡ good g → (bs : List ℕ) → reading bs ≡ good (there g) → {said : Summary} {r : Checked} → CheckCalled b (Ok said) → CheckCalled bs r
         → GoodToo said r
     unfolding check_values check_owed doubled_header
     good_too g e bs d {said} {r} c k =
@@ -278,7 +279,7 @@ module _ (b : List ℕ) where
         let is : said ≡ summary_of g = x.its_summary ∙ ap summary_of (one_reading b g x.block e x.its_reading) in
         record {
           says = summary_of (there g);
-          is_good = check_told_apart r (GoodOne (summary_of (there g))) (check_says bs k ∙ ap check_owed d);
+          is_good = check_told_apart r (Ok (summary_of (there g))) (check_says bs k ∙ ap check_owed d);
           version_kept = ap (λ (y : Summary). y.version) (sym is);
           inputs_kept = ap (λ (y : Summary). y.inputs) (sym is);
           outputs_kept = ap (λ (y : Summary). y.outputs) (sym is);
@@ -292,7 +293,7 @@ module _ (b : List ℕ) where
           same_answers = all_same b bytes g e d (block_is_bytes (doubled_header g.header g.body) (doubled g.header g.body));
         }
 
-    pub the_doubled_block_is_good_and_is_told_the_same : {n : ℕ} {out out' : List ℕ} → DoubleCalled b out (Wrote.Bytes n) out' → WroteDoubled b out n out'
+    pub the_doubled_block_is_good_and_is_told_the_same : {n : ℕ} {out out' : List ℕ} → DoubleCalled b out (Ok n) out' → WroteDoubled b out n out'
     unfolding wrote_values wrote_owed out_owed nth
     the_doubled_block_is_good_and_is_told_the_same {n} {out} {out'} c =
         by_tests b (length out) (λ w. 0 ∷ 0 ∷ n ∷ [] ≡ wrote_owed w → out' ≡ out_owed w out → WroteDoubled b out n out')

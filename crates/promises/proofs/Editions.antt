@@ -10,18 +10,18 @@ use lib.ListN.{length}
 use borrow.Author.Tests.{eqb-true}
 use Rattle.block.specs.Format.{BROKEN, KIND, EDITION, LIMIT, two_bytes, length_at, kind_at, is_broken, Header, header, header_fault_in, header_fault, outermost, begun}
 use Rattle.block.specs.Format.{Good, Reading, good, turned_down, read, ended, reading}
-use Rattle.block.specs.declared.whole.Checked.{Checked}
+use Rattle.foldheron.specs.Answers.{Checked}
 use Rattle.everyday.specs.Statements.{Everyday}
 use Rattle.converting.specs.Format.{Reading₂, good₂, turned_down₂, read₂, ended₂, header_fault₂, reading₂}
 use Rattle.converting.specs.Conversions.{converting, converting_of}
-use Rattle.writing.specs.declared.Wrote.{Wrote}
+use Rattle.foldheron.specs.Answers.{Wrote}
 use Rattle.writing.specs.Answers.{roomed, wrote_values, wrote_owed, out_owed}
 use Rattle.foldheron.specs.Answers.{check_values, check_owed}
 use Rattle.reaction.specs.Fronts.{try_block, front}
 use Rattle.reaction.specs.Instants.{goes_on, verdict, refused, told, told_refusal, state_after}
 use Rattle.reaction.specs.Answers.{instant_told}
 use Rattle.reaction.specs.declared.Given.{Given}
-use Rattle.reaction.specs.declared.Instant.{Instant}
+use Rattle.foldheron.specs.Answers.{Instant}
 use Rattle.promises.specs.Calls.{CheckCalled, CalledFor, ConvertCalled}
 use Rattle.promises.specs.Conversion.{GoodWide}
 use Rattle.promises.proofs.Learnt.{check_says, instant_says, convert_says}

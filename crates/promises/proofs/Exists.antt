@@ -5,7 +5,7 @@ use mathlib.Core.List.{List, [], ◌∷◌, ◌++◌}
 use Prim.Native.Nat.{ℕ, zero, suc, ◌+◌, ◌≤◌, ◌<◌}
 use native.Mathlib.Omega.{arith}
 use lib.Dec.{eqb, ltb}
-use lib.ListN.{length, get_or, take}
+use lib.ListN.{length, get_or, take, drop}
 use borrow.Author.Tests.{ltb-true}
 use Rattle.rules.specs.Statements.{Stmt, nothing, pause, emit, present?◌then◌else◌, suspend◌on◌, ◌⨾◌, loop, ◌parallel◌, trap, exit, local}
 use Rattle.rules.specs.Rounds.{answered, not_constructive}
@@ -16,16 +16,20 @@ use Rattle.block.proofs.Built.{bytes_append}
 use Rattle.tables.proofs.Places.{all_counted}
 use Rattle.reaction.specs.Instants.{Verdict, refused, clash, reacted, told, told_refusal, verdict}
 use Rattle.refusals.specs.declared.Why.TheVariants as Why
-use Rattle.block.specs.declared.whole.Checked.{Checked}
-use Rattle.foldheron.specs.declared.Begun.{Begun}
+use Rattle.foldheron.specs.Answers.{Checked}
+use Rattle.foldheron.specs.Answers.{Begun}
 use Rattle.reaction.specs.declared.Given.{Given}
-use Rattle.reaction.specs.declared.Instant.{Instant}
+use Rattle.foldheron.specs.Answers.{Instant, refusal_at}
+use Rattle.reaction.specs.declared.Unanswered.{Unanswered}
+use Rattle.std.specs.Prelude.{Ok, Err, IfOk}
+use Rattle.records.specs.Parts.{LiesAt}
+use Rattle.promises.specs.Calls.{Place, ◌holds◌}
 use Rattle.refusals.specs.Refusals.{number, why_of}
 use Rattle.refusals.proofs.Laws.{number_back, of_a_block}
-use Rattle.foldheron.specs.Answers.{check_values, check_owed, begun_values, begun_owed, absent_part, part_owed}
+use Rattle.foldheron.specs.Answers.{check_values, check_owed, begun_values, begun_owed, PartTold, absent_part, FoundPart, part_told, part_owed, Excerpt, excerpted_as}
 use Rattle.reaction.specs.Answers.{instant_told}
 use Rattle.foldheron.proofs.Calls.{Leaves, leaves}
-use Rattle.promises.proofs.OneAnswer.{remade}
+use Rattle.promises.proofs.OneAnswer.{remade, told_down}
 
 -- A refusal of a block has its name.
 pub named_in_block : (b : List ℕ) (n at : ℕ) → reading b ≡ turned_down n at → number (why_of n) ≡ n
@@ -36,29 +40,29 @@ unfolding check_values check_owed
 a_check b = go (reading b) refl
   where
     go : (x : Reading) → reading b ≡ x → (r : Checked) × (check_values r ≡ check_owed x)
-    go (good g) e = (Checked.Good (summary_of g), refl)
+    go (good g) e = (Ok (summary_of g), refl)
     go (turned_down n at) e =
-        (Checked.Refused (why_of n) at, ap (λ (m : ℕ). m ∷ at ∷ 0 ∷ 0 ∷ 0 ∷ 0 ∷ 0 ∷ 0 ∷ []) (named_in_block b n at e))
+        (Err (refusal_at (why_of n) at), ap (λ (m : ℕ). m ∷ at ∷ 0 ∷ 0 ∷ 0 ∷ 0 ∷ 0 ∷ 0 ∷ []) (named_in_block b n at e))
 
 pub a_beginning : (b s : List ℕ) → (r : Begun) × (begun_values r ≡ begun_owed (reading b) s)
 unfolding begun_values begun_owed number
 a_beginning b s = go (reading b) refl
   where
     sized : (x : Bool) → (r : Begun) × (begun_values r ≡ cond x (0 ∷ 0 ∷ []) (9 ∷ 0 ∷ []))
-    sized true = (Begun.Fresh, refl)
-    sized false = (Begun.TurnedDown Why.State 0, refl)
+    sized true = (Ok tt, refl)
+    sized false = (Err (refusal_at Why.State 0), refl)
 
     go : (x : Reading) → reading b ≡ x → (r : Begun) × (begun_values r ≡ begun_owed x s)
     go (good g) e = sized (eqb (length s) 26)
-    go (turned_down n at) e = (Begun.TurnedDown (why_of n) at, ap (λ (m : ℕ). m ∷ at ∷ []) (named_in_block b n at e))
+    go (turned_down n at) e = (Err (refusal_at (why_of n) at), ap (λ (m : ℕ). m ∷ at ∷ []) (named_in_block b n at e))
 
 pub an_instant : (b s : List ℕ) (w : Given) (roomless : Bool) → (r : Instant) × (instant_told r ≡ told (verdict b s w roomless))
 unfolding told instant_told remade Leaves
 an_instant b s w roomless = go (verdict b s w roomless) (leaves b s w roomless)
   where
     go : (v : Verdict) → Leaves v s roomless → (r : Instant) × (instant_told r ≡ told v)
-    go (refused n at) l = (Instant.Refused (why_of n) at, ap (λ (m : ℕ). told_refusal m at 0 0) (number_back n l))
-    go (clash pair) l = (Instant.Clash pair.first pair.second, refl)
+    go (refused n at) l = (told_down (why_of n) at, ap (λ (m : ℕ). told_refusal m at 0 0) (number_back n l))
+    go (clash pair) l = (Err (Unanswered.Clash pair.first pair.second), refl)
     go (reacted b (answered vs c st n)) l = (remade (told (reacted b (answered vs c st n))), refl)
     go (reacted b (not_constructive vs n)) l = (remade (told (reacted b (not_constructive vs n))), refl)
 
@@ -120,3 +124,40 @@ part_within b n = go (reading b) refl
     go : (x : Reading) → reading b ≡ x → (part_owed x n).offset + (part_owed x n).size ≤ length b
     go (good g) e = counted g e (ltb n g.statements) refl
     go (turned_down k at) e = omega arith
+
+-- A part found, or its refusal; and an excerpt, whose part lies in the lent block.
+pub a_part : (b : List ℕ) (n : ℕ) → (r : FoundPart) × (part_told r ≡ part_owed (reading b) n) × IfOk r (λ p. p.offset + p.size ≤ length b)
+unfolding part_told part_owed number
+a_part b n = let f = go (reading b) refl in (f.0, f.1, bounded f.0 f.1)
+  where
+    found : (g : Good) (x : Bool) → (r : FoundPart)
+        × (part_told r ≡ cond x (record { number = 0; place = 0; offset = offset g.body n; size = bytes (preorder (numbered g.body n)) }) (absent_part 14 0))
+    found g true = (Ok (record { offset = offset g.body n; size = bytes (preorder (numbered g.body n)) }), refl)
+    found g false = (Err (refusal_at Why.Index 0), refl)
+
+    go : (x : Reading) → reading b ≡ x → (r : FoundPart) × (part_told r ≡ part_owed x n)
+    go (good g) e = found g (ltb n g.statements)
+    go (turned_down k at) e = (Err (refusal_at (why_of k) at), ap (λ (m : ℕ). absent_part m at) (named_in_block b k at e))
+
+    bounded : (r : FoundPart) → part_told r ≡ part_owed (reading b) n → IfOk r (λ p. p.offset + p.size ≤ length b)
+    bounded (Ok p) e = omega (arith, part_within b n, ap (λ (t : PartTold). t.offset) e, ap (λ (t : PartTold). t.size) e)
+    bounded (Err r) e = tt
+
+module _ (b : List ℕ) (n : ℕ) (lent : Place) where
+  abbrev owed : PartTold
+  owed = part_owed (reading b) n
+
+  pub an_excerpt : (x : Excerpt) × (excerpted_as x ≡ record { number = owed.number; place = owed.place; part = take owed.size (drop owed.offset b) })
+      × IfOk x (λ y. LiesAt y (lent holds b) owed.offset owed.size)
+  unfolding excerpted_as part_told
+  an_excerpt = go (a_part b n).0 (a_part b n).1
+    where
+      go : (r : FoundPart) → part_told r ≡ owed
+          → (x : Excerpt) × (excerpted_as x ≡ record { number = owed.number; place = owed.place; part = take owed.size (drop owed.offset b) })
+          × IfOk x (λ y. LiesAt y (lent holds b) owed.offset owed.size)
+      go (Ok p) e = (
+        Ok (record { ref_ptr = (lent.ptr.0, lent.ptr.1 + owed.offset); now = take owed.size (drop owed.offset b) }),
+        (λ i. record { number = (e i).number; place = (e i).place; part = take owed.size (drop owed.offset b) }),
+        record { in_its_memory = refl; from_offset = refl; within = part_within b n; its_bytes = refl },
+      )
+      go (Err r) e = (Err r, (λ i. record { number = (e i).number; place = (e i).place; part = take (e i).size (drop owed.offset b) }), tt)

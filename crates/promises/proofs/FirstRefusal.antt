@@ -21,7 +21,7 @@ use Rattle.records.proofs.Reading.{found_sized, named_version, named_statements,
 use Rattle.reaction.specs.Fronts.{STATE, OTHER_BLOCK, INPUT, Front, stopped, clashing, ready, wrong_inputs, try_inputs, try_clash, clash_tried, try_names, try_state, try_block, front}
 use Rattle.reaction.specs.Instants.{CLASH, ROOM, Verdict, reacted, block_of, goes_on, verdict, told, heard_of}
 use Rattle.reaction.specs.declared.Given.{Given}
-use Rattle.foldheron.specs.declared.Part.{Part}
+use Rattle.foldheron.specs.Answers.{PartTold}
 use Rattle.foldheron.specs.Answers.{check_owed, begun_owed, state_owed, absent_part, part_owed}
 use Rattle.promises.specs.Tests.{Test, First}
 use Rattle.promises.specs.Demand1.{NoState, OtherBlock, Incompatible, HeldBy, Clashing, WrongInputs, BadInputs, Unsettled, of_block, one_to_8}
@@ -330,7 +330,7 @@ module _ (b : List ℕ) where
         go (turned_down n at) h = refl
 
   module _ (n : ℕ) where
-    found : Good → Part
+    found : Good → PartTold
     found g = record { number = 0; place = 0; offset = offset g.body n; size = bytes (preorder (numbered g.body n)) }
 
     pub part_first : First (excerpt_tests b n) (part_owed (reading b) n).number

@@ -23,8 +23,8 @@ use Rattle.block.specs.Format.{Good, Reading, good, reading}
 use Rattle.records.specs.StateRecord.{version_in, statements_in, state_record, Found, not_a_state, state, read_state, names_block, Pair, first_clash}
 use Rattle.records.proofs.Inputs.{no_unknowns}
 use Rattle.reaction.specs.declared.Given.TheVariants.{All, Two}
-use Rattle.reaction.specs.declared.Instant.{Instant as Answering}
-use Rattle.foldheron.specs.declared.Logged.{Logged}
+use Rattle.foldheron.specs.Answers.{Instant as Answering}
+use Rattle.foldheron.specs.Answers.{Logging, answer_in, end_in}
 use Rattle.reaction.specs.Fronts.{INPUT, OTHER_BLOCK, stopped, ready, wrong_inputs, try_inputs, try_clash, clash_tried, try_names, try_state, try_block, front}
 use Rattle.records.specs.LogRecord.{logged_at, no_room}
 use Rattle.reaction.specs.Instants.{block_of, heard_of, Verdict, reacted, goes_on, verdict, Told, told, state_after, log_after, end_after}
@@ -89,16 +89,16 @@ module _ (b : List ℕ) (g : Good) (e : reading b ≡ good g) (s : List ℕ) (st
         )
 
     -- The same of the calls with a log that has room; its record has what was heard, and the rounds, so its bytes may be others.
-    pub logged_stays : (log : List ℕ) (end : ℕ) → end + 32 ≤ length log → (r r' : Logged) (s₁ s₂ log₁ log₂ : List ℕ) → LoggedFor b s w.given log end r s₁ log₁
-        → LoggedFor b s w'.given log end r' s₂ log₂ → (instant_told r.answer).number ≡ 0
-        → Alike (instant_told r.answer) (instant_told r'.answer) × (s₂ ≡ s₁)
+    pub logged_stays : (log : List ℕ) (end : ℕ) → end + 32 ≤ length log → (r r' : Logging) (s₁ s₂ log₁ log₂ : List ℕ) → LoggedFor b s w.given log end r s₁ log₁
+        → LoggedFor b s w'.given log end r' s₂ log₂ → (instant_told (answer_in r)).number ≡ 0
+        → Alike (instant_told (answer_in r)) (instant_told (answer_in r')) × (s₂ ≡ s₁)
     logged_stays log end room r r' s₁ s₂ log₁ log₂ c d z =
         let v = same_verdict log end room b s w.given in
         let v' = same_verdict log end room b s w'.given in
         let p = logged_answer b c ∙ ap told v in
         let q = logged_answer b d ∙ ap told v' in
         let k = same_verdicts (sym (ap (λ (t : Told). t.number) p) ∙ z) in (
-          subst⁻¹ (λ (t : Told). Alike t (instant_told r'.answer)) p (subst⁻¹ (λ (t : Told). Alike (told (verdict b s w.given false)) t) q k.0),
+          subst⁻¹ (λ (t : Told). Alike t (instant_told (answer_in r'))) p (subst⁻¹ (λ (t : Told). Alike (told (verdict b s w.given false)) t) q k.0),
           logged_state b d ∙ ap (state_after s) v' ∙ k.1 ∙ sym (logged_state b c ∙ ap (state_after s) v),
         )
 
@@ -191,9 +191,9 @@ module _ (b : List ℕ) (g : Good) (e : reading b ≡ good g) (s : List ℕ) (w 
       let v = no_unknown g s w rest f false b e in
       ((instant_says b c).0 ∙ ap told v ∙ sym (instant_says b d).0, (instant_says b c).1 ∙ ap (state_after s) v ∙ sym (instant_says b d).1)
 
-  pub same_logged_call : (log : List ℕ) (end : ℕ) (r r' : Logged) (s₁ s₂ log₁ log₂ : List ℕ) → LoggedFor b s (All w) log end r s₁ log₁
+  pub same_logged_call : (log : List ℕ) (end : ℕ) (r r' : Logging) (s₁ s₂ log₁ log₂ : List ℕ) → LoggedFor b s (All w) log end r s₁ log₁
       → LoggedFor b s (Two w rest) log end r' s₂ log₂
-      → (instant_told r.answer ≡ instant_told r'.answer) × (r.end ≡ r'.end) × (s₁ ≡ s₂) × (log₁ ≡ log₂)
+      → (instant_told (answer_in r) ≡ instant_told (answer_in r')) × (end_in r ≡ end_in r') × (s₁ ≡ s₂) × (log₁ ≡ log₂)
   same_logged_call log end r r' s₁ s₂ log₁ log₂ c d =
       let v = no_unknown g s w rest f (no_room log end) b e in (
         logged_answer b c ∙ ap told v ∙ sym (logged_answer b d),

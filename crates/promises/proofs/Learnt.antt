@@ -1,6 +1,6 @@
 -- What each call's contract says, clause by clause: a contract that comes to say less no longer gives these. Each is read off the call. A
 -- further call takes the same two lines. Assumes nothing.
-use mathlib.Core.Path.{◌≡◌}
+use mathlib.Core.Path.{◌≡◌, sym, ap, ◌∙◌}
 use mathlib.Core.Bool.{false}
 use mathlib.Core.List.{List}
 use Prim.Native.Nat.{ℕ}
@@ -10,35 +10,37 @@ use Rattle.reaction.specs.Instants.{told, state_after, log_after, end_after, ver
 use Rattle.records.specs.LogRecord.{no_room}
 use Rattle.reaction.specs.declared.Given.{Given}
 use Rattle.records.specs.Parts.{LiesAt}
+use Rattle.std.specs.Prelude.{Result, IfOk}
 use Rattle.shelf.specs.Calls as shelf
+use Rattle.shelf.specs.Calls.{ShelfAnswer}
 use Rattle.shelf.specs.Answered.{shelved_values, shelved_owed, lies_from}
 use Rattle.refusals.specs.declared.Why.{Why}
-use Rattle.block.specs.declared.whole.Checked.{Checked}
-use Rattle.foldheron.specs.declared.Begun.{Begun}
-use Rattle.foldheron.specs.declared.Part.{Part}
-use Rattle.reaction.specs.declared.Instant.{Instant}
-use Rattle.foldheron.specs.declared.Logged.{Logged}
+use Rattle.foldheron.specs.Answers.{Checked}
+use Rattle.foldheron.specs.Answers.{Begun}
+use Rattle.foldheron.specs.Answers.{FoundPart, Excerpted, excerpted_as, part_told}
+use Rattle.foldheron.specs.Answers.{Instant}
+use Rattle.foldheron.specs.Answers.{Logging, answer_in, end_in}
 use Rattle.reasons.specs.Taking.{asked_of}
 use Rattle.reasons.specs.declared.asked.Asked.{Asked}
-use Rattle.foldheron.specs.declared.say_why.Reason.{Reason}
+use Rattle.foldheron.specs.Answers.{Reason}
 use Rattle.foldheron.specs.Reasons.{reason_values, reason_owed}
-use Rattle.shelf.specs.declared.Shelved.{Shelved}
-use Rattle.alike.specs.declared.Likeness.{Likeness}
+use Rattle.refusals.specs.declared.Refused.{Refused}
+use Rattle.foldheron.specs.Answers.{Likeness}
 use Rattle.alike.specs.Calls as alike
-use Rattle.writing.specs.declared.Wrote.{Wrote}
+use Rattle.foldheron.specs.Answers.{Wrote}
 use Rattle.writing.specs.Answers.{roomed, wrote_values, wrote_owed, out_owed}
 use Rattle.doubled.specs.Copies.{doubling}
 use Rattle.converting.specs.Conversions.{converting}
 use Rattle.text.specs.Reader.{text_read}
 use Rattle.write_text.specs.WriteText.{text_writing}
-use Rattle.maze.specs.declared.Maze.{Maze}
+use Rattle.foldheron.specs.Answers.{Maze}
 use Rattle.maze.specs.declared.Room.{Room}
-use Rattle.maze.specs.declared.Corridor.{Corridor}
+use Rattle.foldheron.specs.Answers.{FoundCorridor}
 use Rattle.maze.specs.Views.{Views, view}
 use Rattle.maze.specs.Ways.{room_of, way_told, way_in}
 use Rattle.reaction.specs.Answers.{instant_told}
 use Rattle.refusals.specs.Refusals.{number}
-use Rattle.foldheron.specs.Answers.{check_values, check_owed, begun_values, begun_owed, state_owed, part_owed, part_lies}
+use Rattle.foldheron.specs.Answers.{check_values, check_owed, begun_values, begun_owed, state_owed, part_owed}
 use Rattle.promises.specs.Calls.{◌holds◌, CheckCalled, FreshCalled, CalledFor, LoggedFor, with_set, with_two, PartCalled, ExcerptCalled, ReasonCalled}
 use Rattle.promises.specs.Calls.{InstallCalled, FetchCalled, WithdrawCalled, NumberCalled, AlikeCalled, DoubleCalled, ConvertCalled, WriteTextCalled, ReadTextCalled, MazeCalled, CorridorCalled}
 
@@ -54,63 +56,69 @@ module _ (b : List ℕ) where
   instant_says (with_set c) = c.call.learnt
   instant_says (with_two c) = c.call.learnt
 
-  pub logged_answer : {s s' log log' : List ℕ} {w : Given} {end : ℕ} {r : Logged} → LoggedFor b s w log end r s' log'
-      → instant_told r.answer ≡ told (verdict b s w (no_room log end))
+  pub logged_answer : {s s' log log' : List ℕ} {w : Given} {end : ℕ} {r : Logging} → LoggedFor b s w log end r s' log'
+      → instant_told (answer_in r) ≡ told (verdict b s w (no_room log end))
   logged_answer (with_set c) = c.call.learnt.0
   logged_answer (with_two c) = c.call.learnt.0
 
-  pub logged_end : {s s' log log' : List ℕ} {w : Given} {end : ℕ} {r : Logged} → LoggedFor b s w log end r s' log'
-      → r.end ≡ end_after end (verdict b s w (no_room log end))
+  pub logged_end : {s s' log log' : List ℕ} {w : Given} {end : ℕ} {r : Logging} → LoggedFor b s w log end r s' log'
+      → end_in r ≡ end_after end (verdict b s w (no_room log end))
   logged_end (with_set c) = c.call.learnt.1.0
   logged_end (with_two c) = c.call.learnt.1.0
 
-  pub logged_state : {s s' log log' : List ℕ} {w : Given} {end : ℕ} {r : Logged} → LoggedFor b s w log end r s' log'
+  pub logged_state : {s s' log log' : List ℕ} {w : Given} {end : ℕ} {r : Logging} → LoggedFor b s w log end r s' log'
       → s' ≡ state_after s (verdict b s w (no_room log end))
   logged_state (with_set c) = c.call.learnt.1.1.0
   logged_state (with_two c) = c.call.learnt.1.1.0
 
-  pub logged_log : {s s' log log' : List ℕ} {w : Given} {end : ℕ} {r : Logged} → LoggedFor b s w log end r s' log'
+  pub logged_log : {s s' log log' : List ℕ} {w : Given} {end : ℕ} {r : Logging} → LoggedFor b s w log end r s' log'
       → log' ≡ log_after log end w (verdict b s w (no_room log end))
   logged_log (with_set c) = c.call.learnt.1.1.1
   logged_log (with_two c) = c.call.learnt.1.1.1
 
-  pub part_says : {n : ℕ} {r : Part} → PartCalled b n r → r ≡ part_owed (reading b) n
+  pub part_says : {n : ℕ} {r : FoundPart} → PartCalled b n r → part_told r ≡ part_owed (reading b) n
   part_says c = c.call.learnt.0
 
   module _ {n k p : ℕ} {part : List ℕ} (c : ExcerptCalled b n part k p) where
-    pub excerpt_lies : part_lies (c.call.places 3 holds part) (c.call.places 0 holds b) (part_owed (reading b) n)
-    excerpt_lies = c.call.learnt.0
-
     pub excerpt_number : k ≡ (part_owed (reading b) n).number
-    excerpt_number = c.call.learnt.1.0
+    excerpt_number = sym (ap (λ (e : Excerpted). e.number) c.is_told) ∙ c.call.learnt.0
 
     pub excerpt_place : p ≡ (part_owed (reading b) n).place
-    excerpt_place = c.call.learnt.1.1
+    excerpt_place = sym (ap (λ (e : Excerpted). e.place) c.is_told) ∙ c.call.learnt.1.0
+
+    pub excerpt_part : part ≡ (excerpted_as c.answer).part
+    excerpt_part = sym (ap (λ (e : Excerpted). e.part) c.is_told)
+
+    pub excerpt_lies : IfOk c.answer (λ x. LiesAt x (c.call.places 0 holds b) (part_owed (reading b) n).offset (part_owed (reading b) n).size)
+    excerpt_lies = c.call.learnt.1.1
 
   pub reason_says : {s : List ℕ} {p a : ℕ} {asked : Asked} {r : Reason} → ReasonCalled b s p a asked r → reason_values r ≡ reason_owed b s p a (asked_of asked)
   reason_says c = c.call.learnt
 
 module _ {s : List ℕ} {party name : ℕ} where
-  pub install_says : {b s' : List ℕ} {r : Shelved} → InstallCalled s party name b r s'
+  pub install_says : {b s' : List ℕ} {r : Result (Unit {0}) Refused} → InstallCalled s party name b r s'
       → (shelved_values r ≡ shelved_owed (shelf.told s (shelf.install party name b))) × (s' ≡ shelf.left s (shelf.install party name b))
   install_says c = c.call.learnt
 
-  pub withdraw_says : {s' : List ℕ} {r : Shelved} → WithdrawCalled s party name r s'
+  pub withdraw_says : {s' : List ℕ} {r : Result (Unit {0}) Refused} → WithdrawCalled s party name r s'
       → (shelved_values r ≡ shelved_owed (shelf.told s (shelf.withdraw party name))) × (s' ≡ shelf.left s (shelf.withdraw party name))
   withdraw_says c = c.call.learnt
 
   module _ {part : List ℕ} {k p : ℕ} (c : FetchCalled s party name part k p) where
-    pub fetch_part : part ≡ (shelf.told s (shelf.fetch party name)).part
-    fetch_part = c.call.learnt.0
+    pub fetch_says : ◌≡◌ {A = ShelfAnswer} (record { number = k; place = p; part = part }) (shelf.told s (shelf.fetch party name))
+    fetch_says = sym c.is_told ∙ c.call.learnt.0
 
-    pub fetch_lies : LiesAt (c.call.places 3 holds part) (c.call.places 0 holds s) (lies_from s party name) (length (shelf.told s (shelf.fetch party name)).part)
-    fetch_lies = c.call.learnt.1.0
+    pub fetch_part : part ≡ (shelf.told s (shelf.fetch party name)).part
+    fetch_part = ap (λ (a : ShelfAnswer). a.part) fetch_says
 
     pub fetch_number : k ≡ (shelf.told s (shelf.fetch party name)).number
-    fetch_number = c.call.learnt.1.1.0
+    fetch_number = ap (λ (a : ShelfAnswer). a.number) fetch_says
 
     pub fetch_place : p ≡ (shelf.told s (shelf.fetch party name)).place
-    fetch_place = c.call.learnt.1.1.1
+    fetch_place = ap (λ (a : ShelfAnswer). a.place) fetch_says
+
+    pub fetch_lies : IfOk c.answer (λ x. LiesAt x (c.call.places 0 holds s) (lies_from s party name) (length x.now))
+    fetch_lies = c.call.learnt.1
 
 pub number_says : {why : Why} {k : ℕ} → NumberCalled why k → k ≡ number why
 number_says c = c.call.learnt
@@ -137,5 +145,5 @@ read_text_says c = c.call.learnt
 pub maze_says : {b : List ℕ} {set : ℕ} {r : Maze} → MazeCalled b set r → Views (view b set) r
 maze_says c = c.call.learnt
 
-pub corridor_says : {b : List ℕ} {set n : ℕ} {room : Room} {r : Corridor} → CorridorCalled b set room n r → way_told r ≡ way_in (view b set) (room_of room) n
+pub corridor_says : {b : List ℕ} {set n : ℕ} {room : Room} {r : FoundCorridor} → CorridorCalled b set room n r → way_told r ≡ way_in (view b set) (room_of room) n
 corridor_says c = c.call.learnt

@@ -22,7 +22,7 @@ use Rattle.theorems.specs.Traces.{after}
 use Rattle.block.specs.Format.{Good}
 use Rattle.reaction.specs.declared.Given.{Given}
 use Rattle.reaction.specs.declared.Given.TheVariants.{All}
-use Rattle.reaction.specs.declared.Instant.{Instant}
+use Rattle.foldheron.specs.Answers.{Instant}
 use Rattle.reaction.specs.Fronts.{wrong_inputs}
 use Rattle.reaction.specs.Instants.{block_of, told_reaction}
 use Rattle.pairs.specs.Runs.{Run, start, ◌▸◌, size, bytes_of, numeric, Comparison, Input, reach, shows, First, Same}

@@ -18,8 +18,9 @@ use Rattle.pairs.specs.Runs.{Run, size, bytes_of, Over, First as FirstRun}
 use Rattle.pairs.specs.Blocks.{comparison}
 use Rattle.alike.specs.Ends.{most}
 use Rattle.alike.specs.Calls.{INTERFACE, WIDE, PAIRS, Front, first_stopped, second_stopped, stopped, ready, try_both, try_second, try_first, front, Compared, Owed}
-use Rattle.alike.specs.declared.Likeness.{Likeness}
-use Rattle.alike.specs.declared.Likeness.TheVariants as told
+use Rattle.foldheron.specs.Answers.{Likeness}
+use Rattle.alike.specs.declared.NotCompared.{NotCompared}
+use Rattle.std.specs.Prelude.{Ok, Err, Some, None}
 use Rattle.alike.proofs.OneAnswer.{one_likeness}
 use Rattle.alike.proofs.alike.Kinds as alike_kinds
 use Rattle.alike.proofs.alike.Reads as alike_reads
@@ -100,9 +101,9 @@ module _ (first second : List ℕ) where
 
     compared_true : (run run' : List ℕ) (r : Likeness) → Compared (comparison (block_of g) (block_of h)) r run run' → TrueLikeness first second run r run'
     unfolding Compared
-    compared_true run run' told.Alike o =
+    compared_true run run' (Ok None) o =
         (λ ws rs rs' x y. never_apart g h k.same_inputs o.0 ws (told_from_fresh first g e bytes_one x) (told_from_fresh second h d bytes_other y), o.2)
-    compared_true run run' (told.Different n) o =
+    compared_true run run' (Ok (Some n)) o =
         let v = o.0 in
         let size_is : length (bytes_of v) ≡ n = bytes_size v ∙ sym o.3 in
         let front_is : take n run' ≡ bytes_of v = ap (take n) o.4 ∙ take_at (bytes_of v) (drop (size v) run) n size_is in (
@@ -110,9 +111,7 @@ module _ (first second : List ℕ) where
           ap length front_is ∙ size_is,
           ap (drop n) o.4 ∙ drop_at (bytes_of v) (drop (size v) run) n size_is ∙ ap (λ (i : ℕ). drop i run) (sym o.3),
         )
-    compared_true run run' (told.First w at) o = absurd o
-    compared_true run run' (told.Second w at) o = absurd o
-    compared_true run run' (told.Refused w) o = o.2
+    compared_true run run' (Err e) o = subst⁻¹ (λ (x : NotCompared). TrueLikeness first second run (Err x) run') o.0 o.2
 
   -- "Tell whether from fresh they give the same outputs, code and 13 in every instant under every input run. If not, write a shortest run of input sets that shows it, the first in
   -- numeric order among those." What is told is so of the calls of `fresh` and `instant` on the two blocks.
@@ -140,11 +139,9 @@ module _ (first second : List ℕ) where
   leaves (first_stopped n at) run run' r o h = o.1
   leaves (second_stopped n at) run run' r o h = o.1
   leaves (stopped n) run run' r o h = o.1
-  leaves (ready g k) run run' told.Alike o h = o.2
-  leaves (ready g k) run run' (told.Different n) o h = absurd (h refl)
-  leaves (ready g k) run run' (told.First w at) o h = absurd o
-  leaves (ready g k) run run' (told.Second w at) o h = absurd o
-  leaves (ready g k) run run' (told.Refused w) o h = o.2
+  leaves (ready g k) run run' (Ok None) o h = o.2
+  leaves (ready g k) run run' (Ok (Some n)) o h = absurd (h refl)
+  leaves (ready g k) run run' (Err e) o h = o.2
 
   pub a_refused_alike_changes_nothing : {run run' : List ℕ} {r : Likeness} → AlikeCalled first second run r run' → likeness_number r ≢ 0 → run' ≡ run
   a_refused_alike_changes_nothing {run} {run'} {r} c = leaves (front first second run) run run' r (alike_says c)
@@ -198,11 +195,9 @@ module _ (first second : List ℕ) where
           short l m = omega arith
 
           go : (x : Likeness) → Compared (comparison (block_of g) (block_of h)) x run run' → First (record { number = PAIRS; Applies = TooManyPairs first second } ∷ []) (likeness_number x)
-          go told.Alike q = inr (not_many q.1, refl)
-          go (told.Different n) q = inr (not_many q.2, refl)
-          go (told.First w at) q = absurd q
-          go (told.Second w at) q = absurd q
-          go (told.Refused w) q = inl (record { both = these; over = q.1 }, ap number q.0)
+          go (Ok None) q = inr (not_many q.1, refl)
+          go (Ok (Some n)) q = inr (not_many q.2, refl)
+          go (Err e) q = inl (record { both = these; over = q.1 }, ap (λ (x : NotCompared). likeness_number (Err x)) q.0)
 
     pub alike_gives_the_first : {run' : List ℕ} {r : Likeness} → AlikeCalled first second run r run' → First (alike_tests first second run) (likeness_number r)
     unfolding Owed number first_with

@@ -24,7 +24,10 @@ use Rattle.reaction.specs.Instants.{Verdict, refused, clash, reacted, Told, told
 use Rattle.reaction.specs.Fronts.{INPUT, OTHER_BLOCK, stopped, ready, wrong_inputs, try_inputs, try_clash, clash_tried, try_names, try_state, try_block, front}
 use Rattle.reaction.specs.declared.Given.{Given}
 use Rattle.reaction.specs.declared.Given.TheVariants.{All, Two}
-use Rattle.foldheron.specs.declared.Logged.{Logged}
+use Rattle.foldheron.specs.Answers.{Instant, Logging, answer_in, end_in}
+use Rattle.reaction.specs.declared.Unanswered.{Unanswered}
+use Rattle.std.specs.Prelude.{Ok, Err}
+use Rattle.refusals.proofs.Laws.{number_above}
 use Rattle.reaction.specs.Answers.{instant_told}
 use Rattle.foldheron.proofs.Calls.{Leaves, leaves}
 use Rattle.promises.specs.Calls as calls
@@ -140,32 +143,32 @@ record_length : (k : Block) (w : Given) (t : Told) → length (record_of k w t) 
 record_length k w t = log_length _
 
 -- A call keeps the log's length, and the caller goes on at most a record further.
-logged_step : (b s s₁ log log₁ : List ℕ) (end : ℕ) (w : Given) (r : Logged) → LoggedFor b s w log end r s₁ log₁ → (length log₁ ≡ length log) × (went_on end r ≤ end + 32)
+logged_step : (b s s₁ log log₁ : List ℕ) (end : ℕ) (w : Given) (r : Logging) → LoggedFor b s w log end r s₁ log₁ → (length log₁ ≡ length log) × (went_on end r ≤ end + 32)
 unfolding went_on
-logged_step b s s₁ log log₁ end w r c = go (eqb (instant_told r.answer).number 0) refl
+logged_step b s s₁ log log₁ end w r c = go (eqb (instant_told (answer_in r)).number 0) refl
   where
     v : Verdict
     v = verdict b s w (no_room log end)
 
-    told_number : (instant_told r.answer).number ≡ (told v).number
+    told_number : (instant_told (answer_in r)).number ≡ (told v).number
     told_number = ap (λ (t : Told). t.number) (logged_answer b c)
 
-    go : (x : Bool) → eqb (instant_told r.answer).number 0 ≡ x → (length log₁ ≡ length log) × (cond x r.end end ≤ end + 32)
+    go : (x : Bool) → eqb (instant_told (answer_in r)).number 0 ≡ x → (length log₁ ≡ length log) × (cond x (end_in r) end ≤ end + 32)
     go true q =
-        let u = wrote (block_read (reading b)) v (on b s w (no_room log end)) s log end w (leaves b s w (no_room log end)) (sym told_number ∙ eqb-true (instant_told r.answer).number 0 q) in
-        (ap length (logged_log b c) ∙ u.keeps_length, (let e : r.end ≡ end + 32 = logged_end b c ∙ u.end_is in omega arith))
+        let u = wrote (block_read (reading b)) v (on b s w (no_room log end)) s log end w (leaves b s w (no_room log end)) (sym told_number ∙ eqb-true (instant_told (answer_in r)).number 0 q) in
+        (ap length (logged_log b c) ∙ u.keeps_length, (let e : end_in r ≡ end + 32 = logged_end b c ∙ u.end_is in omega arith))
     go false q =
-        let l = left v s log end w (λ z. eqb-false (instant_told r.answer).number 0 q (told_number ∙ z)) in
+        let l = left v s log end w (λ z. eqb-false (instant_told (answer_in r)).number 0 q (told_number ∙ z)) in
         (ap length (logged_log b c ∙ l.log_stays), omega arith)
 
 -- The first call of a run and the rest.
-module _ (b s s₁ log log₁ log' : List ℕ) (ws : List Given) (end end' : ℕ) (w : Given) (r : Logged) (rs : List Logged) (c : LoggedFor b s w log end r s₁ log₁)
+module _ (b s s₁ log log₁ log' : List ℕ) (ws : List Given) (end end' : ℕ) (w : Given) (r : Logging) (rs : List Logging) (c : LoggedFor b s w log end r s₁ log₁)
     (rest : LoggedRun (block_read (reading b)) log₁ (went_on end r) ws rs log' end') where
   v : Verdict
   v = verdict b s w (no_room log end)
 
   t : Told
-  t = instant_told r.answer
+  t = instant_told (answer_in r)
 
   abbrev k : Block
   k = block_read (reading b)
@@ -176,11 +179,11 @@ module _ (b s s₁ log log₁ log' : List ℕ) (ws : List Given) (end end' : ℕ
 
   rest_of : (x : Bool) → eqb t.number 0 ≡ x → records k (w ∷ ws) (r ∷ rs) ≡ cond x (record_of k w t) [] ++ records k ws rs
   unfolding records t
-  rest_of x q = ap (λ (y : Bool). cond y (record_of k w (instant_told r.answer)) [] ++ records k ws rs) q
+  rest_of x q = ap (λ (y : Bool). cond y (record_of k w (instant_told (answer_in r))) [] ++ records k ws rs) q
 
-  goes_from : (x : Bool) → eqb t.number 0 ≡ x → went_on end r ≡ cond x r.end end
+  goes_from : (x : Bool) → eqb t.number 0 ≡ x → went_on end r ≡ cond x (end_in r) end
   unfolding went_on t
-  goes_from x q = ap (λ (y : Bool). cond y r.end end) q
+  goes_from x q = ap (λ (y : Bool). cond y (end_in r) end) q
 
   stays : eqb t.number 0 ≡ false → LoggedRun k log end (w ∷ ws) (r ∷ rs) log' end'
   unfolding v
@@ -223,7 +226,7 @@ module _ (b s s₁ log log₁ log' : List ℕ) (ws : List Given) (end end' : ℕ
       go true q = writes q
       go false q = stays q
 
-pub logged_run : (b : List ℕ) {s log : List ℕ} {end : ℕ} {ws : List Given} {rs : List Logged} {s' log' : List ℕ} {end' : ℕ} → LoggedCalls b s log end ws rs s' log' end'
+pub logged_run : (b : List ℕ) {s log : List ℕ} {end : ℕ} {ws : List Given} {rs : List Logging} {s' log' : List ℕ} {end' : ℕ} → LoggedCalls b s log end ws rs s' log' end'
     → LoggedRun (block_read (reading b)) log end ws rs log' end'
 unfolding records
 logged_run b (no_call {log = log} {end = end}) = record { log_is = nothing_written end log; end_is = omega arith; same_length = refl }
@@ -231,7 +234,7 @@ logged_run b (one_more {s = s} {s₁ = s₁} {log = log} {log₁ = log₁} {log'
     first_and_rest b s s₁ log log₁ log' ws end end' w r rs c (logged_run b rest)
 
 -- A call with room in its log is one without a log.
-unlogged : (b s s₁ log log₁ : List ℕ) (end : ℕ) (w : Given) (r : Logged) → end + 32 ≤ length log → LoggedFor b s w log end r s₁ log₁ → CalledFor b s w r.answer s₁
+unlogged : (b s s₁ log log₁ : List ℕ) (end : ℕ) (w : Given) (r : Logging) → end + 32 ≤ length log → LoggedFor b s w log end r s₁ log₁ → CalledFor b s w (answer_in r) s₁
 unlogged b s s₁ log log₁ end (All x) r room (with_set c) =
     let same = same_verdict log end room b s (All x) in
     with_set (record {
@@ -251,12 +254,31 @@ unlogged b s s₁ log log₁ end (Two x y) r room (with_two c) =
       };
     })
 
+-- There is an answer with a log, for an answer of the instant; and a logged answer is made of its instant's answer and its end.
+pub a_logging : (v : Verdict) (s log : List ℕ) (end : ℕ) (w : Given) (a : Instant) → instant_told a ≡ told v
+    → (r : Logging) × (instant_told (answer_in r) ≡ told v) × (end_in r ≡ end_after end v)
+unfolding answer_in end_in instant_told number
+a_logging v s log end w (Ok r) e = (Ok (record { reaction = r; end = end_after end v }), e, refl)
+a_logging v s log end w (Err (Unanswered.NotConstructive d)) e =
+    (Err (Unanswered.NotConstructive d), e, sym (left v s log end w (λ z. absurd (let k : ◌≡◌ {A = ℕ} 13 0 = ap (λ (t : Told). t.number) e ∙ z in omega arith))).no_end)
+a_logging v s log end w (Err (Unanswered.Clash m n)) e =
+    (Err (Unanswered.Clash m n), e, sym (left v s log end w (λ z. absurd (let k : ◌≡◌ {A = ℕ} 10 0 = ap (λ (t : Told). t.number) e ∙ z in omega arith))).no_end)
+a_logging v s log end w (Err (Unanswered.Refused r)) e =
+    (Err (Unanswered.Refused r), e, sym (left v s log end w (λ z. number_above r.why (ap (λ (t : Told). t.number) e ∙ z))).no_end)
+
+pub logging_told_apart : (r q : Logging) → answer_in r ≡ answer_in q → end_in r ≡ end_in q → r ≡ q
+unfolding answer_in end_in
+logging_told_apart (Ok l) (Ok m) e d = let f : l.reaction ≡ m.reaction = cc in λ i. Ok (record { reaction = f i; end = d i })
+logging_told_apart (Ok l) (Err u) e d = let z : ⊥ = cc in absurd z
+logging_told_apart (Err u) (Ok m) e d = let z : ⊥ = cc in absurd z
+logging_told_apart (Err u) (Err v) e d = let f : u ≡ v = cc in ap Err f
+
 -- With room for a record each, calls with a log are calls without one: the same answers on the same bytes of state.
-pub without_log : (b : List ℕ) {s log : List ℕ} {end : ℕ} {ws : List Given} {rs : List Logged} {s' log' : List ℕ} {end' : ℕ} → LoggedCalls b s log end ws rs s' log' end'
-    → end + 32 * length ws ≤ length log → Calls b s ws (map (λ r. r.answer) rs) s'
+pub without_log : (b : List ℕ) {s log : List ℕ} {end : ℕ} {ws : List Given} {rs : List Logging} {s' log' : List ℕ} {end' : ℕ} → LoggedCalls b s log end ws rs s' log' end'
+    → end + 32 * length ws ≤ length log → Calls b s ws (map answer_in rs) s'
 without_log b no_call room = calls.no_call
 without_log b (one_more {s = s} {s₁ = s₁} {log = log} {log₁ = log₁} {ws = ws} {end = end} {w = w} {r = r} c rest) room =
     let first : end + 32 ≤ length log = omega arith in
-    let made : CalledFor b s w r.answer s₁ = unlogged b s s₁ log log₁ end w r first c in
+    let made : CalledFor b s w (answer_in r) s₁ = unlogged b s s₁ log log₁ end w r first c in
     let l = logged_step b s s₁ log log₁ end w r c in
     calls.one_more made (without_log b rest (omega (arith, l.0, l.1)))

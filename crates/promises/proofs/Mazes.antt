@@ -18,7 +18,7 @@ use Rattle.block.proofs.GoodReadings.{sound}
 use Rattle.records.specs.Numerals.{Bytes}
 use Rattle.records.specs.StateRecord.{undeclared_input}
 use Rattle.reaction.specs.declared.Given.TheVariants.{All}
-use Rattle.reaction.specs.declared.Instant.{Instant}
+use Rattle.foldheron.specs.Answers.{Instant}
 use Rattle.reaction.specs.Fronts.{INPUT, wrong_inputs}
 use Rattle.reaction.specs.Instants.{block_of, heard_of, Told, told_reaction}
 use Rattle.reaction.specs.Answers.{instant_told}
@@ -27,12 +27,12 @@ use Rattle.mazes.specs.AsRounds.{final_status, AsRounds}
 use Rattle.mazes.proofs.Forms.{of_form_is, is_of_form}
 use Rattle.mazes.proofs.AsRounds.{as_rounds}
 use Rattle.maze.specs.Views.{FORM, View, refused, shown, try_form, try_inputs, try_block, view, Shows, Views}
-use Rattle.maze.specs.Ways.{room_of, has_room, turned, no_room, way_by, way_told, way_in}
+use Rattle.maze.specs.Ways.{room_of, has_room, turned, no_room, way_by, corridor_told, way_told, way_in}
 use Rattle.maze.specs.declared.Rooms.{Rooms}
 use Rattle.maze.specs.declared.Room.{Room}
-use Rattle.maze.specs.declared.Maze.{Maze}
-use Rattle.maze.specs.declared.Maze.TheVariants as maze
-use Rattle.maze.specs.declared.Corridor.{Corridor}
+use Rattle.foldheron.specs.Answers.{Maze}
+use Rattle.std.specs.Prelude.{Ok, Err}
+use Rattle.foldheron.specs.Answers.{FoundCorridor}
 use Rattle.maze.specs.declared.Corridor.TheVariants as corridor
 use Rattle.maze.proofs.OneAnswer.{one_answer}
 use Rattle.maze.proofs.OneWay.{one_way}
@@ -90,25 +90,22 @@ refused_place (shown k given) = 0
 
 maze_tells : (v : View) (r : Maze) → Views v r → (maze_number r ≡ refused_number v) × (maze_place r ≡ refused_place v)
 unfolding Views refused_number refused_place
-maze_tells (refused n at) (maze.Refused w p) s = s
-maze_tells (refused n at) (maze.Rooms r) s = absurd s
-maze_tells (shown k given) (maze.Refused w p) s = absurd s
-maze_tells (shown k given) (maze.Rooms r) s = (refl, refl)
+maze_tells (refused n at) (Err e) s = s
+maze_tells (refused n at) (Ok r) s = absurd s
+maze_tells (shown k given) (Err e) s = absurd s
+maze_tells (shown k given) (Ok r) s = (refl, refl)
 
-corridor_tells : (v : View) (room : Room) (n : ℕ) (r : Corridor) → way_told r ≡ way_in v (room_of room) n → (corridor_number r ≡ refused_number v) × (corridor_place r ≡ refused_place v)
-unfolding way_told way_in refused_number refused_place
-corridor_tells (refused n at) room k (corridor.Visible r) e = let z : ◌≡◌ {A = ℕ} 0 1 = cc in absurd (omega arith)
-corridor_tells (refused n at) room k (corridor.Secret r) e = let z : ◌≡◌ {A = ℕ} 0 1 = cc in absurd (omega arith)
-corridor_tells (refused n at) room k corridor.NoMore e = let z : ◌≡◌ {A = ℕ} 0 1 = cc in absurd (omega arith)
-corridor_tells (refused n at) room k corridor.NoRoom e = let z : ◌≡◌ {A = ℕ} 0 1 = cc in absurd (omega arith)
-corridor_tells (refused n at) room k (corridor.Refused w p) e = (cc, cc)
-corridor_tells (shown d given) room k (corridor.Visible r) e = (refl, refl)
-corridor_tells (shown d given) room k (corridor.Secret r) e = (refl, refl)
-corridor_tells (shown d given) room k corridor.NoMore e = (refl, refl)
-corridor_tells (shown d given) room k corridor.NoRoom e = (refl, refl)
-corridor_tells (shown d given) room k (corridor.Refused w p) e = not_turned (has_room d (room_of room)) (nth (maze_of d given (room_of room)) k) e
+corridor_tells : (v : View) (room : Room) (n : ℕ) (r : FoundCorridor) → way_told r ≡ way_in v (room_of room) n → (corridor_number r ≡ refused_number v) × (corridor_place r ≡ refused_place v)
+unfolding corridor_told way_told way_in refused_number refused_place
+corridor_tells (refused n at) room k (Ok (corridor.Visible r)) e = let z : ◌≡◌ {A = ℕ} 0 1 = cc in absurd (omega arith)
+corridor_tells (refused n at) room k (Ok (corridor.Secret r)) e = let z : ◌≡◌ {A = ℕ} 0 1 = cc in absurd (omega arith)
+corridor_tells (refused n at) room k (Ok corridor.NoMore) e = let z : ◌≡◌ {A = ℕ} 0 1 = cc in absurd (omega arith)
+corridor_tells (refused n at) room k (Ok corridor.NoRoom) e = let z : ◌≡◌ {A = ℕ} 0 1 = cc in absurd (omega arith)
+corridor_tells (refused n at) room k (Err r) e = (cc, cc)
+corridor_tells (shown d given) room k (Ok c) e = (refl, refl)
+corridor_tells (shown d given) room k (Err r) e = not_turned (has_room d (room_of room)) (nth (maze_of d given (room_of room)) k) e
   where
-    not_turned : (z : Bool) (o : Option MazeCorridor) → turned (number w) p ≡ cond z (way_by o) no_room → (number w ≡ 0) × (p ≡ 0)
+    not_turned : (z : Bool) (o : Option MazeCorridor) → turned (number r.why) r.place ≡ cond z (way_by o) no_room → (number r.why ≡ 0) × (r.place ≡ 0)
     not_turned true none q = let z : ◌≡◌ {A = ℕ} 0 1 = cc in absurd (omega arith)
     not_turned true (some c) q = let z : ◌≡◌ {A = ℕ} 0 1 = cc in absurd (omega arith)
     not_turned false o q = let z : ◌≡◌ {A = ℕ} 0 1 = cc in absurd (omega arith)
@@ -125,7 +122,7 @@ module _ (b : List ℕ) (set : ℕ) where
   pub maze_has_one_answer : {r q : Maze} → MazeCalled b set r → MazeCalled b set q → r ≡ q
   maze_has_one_answer {r} {q} c d = one_answer (view b set) r q (maze_says c) (maze_says d)
 
-  pub corridor_has_one_answer : {room : Room} {n : ℕ} {r q : Corridor} → CorridorCalled b set room n r → CorridorCalled b set room n q → r ≡ q
+  pub corridor_has_one_answer : {room : Room} {n : ℕ} {r q : FoundCorridor} → CorridorCalled b set room n r → CorridorCalled b set room n q → r ≡ q
   corridor_has_one_answer {r = r} {q = q} c d = one_way r q (corridor_says c) (corridor_says d)
 
   -- and a refusal is that of the first test in the written order that applies, with its place: of 1 to 8 where the block is turned down, else 0.
@@ -166,10 +163,10 @@ module _ (b : List ℕ) (set : ℕ) where
       let m = maze_tells (view b set) r (maze_says c) in
       subst⁻¹ (λ (k : ℕ). PlacedBy b k (maze_place r)) m.0 (subst⁻¹ (PlacedBy b (refused_number (view b set))) m.1 view_placed)
 
-  pub corridor_gives_the_first : {room : Room} {n : ℕ} {r : Corridor} → CorridorCalled b set room n r → First (maze_tests b set) (corridor_number r)
+  pub corridor_gives_the_first : {room : Room} {n : ℕ} {r : FoundCorridor} → CorridorCalled b set room n r → First (maze_tests b set) (corridor_number r)
   corridor_gives_the_first {room} {n} {r} c = subst⁻¹ (First (maze_tests b set)) (corridor_tells (view b set) room n r (corridor_says c)).0 view_first
 
-  pub corridor_gives_its_place : {room : Room} {n : ℕ} {r : Corridor} → CorridorCalled b set room n r → PlacedBy b (corridor_number r) (corridor_place r)
+  pub corridor_gives_its_place : {room : Room} {n : ℕ} {r : FoundCorridor} → CorridorCalled b set room n r → PlacedBy b (corridor_number r) (corridor_place r)
   corridor_gives_its_place {room} {n} {r} c =
       let m = corridor_tells (view b set) room n r (corridor_says c) in
       subst⁻¹ (λ (k : ℕ). PlacedBy b k (corridor_place r)) m.0 (subst⁻¹ (PlacedBy b (refused_number (view b set))) m.1 view_placed)
@@ -225,18 +222,18 @@ module _ (b : List ℕ) (set : ℕ) where
       go (refused_11 f q nothing_told) = absurd (true≢false (sym f ∙ u))
       go (reacts f q nothing_told) = q
 
-  pub the_maze_is_as_the_first_instant_tells : Bytes b → {rooms : Rooms} {r : Instant} → MazeCalled b set (maze.Rooms rooms) → Ran b (All set ∷ []) (r ∷ [])
+  pub the_maze_is_as_the_first_instant_tells : Bytes b → {rooms : Rooms} {r : Instant} → MazeCalled b set (Ok rooms) → Ran b (All set ∷ []) (r ∷ [])
       → TrueMaze b set rooms (instant_told r)
   unfolding Views
   the_maze_is_as_the_first_instant_tells bytes {rooms} {r} c x =
-      by_view b set (λ v. Views v (maze.Rooms rooms) → TrueMaze b set rooms (instant_told r)) (λ n at e s. absurd s) (λ g e u s. absurd s) (λ g e u f s. absurd s)
+      by_view b set (λ v. Views v (Ok rooms) → TrueMaze b set rooms (instant_told r)) (λ n at e s. absurd s) (λ g e u s. absurd s) (λ g e u f s. absurd s)
       (λ g e u f s. subst⁻¹ (TrueMaze b set rooms) (told_first bytes g e u x) (true_of g e u f rooms s)) (maze_says c)
 
   -- The corridors told are those of that maze.
-  pub the_corridors_are_of_that_maze : {rooms : Rooms} → MazeCalled b set (maze.Rooms rooms) → {room : Room} {n : ℕ} {r : Corridor} → CorridorCalled b set room n r
+  pub the_corridors_are_of_that_maze : {rooms : Rooms} → MazeCalled b set (Ok rooms) → {room : Room} {n : ℕ} {r : FoundCorridor} → CorridorCalled b set room n r
       → (g : Good) → reading b ≡ good g → way_told r ≡ way_of g set (room_of room) n
   unfolding Views way_in
   the_corridors_are_of_that_maze {rooms} c {room} {n} {r} d g e =
-      by_view b set (λ v. Views v (maze.Rooms rooms) → way_told r ≡ way_in v (room_of room) n → way_told r ≡ way_of g set (room_of room) n)
+      by_view b set (λ v. Views v (Ok rooms) → way_told r ≡ way_in v (room_of room) n → way_told r ≡ way_of g set (room_of room) n)
       (λ k at q s w. absurd s) (λ h q u s w. absurd s) (λ h q u f s w. absurd s)
       (λ h q u f s w. w ∙ ap (λ (k : Good). way_of k set (room_of room) n) (one_reading b g h e q)) (maze_says c) (corridor_says d)

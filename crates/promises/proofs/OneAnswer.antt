@@ -25,7 +25,9 @@ use Rattle.reaction.specs.Fronts.{OTHER_BLOCK, stopped, ready, wrong_inputs, try
 use Rattle.reaction.specs.Instants.{Verdict, refused, clash, reacted, Told, told, block_of, goes_on, verdict, heard_of}
 use Rattle.refusals.specs.declared.Why.{Why}
 use Rattle.reaction.specs.declared.Given.{Given}
-use Rattle.reaction.specs.declared.Instant.{Instant}
+use Rattle.foldheron.specs.Answers.{Instant, refusal_at}
+use Rattle.reaction.specs.declared.Unanswered.{Unanswered}
+use Rattle.std.specs.Prelude.{Ok, Err}
 use Rattle.refusals.specs.Refusals.{number, why_of}
 use Rattle.refusals.proofs.Laws.{why_back, numbers_differ, number_above}
 use Rattle.reaction.specs.Answers.{instant_told}
@@ -99,37 +101,42 @@ apart b s given roomless = go (reading b) refl
     go (turned_down n at) e = let h : n ≤ 8 = (numbers b n at e).1 in ((λ d. omega arith), (λ d. omega arith))
 
 -- The answer that has these fields.
+abbrev pub told_down : Why → ℕ → Instant
+told_down w at = Err (Unanswered.Refused (refusal_at w at))
+
 unfoldable pub remade : Told → Instant
 remade t =
     cond (eqb t.number 0)
-    (Instant.Answered (record { present = t.present_outputs; code = record { 0 = t.code }; rounds = t.rounds; active = t.active }))
+    (Ok (record { present = t.present_outputs; code = record { 0 = t.code }; rounds = t.rounds; active = t.active }))
     (cond (eqb t.number 13)
-    (Instant.NotConstructive (record { present = t.present_outputs; absent = t.absent_outputs; undecided = t.undecided_outputs; rounds = t.rounds }))
-    (cond (eqb t.number 10) (Instant.Clash t.first t.second) (Instant.Refused (why_of t.number) t.place)))
+    (Err (Unanswered.NotConstructive (record { present = t.present_outputs; absent = t.absent_outputs; undecided = t.undecided_outputs; rounds = t.rounds })))
+    (cond (eqb t.number 10) (Err (Unanswered.Clash t.first t.second)) (told_down (why_of t.number) t.place)))
 
 -- It is the answer itself, unless a clash or a 13 is told as a refusal.
-from_fields : (r : Instant) → ((at : ℕ) → r ≢ Instant.Refused Why.Clash at) → ((at : ℕ) → r ≢ Instant.Refused Why.NotConstructive at)
+from_fields : (r : Instant) → ((at : ℕ) → r ≢ told_down Why.Clash at) → ((at : ℕ) → r ≢ told_down Why.NotConstructive at)
     → remade (instant_told r) ≡ r
 unfolding remade instant_told number
-from_fields (Instant.Answered r) c d = refl
-from_fields (Instant.NotConstructive r) c d = refl
-from_fields (Instant.Clash m n) c d = refl
-from_fields (Instant.Refused w at) c d =
+from_fields (Ok r) c d = refl
+from_fields (Err (Unanswered.NotConstructive r)) c d = refl
+from_fields (Err (Unanswered.Clash m n)) c d = refl
+from_fields (Err (Unanswered.Refused r)) c d =
+    let w = r.why in
+    let at = r.place in
     let not_0 : eqb (number w) 0 ≡ false = ne_eqb (number w) 0 (number_above w) in
-    let not_13 : eqb (number w) 13 ≡ false = ne_eqb (number w) 13 (λ e. d at (ap (λ (y : Why). Instant.Refused y at) (numbers_differ w Why.NotConstructive e))) in
-    let not_10 : eqb (number w) 10 ≡ false = ne_eqb (number w) 10 (λ e. c at (ap (λ (y : Why). Instant.Refused y at) (numbers_differ w Why.Clash e))) in
-    let made : remade (instant_told (Instant.Refused w at)) ≡ Instant.Refused (why_of (number w)) at = simp (not_0, not_13, not_10) in
-    made ∙ ap (λ (y : Why). Instant.Refused y at) (why_back w)
+    let not_13 : eqb (number w) 13 ≡ false = ne_eqb (number w) 13 (λ e. d at (ap (λ (y : Why). told_down y at) (numbers_differ w Why.NotConstructive e))) in
+    let not_10 : eqb (number w) 10 ≡ false = ne_eqb (number w) 10 (λ e. c at (ap (λ (y : Why). told_down y at) (numbers_differ w Why.Clash e))) in
+    let made : remade (instant_told (told_down w at)) ≡ told_down (why_of (number w)) at = simp (not_0, not_13, not_10) in
+    made ∙ ap (λ (y : Why). told_down y at) (why_back w)
 
 -- And neither is.
-no_clash : (v : Verdict) → Apart v → (at : ℕ) → instant_told (Instant.Refused Why.Clash at) ≡ told v → ⊥
+no_clash : (v : Verdict) → Apart v → (at : ℕ) → instant_told (told_down Why.Clash at) ≡ told v → ⊥
 unfolding Apart told instant_told number
 no_clash (refused n i) a at e = a.0 (sym (ap (λ (t : Told). t.number) e))
 no_clash (clash pair) a at e = let z : 0 ≡ pair.second = ap (λ (t : Told). t.second) e in let h : pair.first < pair.second = a in omega arith
 no_clash (reacted b (answered outs c st r)) a at e = let z : ◌≡◌ {A = ℕ} 10 0 = ap (λ (t : Told). t.number) e in omega arith
 no_clash (reacted b (not_constructive outs r)) a at e = let z : ◌≡◌ {A = ℕ} 10 13 = ap (λ (t : Told). t.number) e in omega arith
 
-no_doubt : (v : Verdict) → Apart v → (at : ℕ) → instant_told (Instant.Refused Why.NotConstructive at) ≡ told v → ⊥
+no_doubt : (v : Verdict) → Apart v → (at : ℕ) → instant_told (told_down Why.NotConstructive at) ≡ told v → ⊥
 unfolding Apart told instant_told number
 no_doubt (refused n i) a at e = a.1 (sym (ap (λ (t : Told). t.number) e))
 no_doubt (clash pair) a at e = let z : ◌≡◌ {A = ℕ} 13 10 = ap (λ (t : Told). t.number) e in omega arith

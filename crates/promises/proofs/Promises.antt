@@ -20,10 +20,10 @@ use Rattle.records.proofs.Reading.{named_version, named_statements}
 use Rattle.reaction.specs.Instants.{block_of, heard_of, told_reaction, verdict}
 use Rattle.records.specs.LogRecord.{no_room}
 use Rattle.reaction.specs.declared.Given.{Given}
-use Rattle.block.specs.declared.whole.Checked.TheVariants.{Good as GoodOne}
-use Rattle.foldheron.specs.declared.Begun.TheVariants.{Fresh}
-use Rattle.reaction.specs.declared.Instant.{Instant}
-use Rattle.foldheron.specs.declared.Logged.{Logged}
+use Rattle.std.specs.Prelude.{Ok}
+use Rattle.std.specs.Prelude.{Ok}
+use Rattle.foldheron.specs.Answers.{Instant}
+use Rattle.foldheron.specs.Answers.{Logging, answer_in, end_in}
 use Rattle.reaction.specs.Answers.{instant_told}
 use Rattle.promises.specs.Promised.{ReadAs, Holds, Inputs, Alike, PromisedAnswer, Promised, PromisedLogged, PromisedCalls}
 use Rattle.promises.specs.Runs.{verdicts, bytes_left, logged_verdicts, logged_bytes_left, givens, sets, PromisedRun}
@@ -38,7 +38,7 @@ use Rattle.theorems.specs.Order.{HearsMore}
 use Rattle.reaction.specs.declared.Given.TheVariants.{All, Two}
 
 -- The one hypothesis on a block is that `check` answered Good to it.
-module _ (b : List ℕ) (said : Summary) (good_answer : CheckCalled b (GoodOne said)) where
+module _ (b : List ℕ) (said : Summary) (good_answer : CheckCalled b (Ok said)) where
   -- Then its bytes have a good reading, which declares and counts what was said.
   pub a_good_block_is_read : ReadAs b said
   a_good_block_is_read = good_is_read b said good_answer
@@ -54,7 +54,7 @@ module _ (b : List ℕ) (said : Summary) (good_answer : CheckCalled b (GoodOne s
   good_is_checked = checked b g e
 
   -- The record that `fresh` wrote is found legal, and holds the fresh state. Like everything lent the block is bytes, so that its version has two.
-  pub fresh_writes_a_legal_record : Bytes b → (s s' : List ℕ) → FreshCalled b s Fresh s' → Holds g s' fresh
+  pub fresh_writes_a_legal_record : Bytes b → (s s' : List ℕ) → FreshCalled b s (Ok tt) s' → Holds g s' fresh
   fresh_writes_a_legal_record bytes = fresh_is_held b bytes g e
 
   -- A record that is found legal holds a legal state, and every legal state's record is found legal.
@@ -66,7 +66,7 @@ module _ (b : List ℕ) (said : Summary) (good_answer : CheckCalled b (GoodOne s
 
   -- From the record that `fresh` wrote, over calls of `instant` one after the other: each answered one is the only coherent reaction, told and
   -- written as a legal state, or 13 is told and every byte kept;
-  module _ (bytes : Bytes b) (s s₀ : List ℕ) (written : FreshCalled b s Fresh s₀) (ws : List (Inputs g)) (rs : List Instant) (s' : List ℕ) (made : Calls b s₀ (givens ws) rs s') where
+  module _ (bytes : Bytes b) (s s₀ : List ℕ) (written : FreshCalled b s (Ok tt) s₀) (ws : List (Inputs g)) (rs : List Instant) (s' : List ℕ) (made : Calls b s₀ (givens ws) rs s') where
     pub from_fresh_each_answer_is_the_only_reaction_or_13 : PromisedCalls g s₀ fresh ws rs s'
     from_fresh_each_answer_is_the_only_reaction_or_13 = calls_keep b g e s₀ fresh (fresh_is_held b bytes g e s s₀ written) ws rs s' made
 
@@ -75,11 +75,11 @@ module _ (b : List ℕ) (said : Summary) (good_answer : CheckCalled b (GoodOne s
     from_fresh_the_calls_make_the_rules_run = calls b g e s₀ fresh (fresh_is_held b bytes g e s s₀ written) ws rs s' made
 
   -- and so over calls of `instant_logged`, where the log has room for a record each.
-  pub from_fresh_each_logged_answer_is_the_only_reaction_or_13 : Bytes b → (s s₀ : List ℕ) → FreshCalled b s Fresh s₀
-      → (ws : List (Inputs g)) (rs : List Logged) (log log' : List ℕ) (end end' : ℕ) (s' : List ℕ) → end + 32 * length (givens ws) ≤ length log
-      → LoggedCalls b s₀ log end (givens ws) rs s' log' end' → PromisedCalls g s₀ fresh ws (map (λ r. r.answer) rs) s'
+  pub from_fresh_each_logged_answer_is_the_only_reaction_or_13 : Bytes b → (s s₀ : List ℕ) → FreshCalled b s (Ok tt) s₀
+      → (ws : List (Inputs g)) (rs : List Logging) (log log' : List ℕ) (end end' : ℕ) (s' : List ℕ) → end + 32 * length (givens ws) ≤ length log
+      → LoggedCalls b s₀ log end (givens ws) rs s' log' end' → PromisedCalls g s₀ fresh ws (map answer_in rs) s'
   from_fresh_each_logged_answer_is_the_only_reaction_or_13 bytes s s₀ written ws rs log log' end end' s' room made =
-      calls_keep b g e s₀ fresh (fresh_is_held b bytes g e s s₀ written) ws (map (λ r. r.answer) rs) s' (without_log b made room)
+      calls_keep b g e s₀ fresh (fresh_is_held b bytes g e s s₀ written) ws (map answer_in rs) s' (without_log b made room)
 
   -- The same from any record that is found legal:
   module _ (s : List ℕ) (st : State) (h : Holds g s st) where
@@ -102,9 +102,9 @@ module _ (b : List ℕ) (said : Summary) (good_answer : CheckCalled b (GoodOne s
 
     -- with a log too, where it has room,
     pub a_logged_answer_stays_whatever_more_is_heard : (w w' : Inputs g) → HearsMore (block_of g) (heard_of g w.given) (heard_of g w'.given)
-        → (log : List ℕ) (end : ℕ) → end + 32 ≤ length log → (r r' : Logged) (s₁ s₂ log₁ log₂ : List ℕ) → LoggedFor b s w.given log end r s₁ log₁
-        → LoggedFor b s w'.given log end r' s₂ log₂ → (instant_told r.answer).number ≡ 0
-        → Alike (instant_told r.answer) (instant_told r'.answer) × (s₂ ≡ s₁)
+        → (log : List ℕ) (end : ℕ) → end + 32 ≤ length log → (r r' : Logging) (s₁ s₂ log₁ log₂ : List ℕ) → LoggedFor b s w.given log end r s₁ log₁
+        → LoggedFor b s w'.given log end r' s₂ log₂ → (instant_told (answer_in r)).number ≡ 0
+        → Alike (instant_told (answer_in r)) (instant_told (answer_in r')) × (s₂ ≡ s₁)
     a_logged_answer_stays_whatever_more_is_heard = logged_stays b g e s st h
 
     pub each_of_the_calls_keeps_the_promise : (ws : List (Inputs g)) (rs : List Instant) (s' : List ℕ) → Calls b s (givens ws) rs s' → PromisedCalls g s st ws rs s'
@@ -115,13 +115,13 @@ module _ (b : List ℕ) (said : Summary) (good_answer : CheckCalled b (GoodOne s
     the_calls_make_the_rules_run = calls b g e s st h
 
     -- and with `instant_logged`, where the log has room.
-    pub each_logged_call_keeps_the_promise : (w : Inputs g) (log : List ℕ) (end : ℕ) → end + 32 ≤ length log → (r : Logged) (s' log' : List ℕ)
+    pub each_logged_call_keeps_the_promise : (w : Inputs g) (log : List ℕ) (end : ℕ) → end + 32 ≤ length log → (r : Logging) (s' log' : List ℕ)
         → LoggedFor b s w.given log end r s' log' → PromisedLogged g s st w log end r s' log'
     each_logged_call_keeps_the_promise = call_with_log b g e s st h
 
-    pub each_of_the_logged_calls_keeps_the_promise : (ws : List (Inputs g)) (rs : List Logged) (log log' : List ℕ) (end end' : ℕ) (s' : List ℕ)
-        → end + 32 * length (givens ws) ≤ length log → LoggedCalls b s log end (givens ws) rs s' log' end' → PromisedCalls g s st ws (map (λ r. r.answer) rs) s'
-    each_of_the_logged_calls_keeps_the_promise ws rs log log' end end' s' room made = calls_keep b g e s st h ws (map (λ r. r.answer) rs) s' (without_log b made room)
+    pub each_of_the_logged_calls_keeps_the_promise : (ws : List (Inputs g)) (rs : List Logging) (log log' : List ℕ) (end end' : ℕ) (s' : List ℕ)
+        → end + 32 * length (givens ws) ≤ length log → LoggedCalls b s log end (givens ws) rs s' log' end' → PromisedCalls g s st ws (map answer_in rs) s'
+    each_of_the_logged_calls_keeps_the_promise ws rs log log' end end' s' room made = calls_keep b g e s st h ws (map answer_in rs) s' (without_log b made room)
 
     -- Behind it: each instant is the only coherent reaction, written as a legal state, or 13 with every byte kept;
     pub each_instant_is_the_only_reaction_or_13 : (w : Inputs g) → Promised b g s st w
@@ -138,9 +138,9 @@ module _ (b : List ℕ) (g : Good) (e : reading b ≡ good g) (s : List ℕ) (w 
       → (instant_told r ≡ instant_told r') × (s₁ ≡ s₂)
   a_set_has_no_unknowns = same_call b g e s w rest f
 
-  pub a_set_has_no_unknowns_with_a_log : (log : List ℕ) (end : ℕ) (r r' : Logged) (s₁ s₂ log₁ log₂ : List ℕ) → LoggedFor b s (All w) log end r s₁ log₁
+  pub a_set_has_no_unknowns_with_a_log : (log : List ℕ) (end : ℕ) (r r' : Logging) (s₁ s₂ log₁ log₂ : List ℕ) → LoggedFor b s (All w) log end r s₁ log₁
       → LoggedFor b s (Two w rest) log end r' s₂ log₂
-      → (instant_told r.answer ≡ instant_told r'.answer) × (r.end ≡ r'.end) × (s₁ ≡ s₂) × (log₁ ≡ log₂)
+      → (instant_told (answer_in r) ≡ instant_told (answer_in r')) × (end_in r ≡ end_in r') × (s₁ ≡ s₂) × (log₁ ≡ log₂)
   a_set_has_no_unknowns_with_a_log = same_logged_call b g e s w rest f
 
 -- With room in the log an instant with a log is the one without, and so is a run with room for a record each.

@@ -16,7 +16,8 @@ use Rattle.block.specs.Format.{Good, Reading, good, turned_down, reading}
 use Rattle.block.proofs.GoodReadings.{numbers}
 use Rattle.records.specs.Numerals.{Bytes}
 use Rattle.writing.specs.Written.{header_bytes}
-use Rattle.writing.specs.declared.Wrote.{Wrote}
+use Rattle.foldheron.specs.Answers.{Wrote}
+use Rattle.std.specs.Prelude.{Ok}
 use Rattle.writing.specs.Answers.{Writing, writes, refuses, roomed, wrote_values, wrote_owed, out_owed}
 use Rattle.text.specs.Tokens.{tokens_placed, tokens}
 use Rattle.text.specs.Grammar.{Text, spelt}
@@ -132,7 +133,7 @@ module _ (text : List ℕ) where
   a_text_gets_what_its_block_gets t b e m {out} c = (read_text_says c).0 ∙ ap (λ (w : Writing). wrote_owed (roomed w (length out))) (text_gets text t b e m)
 
   -- and what is written is the good block of such a text.
-  pub what_is_read_is_of_the_grammar_and_good : {n : ℕ} {out out' : List ℕ} → ReadTextCalled text out (Wrote.Bytes n) out' → ReadText text out n out'
+  pub what_is_read_is_of_the_grammar_and_good : {n : ℕ} {out out' : List ℕ} → ReadTextCalled text out (Ok n) out' → ReadText text out n out'
   what_is_read_is_of_the_grammar_and_good {n} {out} {out'} c =
       let f = written_in_front (text_read text) (named_read text) out n out' (read_text_says c).0 (read_text_says c).1 in
       let o = only_grammar text f.bytes f.to_write in
@@ -152,14 +153,14 @@ module _ (text : List ℕ) where
       }
 
 -- "Reading what was written must give back the same block bytes", over the two calls.
-pub what_was_written_is_read_back : (b : List ℕ) → Bytes b → {n : ℕ} {out out' : List ℕ} → WriteTextCalled b out (Wrote.Bytes n) out' → {lent lent' : List ℕ} {r : Wrote}
+pub what_was_written_is_read_back : (b : List ℕ) → Bytes b → {n : ℕ} {out out' : List ℕ} → WriteTextCalled b out (Ok n) out' → {lent lent' : List ℕ} {r : Wrote}
     → ReadTextCalled (take n out') lent r lent' → length b ≤ length lent → GaveBack b lent r lent'
 unfolding roomed wrote_owed out_owed wrote_values
 what_was_written_is_read_back b bytes {n} {out} {out'} w {lent} {lent'} {r} c l =
     let back : text_read (take n out') ≡ writes b = (the_text_stands_for_the_block b bytes w).stands_for_the_block in
     let owed_is : roomed (text_read (take n out')) (length lent) ≡ writes b = ap (λ (x : Writing). roomed x (length lent)) back ∙ fits (ltb (length lent) (length b)) refl in
     record {
-      answer_is = wrote_told_apart r (Wrote.Bytes (length b)) ((read_text_says c).0 ∙ ap wrote_owed owed_is);
+      answer_is = wrote_told_apart r (Ok (length b)) ((read_text_says c).0 ∙ ap wrote_owed owed_is);
       bytes_are = (read_text_says c).1 ∙ ap (λ (x : Writing). out_owed x lent) owed_is;
     }
   where

@@ -13,8 +13,8 @@ use Rattle.reasons.specs.declared.asked.Asked.TheVariants.{Refused}
 use Rattle.reaction.specs.Instants.{CLASH, NOT_CONSTRUCTIVE, Told}
 use Rattle.reaction.specs.Answers.{instant_told}
 use Rattle.reaction.specs.declared.Given.TheVariants.{Two}
-use Rattle.reaction.specs.declared.Instant.{Instant}
-use Rattle.foldheron.specs.declared.say_why.Reason.{Reason}
+use Rattle.foldheron.specs.Answers.{Instant}
+use Rattle.foldheron.specs.Answers.{Reason}
 use Rattle.foldheron.specs.Reasons.{reason_values, reason_owed}
 use Rattle.foldheron.proofs.reason.Kinds as reason_kinds
 use Rattle.foldheron.proofs.reason.Reads as reason

@@ -8,10 +8,14 @@ use mathlib.Core.Option.{Option, none, some}
 use Prim.Native.Nat.{ℕ, ◌+◌, ◌≤◌, ◌<◌}
 use native.Mathlib.Omega.{arith}
 use lib.Dec.{T, eqb, ltb}
-use lib.ListN.{length, get_or}
+use lib.ListN.{length, get_or, take, drop}
 use borrow.Author.Tests.{ltb-true, ltb-false}
+use Rattle.std.specs.Prelude.{Result, Ok, Err, IfOk}
+use Rattle.std.specs.Borrow.{Bor}
+use Rattle.records.specs.Parts.{LiesAt}
 use Rattle.refusals.specs.Refusals.{number, why_of}
-use Rattle.refusals.specs.declared.Why.TheVariants as Why
+use Rattle.refusals.specs.declared.Why.{Why}
+use Rattle.refusals.specs.declared.Refused.{Refused}
 use Rattle.refusals.proofs.Laws.{numbers_differ, number_above}
 use Rattle.sets.proofs.Members.{of_true, of_false}
 use Rattle.block.specs.Format.{Reading, good, turned_down, reading}
@@ -21,18 +25,17 @@ use Rattle.shelf.specs.Entries.{QUOTA_SIZE, Entry, size, in_use, own, taken, fin
 use Rattle.shelf.specs.Calls.{PARTY, TAKEN, QUOTA, Call, install, fetch, withdraw, party_of, name_of, ShelfAnswer, refused, done, entry, installed}
 use Rattle.shelf.specs.Calls.{fetched, withdrawn, told_by, told_on, told, left}
 use Rattle.shelf.specs.Histories.{is_of, shelf_after, told_to, Named, said}
-use Rattle.shelf.specs.Answered.{shelved_values, shelved_owed}
-use Rattle.shelf.specs.declared.Shelved.{Shelved}
-use Rattle.shelf.specs.declared.Shelved.TheVariants.{Done, TurnedDown}
+use Rattle.shelf.specs.Answered.{shelved_values, shelved_owed, fetched_as, lies_from}
 use Rattle.shelf.proofs.ReadBack.{read_back}
 use Rattle.shelf.proofs.OnlyShelf.{only_shelf, no_shelf}
-use Rattle.shelf.proofs.Told.{install_answers, withdraw_answers, install_empty, withdraw_empty, fetch_leaves}
+use Rattle.shelf.proofs.Told.{install_answers, fetch_answers, withdraw_answers, install_empty, withdraw_empty, fetch_leaves, fetched_lies}
+use Rattle.promises.specs.Calls.{Place, ◌holds◌}
 use Rattle.promises.specs.Tests.{Test, First}
 use Rattle.promises.specs.Demand1.{one_to_8, block_tests}
 use Rattle.promises.specs.Shelves.{ShelfOf, NameTaken, OverQuota, NameAbsent, party_test, shelf_test, taken_test, quota_test, absent_test}
 use Rattle.promises.specs.Shelves.{install_tests, fetch_tests, withdraw_tests, PlacedInBlock}
 use Rattle.promises.specs.Shelves.{answer_of, ShelfCalled, installs, fetches, withdraws, ShelfCalls, no_call, one_more, told_party, heard}
-use Rattle.promises.proofs.Learnt.{install_says, fetch_part, fetch_number, fetch_place, withdraw_says}
+use Rattle.promises.proofs.Learnt.{install_says, fetch_says, withdraw_says}
 use Rattle.promises.proofs.Exists.{named_in_block}
 use Rattle.promises.proofs.FirstRecord.{turned_down_decides}
 use Rattle.promises.proofs.FirstRefusal.{past_block, of_the_block}
@@ -149,23 +152,52 @@ install_placed s p n b =
 nth : ℕ → List ℕ → ℕ
 nth n l = get_or l n 0
 
-pub shelved_told_apart : (x y : Shelved) → shelved_values x ≡ shelved_values y → x ≡ y
+pub shelved_told_apart : (x y : Result (Unit {0}) Refused) → shelved_values x ≡ shelved_values y → x ≡ y
 unfolding shelved_values nth
-shelved_told_apart Done Done e = refl
-shelved_told_apart Done (TurnedDown w at) e = absurd (number_above w (sym (ap (nth 0) e)))
-shelved_told_apart (TurnedDown v at) Done e = absurd (number_above v (ap (nth 0) e))
-shelved_told_apart (TurnedDown v at) (TurnedDown w place) e = λ i. TurnedDown (numbers_differ v w (ap (nth 0) e) i) (ap (nth 1) e i)
+shelved_told_apart (Ok _) (Ok _) e = refl
+shelved_told_apart (Ok _) (Err r) e = absurd (number_above r.why (sym (ap (nth 0) e)))
+shelved_told_apart (Err r) (Ok _) e = absurd (number_above r.why (ap (nth 0) e))
+shelved_told_apart (Err v) (Err w) e = λ i. Err (record { why = numbers_differ v.why w.why (ap (nth 0) e) i; place = ap (nth 1) e i })
 
-pub an_install : (s : List ℕ) (p n : ℕ) (b : List ℕ) → (r : Shelved) × (shelved_values r ≡ shelved_owed (told s (install p n b)))
+-- A refusal that is of no place in a block.
+abbrev no_place : Why → Refused
+no_place w = record { why = w; place = 0 }
+
+pub an_install : (s : List ℕ) (p n : ℕ) (b : List ℕ) → (r : Result (Unit {0}) Refused) × (shelved_values r ≡ shelved_owed (told s (install p n b)))
 unfolding shelved_values shelved_owed number
 an_install s p n b =
-    install_answers (λ a. (r : Shelved) × (shelved_values r ≡ shelved_owed a)) s (TurnedDown Why.Party 0, refl) (TurnedDown Why.Shelf 0, refl) p n b
-    (λ k at q. (TurnedDown (why_of k) at, ap (λ (m : ℕ). m ∷ at ∷ []) (named_in_block b k at q))) (TurnedDown Why.Taken 0, refl) (TurnedDown Why.Quota 0, refl) (Done, refl)
+    install_answers (λ a. (r : Result (Unit {0}) Refused) × (shelved_values r ≡ shelved_owed a)) s (Err (no_place Why.Party), refl) (Err (no_place Why.Shelf), refl) p n b
+    (λ k at q. (Err (record { why = why_of k; place = at }), ap (λ (m : ℕ). m ∷ at ∷ []) (named_in_block b k at q))) (Err (no_place Why.Taken), refl) (Err (no_place Why.Quota), refl) (Ok tt, refl)
 
-pub a_withdrawal : (s : List ℕ) (p n : ℕ) → (r : Shelved) × (shelved_values r ≡ shelved_owed (told s (withdraw p n)))
+pub a_withdrawal : (s : List ℕ) (p n : ℕ) → (r : Result (Unit {0}) Refused) × (shelved_values r ≡ shelved_owed (told s (withdraw p n)))
 unfolding shelved_values shelved_owed number
 a_withdrawal s p n =
-    withdraw_answers (λ a. (r : Shelved) × (shelved_values r ≡ shelved_owed a)) s (TurnedDown Why.Party 0, refl) (TurnedDown Why.Shelf 0, refl) p n (TurnedDown Why.Absent 0, refl) (Done, refl)
+    withdraw_answers (λ a. (r : Result (Unit {0}) Refused) × (shelved_values r ≡ shelved_owed a)) s (Err (no_place Why.Party), refl) (Err (no_place Why.Shelf), refl) p n
+    (Err (no_place Why.Absent), refl) (Ok tt, refl)
+
+-- And to every fetch, whose part lies on the lent shelf.
+module _ (s : List ℕ) (bytes : Bytes s) (p n : ℕ) (lent : Place) where
+  abbrev Fetch : ShelfAnswer → Type 0
+  Fetch a = (r : Result (Bor (List ℕ)) Refused) × (fetched_as r ≡ a) × IfOk r (λ x. LiesAt x (lent holds s) (lies_from s p n) (length x.now))
+
+  pub a_fetch : Fetch (told s (fetch p n))
+  unfolding fetched_as number
+  a_fetch =
+      let w = fetched_lies s p n bytes in
+      fetch_answers (λ a. a ≡ told s (fetch p n) → Fetch a) s (λ q. (Err (no_place Why.Party), refl, tt)) (λ q. (Err (no_place Why.Shelf), refl, tt)) p n
+      (λ q. (Err (no_place Why.Absent), refl, tt))
+      (λ es e o d q.
+      let part : e.block ≡ (told s (fetch p n)).part = ap (λ (a : ShelfAnswer). a.part) q in (
+        Ok (record { ref_ptr = (lent.ptr.0, lent.ptr.1 + lies_from s p n); now = e.block }),
+        refl,
+        record {
+          in_its_memory = refl;
+          from_offset = refl;
+          within = omega (arith, w.within, ap length part);
+          its_bytes = part ∙ w.its_bytes ∙ ap (λ (x : List ℕ). take (length x) (drop (lies_from s p n) s)) (sym part);
+        },
+      ))
+      refl
 
 -- A call by its contract is told and leaves what the definitions say, and so is a history.
 pub record CallIs (s : List ℕ) (c : Call) (a : ShelfAnswer) (s' : List ℕ) : Type 0 where
@@ -181,7 +213,7 @@ call_is s (installs {party = p} {name = n} {b = b} {r = r} l k) = record {
   its_name = l;
 }
 call_is s (fetches {party = p} {name = n} l k) = record {
-  its_answer = λ i. record { number = fetch_number k i; place = fetch_place k i; part = fetch_part k i };
+  its_answer = fetch_says k;
   its_shelf = sym (fetch_leaves s p n);
   its_name = l;
 }

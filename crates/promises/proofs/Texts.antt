@@ -12,7 +12,8 @@ use borrow.Author.Tests.{ltb-true, ltb-false}
 use Rattle.block.specs.Format.{Good, Reading, good, turned_down, reading}
 use Rattle.block.proofs.GoodReadings.{numbers}
 use Rattle.records.specs.Numerals.{Bytes}
-use Rattle.writing.specs.declared.Wrote.{Wrote}
+use Rattle.foldheron.specs.Answers.{Wrote}
+use Rattle.std.specs.Prelude.{Ok}
 use Rattle.writing.specs.Answers.{Writing, writes, refuses, roomed, wrote_values, wrote_owed, out_owed}
 use Rattle.text.specs.Reader.{text_read}
 use Rattle.write_text.specs.WriteText.{text_writing, text_writing_of}
@@ -106,7 +107,7 @@ module _ (b : List ℕ) where
 
   -- "Reading what was written must give back the same block bytes", and 137,305 bytes are enough for any block;
   module _ (bytes : Bytes b) where
-    pub the_text_stands_for_the_block : {n : ℕ} {out out' : List ℕ} → WriteTextCalled b out (Wrote.Bytes n) out' → WroteText b out n out'
+    pub the_text_stands_for_the_block : {n : ℕ} {out out' : List ℕ} → WriteTextCalled b out (Ok n) out' → WroteText b out n out'
     the_text_stands_for_the_block {n} {out} {out'} c =
         let f = written_in_front (text_writing b) (named_text b) out n out' (write_text_says c).0 (write_text_says c).1 in
         record {
@@ -124,8 +125,8 @@ module _ (b : List ℕ) where
         (λ g e l y. let k : ◌≡◌ {A = ℕ} 0 12 = y in omega arith) (sym (ap number_in (write_text_says c).0) ∙ z)
 
 -- and two blocks with one text are one block.
-pub two_blocks_with_one_text_are_one : (b c : List ℕ) → Bytes b → Bytes c → {n m : ℕ} {out out' lent lent' : List ℕ} → WriteTextCalled b out (Wrote.Bytes n) out'
-    → WriteTextCalled c lent (Wrote.Bytes m) lent' → take n out' ≡ take m lent' → b ≡ c
+pub two_blocks_with_one_text_are_one : (b c : List ℕ) → Bytes b → Bytes c → {n m : ℕ} {out out' lent lent' : List ℕ} → WriteTextCalled b out (Ok n) out'
+    → WriteTextCalled c lent (Ok m) lent' → take n out' ≡ take m lent' → b ≡ c
 two_blocks_with_one_text_are_one b c s u {n} {m} {out} {out'} {lent} {lent'} x y e =
     let f = written_in_front (text_writing b) (named_text b) out n out' (write_text_says x).0 (write_text_says x).1 in
     let g = written_in_front (text_writing c) (named_text c) lent m lent' (write_text_says y).0 (write_text_says y).1 in

@@ -28,7 +28,9 @@ use Rattle.reaction.specs.Fronts.{STATE, OTHER_BLOCK, INPUT, Front, ready, front
 use Rattle.reaction.specs.Instants.{CLASH, NOT_CONSTRUCTIVE, block_of, heard_of, goes_on, verdict, told, reacted}
 use Rattle.reaction.specs.declared.Given.TheVariants.{Two}
 use Rattle.reaction.proofs.Cases.{by_front}
-use Rattle.foldheron.specs.declared.say_why.Reason.{Reason}
+use Rattle.foldheron.specs.Answers.{Reason, refusal_at}
+use Rattle.reaction.specs.declared.Stopped.{Stopped}
+use Rattle.std.specs.Prelude.{Ok, Err}
 use Rattle.foldheron.specs.Reasons.{QUESTION, reason_values, named_owed, past_tests, reason_owed}
 use Rattle.promises.specs.Tests.{First}
 use Rattle.promises.specs.Demand1.{IsSo, NotSo, question_test, reason_tests, number_in, place_in, first_in, second_in, PairOf, PlacedBy, in_block, at_0}
@@ -45,6 +47,10 @@ use Rattle.promises.proofs.FirstRefusal.{front_first, same_block, same_state, it
 executed_by_all : (k : Block) (st : State) (heard : Hearing) (a : Answer) → Instant k st heard a → ExecutedByAll k st heard a
 executed_by_all k st heard (answered vs c st' n) i = λ which chosen ch outs d st'' x. executed_in_every_reaction k st heard which i chosen ch x
 executed_by_all k st heard (not_constructive vs n) i = tt
+
+-- A refusal at a place, as an answer.
+abbrev stops : Why → ℕ → Reason
+stops w at = Err (Stopped.Refused (refusal_at w at))
 
 -- What the values of an answer with or without a name begin with.
 named_number : (o : Option ℕ) (n : ℕ) → number_in (named_owed o) ≡ n → (n ≢ 0) → (n ≢ QUESTION) → ⊥
@@ -95,14 +101,14 @@ module _ (b s : List ℕ) (p a : ℕ) (asked : Asked) where
   unfolding past_tests reason_values number said
   a_reason =
       by_front b s (Two p a) (λ (x : Front). (r : Reason) × (reason_values r ≡ past_tests x said))
-      (λ n at e. (Reason.Refused (why_of n) at, ap (λ (m : ℕ). m ∷ at ∷ 0 ∷ 0 ∷ 0 ∷ []) (named_in_block b n at e))) (λ g e. (Reason.Refused Why.State 0, refl))
-      (λ g e. (Reason.Refused Why.OtherBlock 0, refl)) (λ g e st h pair q. (Reason.Clash pair.first pair.second, refl)) (λ g e. (Reason.Refused Why.Input 0, refl))
+      (λ n at e. (stops (why_of n) at, ap (λ (m : ℕ). m ∷ at ∷ 0 ∷ 0 ∷ 0 ∷ []) (named_in_block b n at e))) (λ g e. (stops Why.State 0, refl))
+      (λ g e. (stops Why.OtherBlock 0, refl)) (λ g e st h pair q. (Err (Stopped.Clash pair.first pair.second), refl)) (λ g e. (stops Why.Input 0, refl))
       (λ g e st h. (answer_for (said g st), values_for (said g st)))
 
-  no_clash : (at : ℕ) → reason_values (Reason.Refused Why.Clash at) ≡ reason_owed b s p a asked → ⊥
+  no_clash : (at : ℕ) → reason_values (stops Why.Clash at) ≡ reason_owed b s p a asked → ⊥
   unfolding past_tests reason_values number said
   no_clash =
-      by_front b s (Two p a) (λ (x : Front). (at : ℕ) → reason_values (Reason.Refused Why.Clash at) ≡ past_tests x said → ⊥)
+      by_front b s (Two p a) (λ (x : Front). (at : ℕ) → reason_values (stops Why.Clash at) ≡ past_tests x said → ⊥)
       (λ n at e i d. let h : n ≤ 8 = (numbers b n at e).1 in let z : 10 ≡ n = ap number_in d in omega arith)
       (λ g e i d. let z : ◌≡◌ {A = ℕ} 10 STATE = ap number_in d in omega arith) (λ g e i d. let z : ◌≡◌ {A = ℕ} 10 OTHER_BLOCK = ap number_in d in omega arith)
       (λ g e st h pair q i d. let z : 0 ≡ pair.second = ap second_in d in let l : pair.first < pair.second = second_is_above g.body (active_of st) pair q in omega arith)
@@ -129,17 +135,19 @@ module _ (b s : List ℕ) (p a : ℕ) (asked : Asked) where
       (λ g e st h d. absurd (named_number (said g st) CLASH d (λ z. omega arith) (λ z. omega arith)))
 
 remade : List ℕ → Reason
-remade l = cond (eqb (get_or l 0 0) 0) (Reason.Statement (get_or l 4 0)) (cond (eqb (get_or l 0 0) 10) (Reason.Clash (get_or l 2 0) (get_or l 3 0)) (Reason.Refused (why_of (get_or l 0 0)) (get_or l 1 0)))
+remade l = cond (eqb (get_or l 0 0) 0) (Ok (get_or l 4 0)) (cond (eqb (get_or l 0 0) 10) (Err (Stopped.Clash (get_or l 2 0) (get_or l 3 0))) (stops (why_of (get_or l 0 0)) (get_or l 1 0)))
 
-from_values : (r : Reason) → ((at : ℕ) → r ≢ Reason.Refused Why.Clash at) → remade (reason_values r) ≡ r
+from_values : (r : Reason) → ((at : ℕ) → r ≢ stops Why.Clash at) → remade (reason_values r) ≡ r
 unfolding remade reason_values number
-from_values (Reason.Statement k) c = refl
-from_values (Reason.Clash m n) c = refl
-from_values (Reason.Refused w at) c =
+from_values (Ok k) c = refl
+from_values (Err (Stopped.Clash m n)) c = refl
+from_values (Err (Stopped.Refused r)) c =
+    let w = r.why in
+    let at = r.place in
     let not_0 : eqb (number w) 0 ≡ false = ne_eqb (number w) 0 (number_above w) in
-    let not_10 : eqb (number w) 10 ≡ false = ne_eqb (number w) 10 (λ e. c at (ap (λ (y : Why). Reason.Refused y at) (numbers_differ w Why.Clash e))) in
-    let made : remade (reason_values (Reason.Refused w at)) ≡ Reason.Refused (why_of (number w)) at = simp (not_0, not_10) in
-    made ∙ ap (λ (y : Why). Reason.Refused y at) (why_back w)
+    let not_10 : eqb (number w) 10 ≡ false = ne_eqb (number w) 10 (λ e. c at (ap (λ (y : Why). stops y at) (numbers_differ w Why.Clash e))) in
+    let made : remade (reason_values (stops w at)) ≡ stops (why_of (number w)) at = simp (not_0, not_10) in
+    made ∙ ap (λ (y : Why). stops y at) (why_back w)
 
 pub a_question_has_one_answer : (b s : List ℕ) (p a : ℕ) (asked : Asked) (r q : Reason) → reason_values r ≡ reason_owed b s p a asked → reason_values q ≡ reason_owed b s p a asked → r ≡ q
 a_question_has_one_answer b s p a asked r q e d = sym (is_remade r e) ∙ is_remade q d

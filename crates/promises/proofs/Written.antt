@@ -9,10 +9,11 @@ use native.Mathlib.Omega.{arith}
 use lib.Dec.{ltb}
 use lib.ListN.{length, get_or, take, drop}
 use lib.Seq.{take_at, drop_at}
+use Rattle.std.specs.Prelude.{Ok, Err}
 use Rattle.refusals.specs.Refusals.{number, why_of}
 use Rattle.refusals.specs.declared.Why.TheVariants as Why
 use Rattle.refusals.proofs.Laws.{numbers_differ, number_above}
-use Rattle.writing.specs.declared.Wrote.{Wrote}
+use Rattle.foldheron.specs.Answers.{Wrote, refusal_at}
 use Rattle.writing.specs.Answers.{Writing, writes, refuses, roomed, wrote_values, wrote_owed, out_owed}
 use Rattle.promises.specs.Demand1.{number_in}
 
@@ -21,10 +22,10 @@ nth n l = get_or l n 0
 
 pub wrote_told_apart : (x y : Wrote) → wrote_values x ≡ wrote_values y → x ≡ y
 unfolding wrote_values nth
-wrote_told_apart (Wrote.Bytes n) (Wrote.Bytes k) e = ap Wrote.Bytes (ap (nth 2) e)
-wrote_told_apart (Wrote.Bytes n) (Wrote.Refused w at) e = absurd (number_above w (sym (ap (nth 0) e)))
-wrote_told_apart (Wrote.Refused v at) (Wrote.Bytes k) e = absurd (number_above v (ap (nth 0) e))
-wrote_told_apart (Wrote.Refused v at) (Wrote.Refused w place) e = λ i. Wrote.Refused (numbers_differ v w (ap (nth 0) e) i) (ap (nth 1) e i)
+wrote_told_apart (Ok n) (Ok k) e = ap Ok (ap (nth 2) e)
+wrote_told_apart (Ok n) (Err r) e = absurd (number_above r.why (sym (ap (nth 0) e)))
+wrote_told_apart (Err r) (Ok k) e = absurd (number_above r.why (ap (nth 0) e))
+wrote_told_apart (Err r) (Err q) e = λ i. Err (refusal_at (numbers_differ r.why q.why (ap (nth 0) e) i) (ap (nth 1) e i))
 
 -- A refusal has its name.
 unfoldable pub Named : Writing → Type 0
@@ -33,12 +34,12 @@ Named (refuses n at) = number (why_of n) ≡ n
 
 pub an_answer : (w : Writing) (lent : ℕ) → Named w → (r : Wrote) × (wrote_values r ≡ wrote_owed (roomed w lent))
 unfolding Named wrote_values wrote_owed roomed number
-an_answer (refuses n at) lent h = (Wrote.Refused (why_of n) at, ap (λ (m : ℕ). m ∷ at ∷ 0 ∷ []) h)
+an_answer (refuses n at) lent h = (Err (refusal_at (why_of n) at), ap (λ (m : ℕ). m ∷ at ∷ 0 ∷ []) h)
 an_answer (writes bs) lent h = go (ltb lent (length bs))
   where
     go : (x : Bool) → (r : Wrote) × (wrote_values r ≡ wrote_owed (cond x (refuses 12 0) (writes bs)))
-    go true = (Wrote.Refused Why.Room 0, refl)
-    go false = (Wrote.Bytes (length bs), refl)
+    go true = (Err (refusal_at Why.Room 0), refl)
+    go false = (Ok (length bs), refl)
 
 pub refused_stays : (w : Writing) (out : List ℕ) → number_in (wrote_owed w) ≢ 0 → out_owed w out ≡ out
 unfolding wrote_owed out_owed
@@ -53,7 +54,7 @@ pub record InFront (w : Writing) (out : List ℕ) (n : ℕ) (out' : List ℕ) : 
   pub n_of_them : length (take n out') ≡ n
   pub rest_stays : drop n out' ≡ drop n out
 
-pub written_in_front : (w : Writing) → Named w → (out : List ℕ) (n : ℕ) (out' : List ℕ) → wrote_values (Wrote.Bytes n) ≡ wrote_owed (roomed w (length out))
+pub written_in_front : (w : Writing) → Named w → (out : List ℕ) (n : ℕ) (out' : List ℕ) → wrote_values (Ok n) ≡ wrote_owed (roomed w (length out))
     → out' ≡ out_owed (roomed w (length out)) out → InFront w out n out'
 unfolding Named wrote_values wrote_owed roomed out_owed nth
 written_in_front (refuses k at) h out n out' v q = absurd (number_above (why_of k) (h ∙ sym (ap (nth 0) v)))

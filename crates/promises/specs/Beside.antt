@@ -1,8 +1,8 @@
 -- A run of a block from fresh, as a caller makes it, and the answers of two runs side by side. Assumes nothing.
 use Rattle.std.specs.Prelude.{◌≡◌, List, [], ◌∷◌, ℕ}
-use Rattle.foldheron.specs.declared.Begun.TheVariants.{Fresh}
+use Rattle.std.specs.Prelude.{Ok}
 use Rattle.reaction.specs.declared.Given.{Given}
-use Rattle.reaction.specs.declared.Instant.{Instant}
+use Rattle.foldheron.specs.Answers.{Instant}
 use Rattle.reaction.specs.Instants.{Told}
 use Rattle.reaction.specs.Answers.{instant_told}
 use Rattle.promises.specs.Calls.{FreshCalled, Calls}
@@ -12,7 +12,7 @@ pub record Ran (b : List ℕ) (ws : List Given) (rs : List Instant) : Type 0 whe
   pub lent : List ℕ
   pub begun : List ℕ
   pub left : List ℕ
-  pub fresh_called : FreshCalled b lent Fresh begun
+  pub fresh_called : FreshCalled b lent (Ok tt) begun
   pub instants_called : Calls b begun ws rs left
 
 -- In every instant the two answers are as R says.

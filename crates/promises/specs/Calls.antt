@@ -3,25 +3,26 @@
 -- A further call takes two lines here and two in `proofs/Learnt`. Here it is `Learnt` of its function, of the arguments, the result and the
 -- arguments at exit, each in the order of the parameters; a lent slice or number is `at i holds x`, and where it may be written `at i lends x`, with
 -- x' for x at exit.
-use Rattle.std.specs.Prelude.{cond, List, [], ◌∷◌, ℕ, eqb}
+use Rattle.std.specs.Prelude.{◌≡◌, cond, List, [], ◌∷◌, ℕ, eqb, Result}
 use contract.Lifetimes.{Lfts}
 use Rattle.std.specs.Borrow.{Bor, MutBor}
 use Rattle.refusals.specs.declared.Why.{Why}
-use Rattle.block.specs.declared.whole.Checked.{Checked}
-use Rattle.foldheron.specs.declared.Begun.{Begun}
-use Rattle.foldheron.specs.declared.Part.{Part}
+use Rattle.refusals.specs.declared.Refused.{Refused}
+use Rattle.shelf.specs.Answered.{fetched_as}
+use Rattle.foldheron.specs.Answers.{Checked}
+use Rattle.foldheron.specs.Answers.{Begun}
+use Rattle.foldheron.specs.Answers.{FoundPart, Excerpt, excerpted_as}
 use Rattle.reaction.specs.declared.Given.{Given}
 use Rattle.reaction.specs.declared.Given.TheVariants.{All, Two}
-use Rattle.reaction.specs.declared.Instant.{Instant}
-use Rattle.foldheron.specs.declared.Logged.{Logged}
+use Rattle.foldheron.specs.Answers.{Instant}
+use Rattle.foldheron.specs.Answers.{Logging, answer_in, end_in}
 use Rattle.reasons.specs.declared.asked.Asked.{Asked}
-use Rattle.foldheron.specs.declared.say_why.Reason.{Reason}
-use Rattle.shelf.specs.declared.Shelved.{Shelved}
-use Rattle.alike.specs.declared.Likeness.{Likeness}
-use Rattle.writing.specs.declared.Wrote.{Wrote}
-use Rattle.maze.specs.declared.Maze.{Maze}
+use Rattle.foldheron.specs.Answers.{Reason}
+use Rattle.foldheron.specs.Answers.{Likeness}
+use Rattle.foldheron.specs.Answers.{Wrote}
+use Rattle.foldheron.specs.Answers.{Maze}
 use Rattle.maze.specs.declared.Room.{Room}
-use Rattle.maze.specs.declared.Corridor.{Corridor}
+use Rattle.foldheron.specs.Answers.{FoundCorridor}
 use Rattle.reaction.specs.Answers.{instant_told}
 use Rattle.refusals.proofs.number_of.Reads as refusal_number
 use Rattle.foldheron.proofs.check.Reads as check
@@ -80,12 +81,12 @@ pub record HeardCalled (b s : List ℕ) (p a : ℕ) (r : Instant) (s' : List ℕ
   pub call : Call 2 λ κs at. instant_heard.Learnt κs (at 0 holds b, (at 1 lends s, (p, (a, tt)))) r (at 0 holds b, (at 1 lends s', (p, (a, tt))))
 
 -- `instant_logged`, with a log and its end besides, leaves the log's bytes log' too.
-pub record CalledWithLog (b s : List ℕ) (w : ℕ) (log : List ℕ) (end : ℕ) (r : Logged) (s' log' : List ℕ) : Type 0 where
+pub record CalledWithLog (b s : List ℕ) (w : ℕ) (log : List ℕ) (end : ℕ) (r : Logging) (s' log' : List ℕ) : Type 0 where
   pub call : Call 3 λ κs at.
       instant_logged.Learnt κs (at 0 holds b, (at 1 lends s, (w, (at 2 lends log, (end, tt))))) r (at 0 holds b, (at 1 lends s', (w, (at 2 lends log', (end, tt)))))
 
 -- `instant_heard_logged` likewise.
-pub record HeardCalledWithLog (b s : List ℕ) (p a : ℕ) (log : List ℕ) (end : ℕ) (r : Logged) (s' log' : List ℕ) : Type 0 where
+pub record HeardCalledWithLog (b s : List ℕ) (p a : ℕ) (log : List ℕ) (end : ℕ) (r : Logging) (s' log' : List ℕ) : Type 0 where
   pub call : Call 3 λ κs at.
       instant_heard_logged.Learnt κs (at 0 holds b, (at 1 lends s, (p, (a, (at 2 lends log, (end, tt)))))) r
       (at 0 holds b, (at 1 lends s', (p, (a, (at 2 lends log', (end, tt))))))
@@ -95,40 +96,37 @@ pub data CalledFor (b s : List ℕ) : Given → Instant → List ℕ → Type 0 
   with_set : {w : ℕ} {r : Instant} {s' : List ℕ} → Called b s w r s' → CalledFor b s (All w) r s'
   with_two : {p a : ℕ} {r : Instant} {s' : List ℕ} → HeardCalled b s p a r s' → CalledFor b s (Two p a) r s'
 
-pub data LoggedFor (b s : List ℕ) : Given → List ℕ → ℕ → Logged → List ℕ → List ℕ → Type 0 where
-  with_set : {w : ℕ} {log : List ℕ} {end : ℕ} {r : Logged} {s' log' : List ℕ} → CalledWithLog b s w log end r s' log' → LoggedFor b s (All w) log end r s' log'
-  with_two : {p a : ℕ} {log : List ℕ} {end : ℕ} {r : Logged} {s' log' : List ℕ} → HeardCalledWithLog b s p a log end r s' log'
+pub data LoggedFor (b s : List ℕ) : Given → List ℕ → ℕ → Logging → List ℕ → List ℕ → Type 0 where
+  with_set : {w : ℕ} {log : List ℕ} {end : ℕ} {r : Logging} {s' log' : List ℕ} → CalledWithLog b s w log end r s' log' → LoggedFor b s (All w) log end r s' log'
+  with_two : {p a : ℕ} {log : List ℕ} {end : ℕ} {r : Logging} {s' log' : List ℕ} → HeardCalledWithLog b s p a log end r s' log'
       → LoggedFor b s (Two p a) log end r s' log'
 
 -- `part_of` statement n of b answers r.
-pub record PartCalled (b : List ℕ) (n : ℕ) (r : Part) : Type 0 where
+pub record PartCalled (b : List ℕ) (n : ℕ) (r : FoundPart) : Type 0 where
   pub call : Call 1 λ κs at. block_part.Learnt κs (at 0 holds b, (n, tt)) r (at 0 holds b, (n, tt))
 
--- `excerpt` of statement n of b hands back a part with these bytes, and leaves the number k and the place p in the two that are lent for them.
+-- `excerpt` of statement n of b hands back a part with these bytes, with the number k 0 and the place p 0, or is turned down with number k at place p and has no part.
 pub record ExcerptCalled (b : List ℕ) (n : ℕ) (part : List ℕ) (k p : ℕ) : Type 0 where
-  pub number_before : ℕ
-  pub place_before : ℕ
-  pub call : Call 3 λ κs at.
-      excerpt.Learnt κs (at 0 holds b, (n, (at 1 lends number_before, (at 2 lends place_before, tt)))) (at 3 holds part) (at 0 holds b, (n, (at 1 lends k, (at 2 lends p, tt))))
+  pub answer : Excerpt
+  pub is_told : excerpted_as answer ≡ record { number = k; place = p; part = part }
+  pub call : Call 1 λ κs at. excerpt.Learnt κs (at 0 holds b, (n, tt)) answer (at 0 holds b, (n, tt))
 
 -- `reason` on block b, state's bytes s, the inputs present and the inputs absent, and a question answers r. Nothing that is lent to it may be written.
 pub record ReasonCalled (b s : List ℕ) (p a : ℕ) (asked : Asked) (r : Reason) : Type 0 where
   pub call : Call 2 λ κs at. reason.Learnt κs (at 0 holds b, (at 1 holds s, (p, (a, (asked, tt))))) r (at 0 holds b, (at 1 holds s, (p, (a, (asked, tt)))))
 
 -- `install` of the block b under a party's name on the lent shelf s answers r and leaves s'.
-pub record InstallCalled (s : List ℕ) (party name : ℕ) (b : List ℕ) (r : Shelved) (s' : List ℕ) : Type 0 where
+pub record InstallCalled (s : List ℕ) (party name : ℕ) (b : List ℕ) (r : Result (Unit {0}) Refused) (s' : List ℕ) : Type 0 where
   pub call : Call 2 λ κs at. install.Learnt κs (at 0 lends s, (party, (name, (at 1 holds b, tt)))) r (at 0 lends s', (party, (name, (at 1 holds b, tt))))
 
--- `fetch` of a party's name hands back a part of the shelf s with these bytes, and leaves the number k and the place p in the two that are lent for them.
+-- `fetch` of a party's name hands back a part of the shelf s with these bytes; or it is refused with the number k at the place p, and hands back none.
 pub record FetchCalled (s : List ℕ) (party name : ℕ) (part : List ℕ) (k p : ℕ) : Type 0 where
-  pub number_before : ℕ
-  pub place_before : ℕ
-  pub call : Call 3 λ κs at.
-      fetch.Learnt κs (at 0 holds s, (party, (name, (at 1 lends number_before, (at 2 lends place_before, tt))))) (at 3 holds part)
-      (at 0 holds s, (party, (name, (at 1 lends k, (at 2 lends p, tt)))))
+  pub answer : Result (Bor (List ℕ)) Refused
+  pub is_told : fetched_as answer ≡ record { number = k; place = p; part = part }
+  pub call : Call 1 λ κs at. fetch.Learnt κs (at 0 holds s, (party, (name, tt))) answer (at 0 holds s, (party, (name, tt)))
 
 -- `withdraw` of a party's name on the lent shelf s answers r and leaves s'.
-pub record WithdrawCalled (s : List ℕ) (party name : ℕ) (r : Shelved) (s' : List ℕ) : Type 0 where
+pub record WithdrawCalled (s : List ℕ) (party name : ℕ) (r : Result (Unit {0}) Refused) (s' : List ℕ) : Type 0 where
   pub call : Call 1 λ κs at. withdraw.Learnt κs (at 0 lends s, (party, (name, tt))) r (at 0 lends s', (party, (name, tt)))
 
 -- `alike` of two blocks on the lent bytes run answers r and leaves run'.
@@ -157,7 +155,7 @@ pub record MazeCalled (b : List ℕ) (set : ℕ) (r : Maze) : Type 0 where
   pub call : Call 1 λ κs at. maze.Learnt κs (at 0 holds b, (set, tt)) r (at 0 holds b, (set, tt))
 
 -- `corridor` number n of a room of that maze answers r.
-pub record CorridorCalled (b : List ℕ) (set : ℕ) (room : Room) (n : ℕ) (r : Corridor) : Type 0 where
+pub record CorridorCalled (b : List ℕ) (set : ℕ) (room : Room) (n : ℕ) (r : FoundCorridor) : Type 0 where
   pub call : Call 1 λ κs at. corridor.Learnt κs (at 0 holds b, (set, (room, (n, tt)))) r (at 0 holds b, (set, (room, (n, tt))))
 
 -- `number_of` a refusal answers k.
@@ -170,11 +168,11 @@ pub data Calls (b : List ℕ) : List ℕ → List Given → List Instant → Lis
   one_more : {s s₁ s' : List ℕ} {ws : List Given} {w : Given} {r : Instant} {rs : List Instant} → CalledFor b s w r s₁ → Calls b s₁ ws rs s' → Calls b s (w ∷ ws) (r ∷ rs) s'
 
 -- The end that a caller goes on from: the new one after an answer, and its own after a refusal.
-unfoldable pub went_on : ℕ → Logged → ℕ
-went_on end r = cond (eqb (instant_told r.answer).number 0) r.end end
+unfoldable pub went_on : ℕ → Logging → ℕ
+went_on end r = cond (eqb (instant_told (answer_in r)).number 0) (end_in r) end
 
 -- Calls with a log one after the other, each on the bytes of state and log that the call before left: from s, log and end to s', log' and end'.
-pub data LoggedCalls (b : List ℕ) : List ℕ → List ℕ → ℕ → List Given → List Logged → List ℕ → List ℕ → ℕ → Type 0 where
+pub data LoggedCalls (b : List ℕ) : List ℕ → List ℕ → ℕ → List Given → List Logging → List ℕ → List ℕ → ℕ → Type 0 where
   no_call : {s log : List ℕ} {end : ℕ} → LoggedCalls b s log end [] [] s log end
-  one_more : {s s₁ s' log log₁ log' : List ℕ} {ws : List Given} {end end' : ℕ} {w : Given} {r : Logged} {rs : List Logged} → LoggedFor b s w log end r s₁ log₁
+  one_more : {s s₁ s' log log₁ log' : List ℕ} {ws : List Given} {end end' : ℕ} {w : Given} {r : Logging} {rs : List Logging} → LoggedFor b s w log end r s₁ log₁
       → LoggedCalls b s₁ log₁ (went_on end r) ws rs s' log' end' → LoggedCalls b s log end (w ∷ ws) (r ∷ rs) s' log' end'

@@ -4,10 +4,10 @@ use Rattle.rules.specs.States.{State, fresh}
 use Rattle.rules.specs.Rounds.{Answer}
 use Rattle.theorems.specs.Traces.{after}
 use Rattle.block.specs.Format.{LIMIT, Header}
-use Rattle.block.specs.declared.whole.Checked.{Checked}
-use Rattle.block.specs.declared.whole.Checked.TheVariants.{Good as GoodOne}
+use Rattle.foldheron.specs.Answers.{Checked}
+use Rattle.std.specs.Prelude.{Ok}
 use Rattle.block.specs.declared.whole.Summary.{Summary}
-use Rattle.writing.specs.declared.Wrote.{Wrote}
+use Rattle.foldheron.specs.Answers.{Wrote}
 use Rattle.writing.specs.Answers.{wrote_values}
 use Rattle.writing.specs.Written.{block_bytes}
 use Rattle.foldheron.specs.Answers.{check_values}
@@ -20,7 +20,7 @@ use Rattle.reaction.specs.Fronts.{INPUT, wrong_inputs}
 use Rattle.reaction.specs.Instants.{ROOM, Told, told_refusal, told_reaction, heard_in}
 use Rattle.reaction.specs.Answers.{instant_told}
 use Rattle.reaction.specs.declared.Given.{Given}
-use Rattle.reaction.specs.declared.Instant.{Instant}
+use Rattle.foldheron.specs.Answers.{Instant}
 use Rattle.promises.specs.Calls.{CheckCalled}
 use Rattle.promises.specs.Tests.{Test}
 use Rattle.promises.specs.Demand1.{one_to_8, number_in}
@@ -53,7 +53,7 @@ wide_block h p = record { inputs = h.inputs; outputs = h.outputs; body = p }
 -- `check` says Good, with the version, inputs, outputs and locals of this header.
 pub record GoodWith (h : Header) (r : Checked) : Type 0 where
   pub says : Summary
-  pub is_good : r ≡ GoodOne says
+  pub is_good : r ≡ Ok says
   pub version_kept : says.version ≡ h.version
   pub inputs_kept : says.inputs ≡ h.inputs
   pub outputs_kept : says.outputs ≡ h.outputs

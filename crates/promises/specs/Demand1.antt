@@ -20,7 +20,7 @@ use Rattle.reaction.specs.Fronts.{STATE, OTHER_BLOCK, INPUT}
 use Rattle.reaction.specs.Instants.{CLASH, ROOM, NOT_CONSTRUCTIVE, block_of, Told, heard_in, heard_of}
 use Rattle.reaction.specs.declared.Given.{Given}
 use Rattle.reaction.specs.declared.Given.TheVariants.{All, Two}
-use Rattle.foldheron.specs.declared.Logged.{Logged}
+use Rattle.foldheron.specs.Answers.{Logging, answer_in}
 use Rattle.foldheron.specs.Reasons.{QUESTION}
 use Rattle.reaction.specs.Answers.{instant_told}
 use Rattle.promises.specs.Tests.{Test}
@@ -211,10 +211,10 @@ record_of k w t = log_record (record {
   rounds = t.rounds;
 })
 
-unfoldable pub records : Block → List Given → List Logged → List ℕ
+unfoldable pub records : Block → List Given → List Logging → List ℕ
 records k [] rs = []
 records k (w ∷ ws) [] = []
-records k (w ∷ ws) (r ∷ rs) = cond (eqb (instant_told r.answer).number 0) (record_of k w (instant_told r.answer)) [] ++ records k ws rs
+records k (w ∷ ws) (r ∷ rs) = cond (eqb (instant_told (answer_in r)).number 0) (record_of k w (instant_told (answer_in r))) [] ++ records k ws rs
 
 -- The block that was read; of one that is turned down nothing is logged.
 abbrev pub block_read : Reading → Block
@@ -253,7 +253,7 @@ pub record PairOf (b s : List ℕ) (m n : ℕ) : Type 0 where
 
 -- What is promised of the log over a run: the records of its answered instants stand one after the other from the first end on, and all else is
 -- as it was; the caller's end lies behind the last of them.
-pub record LoggedRun (k : Block) (log : List ℕ) (end : ℕ) (ws : List Given) (rs : List Logged) (log' : List ℕ) (end' : ℕ) : Type 0 where
+pub record LoggedRun (k : Block) (log : List ℕ) (end : ℕ) (ws : List Given) (rs : List Logging) (log' : List ℕ) (end' : ℕ) : Type 0 where
   pub log_is : log' ≡ written_from end (records k ws rs) log
   pub end_is : end' ≡ end + length (records k ws rs)
   pub same_length : length log' ≡ length log

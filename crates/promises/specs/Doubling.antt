@@ -1,17 +1,17 @@
 -- The block that `double_loops` writes, over the calls: what is promised of it, and the tests of the call in their order. Assumes nothing.
 use Rattle.std.specs.Prelude.{◌≡◌, ◌≢◌, false, List, [], ◌∷◌, ◌++◌, ℕ, ◌<◌, length, take, drop}
 use Rattle.block.specs.Format.{LIMIT, Good, good, reading}
-use Rattle.block.specs.declared.whole.Checked.{Checked}
-use Rattle.block.specs.declared.whole.Checked.TheVariants.{Good as GoodOne}
+use Rattle.foldheron.specs.Answers.{Checked}
+use Rattle.std.specs.Prelude.{Ok}
 use Rattle.block.specs.declared.whole.Summary.{Summary}
-use Rattle.writing.specs.declared.Wrote.{Wrote}
+use Rattle.foldheron.specs.Answers.{Wrote}
 use Rattle.writing.specs.Answers.{wrote_values}
 use Rattle.foldheron.specs.Answers.{check_values}
 use Rattle.writing.specs.Written.{block_bytes}
 use Rattle.doubled.specs.Copies.{doubled, doubled_header, within_limits}
 use Rattle.reaction.specs.Instants.{ROOM}
 use Rattle.reaction.specs.declared.Given.{Given}
-use Rattle.reaction.specs.declared.Instant.{Instant}
+use Rattle.foldheron.specs.Answers.{Instant}
 use Rattle.promises.specs.Calls.{CheckCalled}
 use Rattle.promises.specs.Tests.{Test}
 use Rattle.promises.specs.Demand1.{block_tests, number_in}
@@ -20,14 +20,14 @@ use Rattle.promises.specs.Beside.{Ran, Each, SameButActive}
 -- `check` says Good, with the version, the inputs and the outputs that it said of the block itself.
 pub record GoodToo (said : Summary) (r : Checked) : Type 0 where
   pub says : Summary
-  pub is_good : r ≡ GoodOne says
+  pub is_good : r ≡ Ok says
   pub version_kept : says.version ≡ said.version
   pub inputs_kept : says.inputs ≡ said.inputs
   pub outputs_kept : says.outputs ≡ said.outputs
 
 -- The bytes written are a good block's, and under any run of calls from fresh, undeclared inputs too, both blocks are told the same: outputs, code, 13, final statuses and rounds.
 pub record SameBlockDoubled (b written : List ℕ) : Type 0 where
-  pub is_good : {said : Summary} {r : Checked} → CheckCalled b (GoodOne said) → CheckCalled written r → GoodToo said r
+  pub is_good : {said : Summary} {r : Checked} → CheckCalled b (Ok said) → CheckCalled written r → GoodToo said r
   pub same_answers : (ws : List Given) (rs rs' : List Instant) → Ran b ws rs → Ran written ws rs' → Each SameButActive rs rs'
 
 -- Of n bytes written: they stand in front of the lent bytes, and those behind them stay.

@@ -3,14 +3,15 @@ use Rattle.std.specs.Prelude.{◌≡◌, ◌⊎◌, ◌≢◌, List, [], ◌∷�
 use Rattle.refusals.specs.Refusals.{number}
 use Rattle.block.specs.Format.{Good, good, reading}
 use Rattle.reaction.specs.declared.Given.TheVariants.{All}
-use Rattle.reaction.specs.declared.Instant.{Instant}
+use Rattle.foldheron.specs.Answers.{Instant}
 use Rattle.reaction.specs.Instants.{ROOM, block_of}
 use Rattle.pairs.specs.Runs.{Over}
 use Rattle.pairs.specs.Blocks.{comparison}
 use Rattle.alike.specs.Ends.{most}
 use Rattle.alike.specs.Calls.{INTERFACE, WIDE, PAIRS}
-use Rattle.alike.specs.declared.Likeness.{Likeness}
-use Rattle.alike.specs.declared.Likeness.TheVariants as told
+use Rattle.foldheron.specs.Answers.{Likeness}
+use Rattle.alike.specs.declared.NotCompared.TheVariants as told
+use Rattle.std.specs.Prelude.{Ok, Err, Some, None}
 use Rattle.promises.specs.Tests.{Test}
 use Rattle.promises.specs.FirstRecord.{Decides}
 use Rattle.promises.specs.Demand1.{block_tests}
@@ -39,19 +40,19 @@ pub record FirstDifference (first second ws : List ℕ) : Type 0 where
 -- What is promised of an answer, and of the lent bytes. Alike: under every run, whatever its sets; an undeclared one is told 11 by both, which keeps their states.
 -- Different: the first n bytes are now the run, one byte a set, and those behind them stay.
 abbrev pub TrueLikeness : (first second run : List ℕ) → Likeness → List ℕ → Type 0
-TrueLikeness first second run told.Alike run' = ((ws : List ℕ) → AgreeUnder first second ws) × (run' ≡ run)
-TrueLikeness first second run (told.Different n) run' = FirstDifference first second (take n run') × (length (take n run') ≡ n) × (drop n run' ≡ drop n run)
-TrueLikeness first second run (told.First w at) run' = Decides first (number w) at × (run' ≡ run)
-TrueLikeness first second run (told.Second w at) run' = ((g : Good) × (reading first ≡ good g)) × Decides second (number w) at × (run' ≡ run)
-TrueLikeness first second run (told.Refused w) run' = run' ≡ run
+TrueLikeness first second run (Ok None) run' = ((ws : List ℕ) → AgreeUnder first second ws) × (run' ≡ run)
+TrueLikeness first second run (Ok (Some n)) run' = FirstDifference first second (take n run') × (length (take n run') ≡ n) × (drop n run' ≡ drop n run)
+TrueLikeness first second run (Err (told.First r)) run' = Decides first (number r.why) r.place × (run' ≡ run)
+TrueLikeness first second run (Err (told.Second r)) run' = ((g : Good) × (reading first ≡ good g)) × Decides second (number r.why) r.place × (run' ≡ run)
+TrueLikeness first second run (Err (told.Both w)) run' = run' ≡ run
 
 -- The number of an answer, 0 where it is no refusal.
 abbrev pub likeness_number : Likeness → ℕ
-likeness_number told.Alike = 0
-likeness_number (told.Different n) = 0
-likeness_number (told.First w at) = number w
-likeness_number (told.Second w at) = number w
-likeness_number (told.Refused w) = number w
+likeness_number (Ok None) = 0
+likeness_number (Ok (Some n)) = 0
+likeness_number (Err (told.First r)) = number r.why
+likeness_number (Err (told.Second r)) = number r.why
+likeness_number (Err (told.Both w)) = number w
 
 -- Two good blocks of these bytes.
 pub record BothGood (first second : List ℕ) : Type 0 where

@@ -10,10 +10,9 @@ use Rattle.mazes.specs.Mazes.{OfForm, Room, maze_of, nth}
 use Rattle.maze.specs.Views.{FORM, Shows}
 use Rattle.maze.specs.Ways.{Way, no_room, way_by, has_room}
 use Rattle.maze.specs.declared.Rooms.{Rooms}
-use Rattle.maze.specs.declared.Maze.{Maze}
-use Rattle.maze.specs.declared.Maze.TheVariants as maze
-use Rattle.maze.specs.declared.Corridor.{Corridor}
-use Rattle.maze.specs.declared.Corridor.TheVariants as corridor
+use Rattle.foldheron.specs.Answers.{Maze}
+use Rattle.std.specs.Prelude.{Ok, Err}
+use Rattle.foldheron.specs.Answers.{FoundCorridor}
 use Rattle.promises.specs.Tests.{Test}
 use Rattle.promises.specs.Demand1.{block_tests, input_test}
 
@@ -49,23 +48,17 @@ abbrev pub maze_tests : List ℕ → ℕ → List Test
 maze_tests b set = block_tests b ++ input_test b (All set) ∷ record { number = FORM; Applies = OtherForm b } ∷ []
 
 abbrev pub maze_number : Maze → ℕ
-maze_number (maze.Rooms r) = 0
-maze_number (maze.Refused w at) = number w
+maze_number (Ok r) = 0
+maze_number (Err e) = number e.why
 
 abbrev pub maze_place : Maze → ℕ
-maze_place (maze.Rooms r) = 0
-maze_place (maze.Refused w at) = at
+maze_place (Ok r) = 0
+maze_place (Err e) = e.place
 
-abbrev pub corridor_number : Corridor → ℕ
-corridor_number (corridor.Visible r) = 0
-corridor_number (corridor.Secret r) = 0
-corridor_number corridor.NoMore = 0
-corridor_number corridor.NoRoom = 0
-corridor_number (corridor.Refused w at) = number w
+abbrev pub corridor_number : FoundCorridor → ℕ
+corridor_number (Ok c) = 0
+corridor_number (Err e) = number e.why
 
-abbrev pub corridor_place : Corridor → ℕ
-corridor_place (corridor.Visible r) = 0
-corridor_place (corridor.Secret r) = 0
-corridor_place corridor.NoMore = 0
-corridor_place corridor.NoRoom = 0
-corridor_place (corridor.Refused w at) = at
+abbrev pub corridor_place : FoundCorridor → ℕ
+corridor_place (Ok c) = 0
+corridor_place (Err e) = e.place

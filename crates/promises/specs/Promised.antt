@@ -20,8 +20,8 @@ use Rattle.records.specs.StateRecord.{state, state_record, read_state, names_blo
 use Rattle.reaction.specs.Instants.{NOT_CONSTRUCTIVE, block_of, reacted, Told, told, state_after, log_by, end_by, verdict, heard_of}
 use Rattle.reaction.specs.declared.Given.{Given}
 use Rattle.reaction.specs.declared.Given.TheVariants.{All}
-use Rattle.reaction.specs.declared.Instant.{Instant}
-use Rattle.foldheron.specs.declared.Logged.{Logged}
+use Rattle.foldheron.specs.Answers.{Instant}
+use Rattle.foldheron.specs.Answers.{Logging, answer_in, end_in}
 use Rattle.reaction.specs.Answers.{instant_told}
 
 -- A block that `check` answered Good to, with what it said of it: the bytes have one reading, and it is good.
@@ -120,9 +120,9 @@ pub record Alike (t t' : Told) : Type 0 where
   pub same_active : t'.active ≡ t.active
 
 -- What is promised of an instant with a log that has room: the answer as without a log, and the log and its end by the rules' answer.
-pub record PromisedLogged (g : Good) (s : List ℕ) (st : State) (w : Inputs g) (log : List ℕ) (end : ℕ) (r : Logged) (s' log' : List ℕ) : Type 0 where
-  pub answer : PromisedAnswer g s st w (instant_told r.answer) s'
-  pub end_is : r.end ≡ end_by end (rules_answer g st w)
+pub record PromisedLogged (g : Good) (s : List ℕ) (st : State) (w : Inputs g) (log : List ℕ) (end : ℕ) (r : Logging) (s' log' : List ℕ) : Type 0 where
+  pub answer : PromisedAnswer g s st w (instant_told (answer_in r)) s'
+  pub end_is : end_in r ≡ end_by end (rules_answer g st w)
   pub log_is : log' ≡ log_by log end w.given (block_of g) (rules_answer g st w)
 
 -- What is promised of calls one after the other: at each of them what is promised of one, from the state that the rules arrived at.

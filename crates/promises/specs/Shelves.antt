@@ -1,11 +1,11 @@
 -- The calls on one shelf of two parties: the tests of an install, a fetch and a withdrawal, each on its own and in the request's words; histories of calls, each on
 -- the bytes that the call before left; and what one party is told in them. Assumes nothing.
-use Rattle.std.specs.Prelude.{◌≡◌, cond, List, [], ◌∷◌, ◌++◌, ℕ, ◌+◌, ◌≤◌, ◌<◌, T, length}
+use Rattle.std.specs.Prelude.{◌≡◌, cond, List, [], ◌∷◌, ◌++◌, ℕ, ◌+◌, ◌≤◌, ◌<◌, T, length, Result}
 use Rattle.shelf.specs.Entries.{QUOTA_SIZE, Entry, in_use, shelf_of, own, taken, Legal}
 use Rattle.shelf.specs.Calls.{PARTY, SHELF, TAKEN, QUOTA, ABSENT, Call, install, fetch, withdraw, ShelfAnswer}
 use Rattle.shelf.specs.Histories.{is_of, Said}
 use Rattle.shelf.specs.Answered.{shelved_values}
-use Rattle.shelf.specs.declared.Shelved.{Shelved}
+use Rattle.refusals.specs.declared.Refused.{Refused}
 use Rattle.promises.specs.Tests.{Test}
 use Rattle.promises.specs.FirstRecord.{Decides}
 use Rattle.promises.specs.Demand1.{block_tests, number_in, place_in}
@@ -69,16 +69,16 @@ pub record PlacedInBlock (b : List ℕ) (k p : ℕ) : Type 0 where
   pub else_0 : (1 ≤ k → k ≤ 8 → ⊥) → p ≡ 0
 
 -- What an install or a withdrawal tells: it hands nothing back.
-unfoldable pub answer_of : Shelved → ShelfAnswer
+unfoldable pub answer_of : Result (Unit {0}) Refused → ShelfAnswer
 answer_of r = record { number = number_in (shelved_values r); place = place_in (shelved_values r); part = [] }
 
 -- A call on the shelf s was made with its arguments, told an answer and left a shelf. A name is a number of two bytes, as its parameter is.
 pub data ShelfCalled (s : List ℕ) : Call → ShelfAnswer → List ℕ → Type 0 where
-  installs : {party name : ℕ} {b : List ℕ} {r : Shelved} {s' : List ℕ} → name < 65536 → InstallCalled s party name b r s'
+  installs : {party name : ℕ} {b : List ℕ} {r : Result (Unit {0}) Refused} {s' : List ℕ} → name < 65536 → InstallCalled s party name b r s'
       → ShelfCalled s (install party name b) (answer_of r) s'
   fetches : {party name k p : ℕ} {part : List ℕ} → name < 65536 → FetchCalled s party name part k p
       → ShelfCalled s (fetch party name) (record { number = k; place = p; part = part }) s
-  withdraws : {party name : ℕ} {r : Shelved} {s' : List ℕ} → name < 65536 → WithdrawCalled s party name r s'
+  withdraws : {party name : ℕ} {r : Result (Unit {0}) Refused} {s' : List ℕ} → name < 65536 → WithdrawCalled s party name r s'
       → ShelfCalled s (withdraw party name) (answer_of r) s'
 
 -- Calls one after the other, each on the shelf that the call before left: from s, with their answers, to s'.

@@ -3,7 +3,8 @@ use Rattle.std.specs.Prelude.{◌≡◌, List, [], ◌∷◌, ◌++◌, ℕ, ◌
 use Rattle.std.proofs.Math.Option.{some}
 use Rattle.block.specs.Format.{Good, good, reading}
 use Rattle.writing.specs.Answers.{writes}
-use Rattle.writing.specs.declared.Wrote.{Wrote}
+use Rattle.foldheron.specs.Answers.{Wrote}
+use Rattle.std.specs.Prelude.{Ok}
 use Rattle.text.specs.Tokens.{tokens}
 use Rattle.text.specs.Grammar.{Text, spelt}
 use Rattle.text.specs.Meaning.{Blocked, text_means}
@@ -56,5 +57,5 @@ pub record ReadText (text out : List ℕ) (n : ℕ) (out' : List ℕ) : Type 0 w
 
 -- A call that gave back a block.
 pub record GaveBack (b lent : List ℕ) (r : Wrote) (lent' : List ℕ) : Type 0 where
-  pub answer_is : r ≡ Wrote.Bytes (length b)
+  pub answer_is : r ≡ Ok (length b)
   pub bytes_are : lent' ≡ b ++ drop (length b) lent

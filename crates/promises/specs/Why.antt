@@ -1,5 +1,5 @@
 -- What is promised of an answer to a question about an instant, on the caller's bytes. Assumes nothing.
-use Rattle.std.specs.Prelude.{◌≡◌, Bool, List, ℕ}
+use Rattle.std.specs.Prelude.{◌≡◌, Bool, List, ℕ, Ok, Err}
 use Rattle.std.proofs.Math.Option.{Option, none, some}
 use Rattle.refusals.specs.declared.Why.TheVariants.{Question}
 use Rattle.sets.specs.Numbers.{Numbers}
@@ -16,14 +16,14 @@ use Rattle.theorems.specs.Why.{TrueReason}
 use Rattle.block.specs.Format.{Good}
 use Rattle.reaction.specs.declared.Given.{Given}
 use Rattle.reaction.specs.Instants.{block_of, heard_of}
-use Rattle.foldheron.specs.declared.say_why.Reason.{Reason}
-use Rattle.foldheron.specs.declared.say_why.Reason.TheVariants.{Statement, Refused}
+use Rattle.foldheron.specs.Answers.{Reason, refusal_at}
+use Rattle.reaction.specs.declared.Stopped.TheVariants.{Refused}
 use Rattle.promises.specs.Demand1.{HeldBy}
 
 -- The answer that names a statement, and the one that names none: the thing asked about is not so, 16 at place 0.
 abbrev pub answer_for : Option ℕ → Reason
-answer_for (some k) = Statement k
-answer_for none = Refused Question 0
+answer_for (some k) = Ok k
+answer_for none = Err (Refused (refusal_at Question 0))
 
 -- In an answered instant, whatever the inputs not heard turn out to be, every coherent reaction executes what is told as executed, and nothing else.
 abbrev pub ExecutedByAll : Block → State → Hearing → Answer → Type 0

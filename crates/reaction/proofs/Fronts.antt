@@ -6,38 +6,42 @@ use mathlib.Core.Option.{Option}
 use Prim.Native.Nat.{ℕ, ◌+◌, ◌≤◌, ◌<◌}
 use native.Mathlib.Omega.{arith}
 use lib.Dec.{T}
+use Rattle.std.specs.Prelude.{Option as Perhaps, Some, None, Result, Ok, Err}
 use Rattle.refusals.specs.Refusals.{number}
+use Rattle.refusals.specs.declared.Refused.{Refused}
 use Rattle.refusals.specs.declared.Why.{Why}
-use Rattle.refusals.specs.declared.Why.TheVariants as Why
 use Rattle.sets.specs.Words.{set_of}
 use Rattle.rules.specs.Statements.{Block}
-use Rattle.rules.specs.States.{State, fresh, running, finished, phase_of, active_of}
-use Rattle.tables.specs.Table.{Table, statements}
+use Rattle.rules.specs.States.{State, fresh, running, finished, active_of}
+use Rattle.tables.specs.Table.{statements}
+use Rattle.tables.specs.declared.Table.{Table}
 use Rattle.block.specs.Format.{Good, Reading, good, reading}
 use Rattle.block.specs.Told.{ReadWhole}
-use Rattle.block.specs.declared.whole.Checked.{Checked}
-use Rattle.block.specs.declared.whole.Checked.TheVariants.{Good as GoodBlock, Refused as RefusedBlock}
 use Rattle.block.specs.declared.whole.Summary.{Summary}
 use Rattle.block.proofs.Answered.{was_good, was_turned_down, has_body}
 use Rattle.block.proofs.GoodReadings.{Sound, sound}
 use Rattle.records.specs.Numerals.{Bytes}
-use Rattle.records.specs.StateRecord.{Found, not_a_state, state, read_state, names_block, Pair as Pairing, first_clash}
-use Rattle.records.specs.Held.{held_of}
+use Rattle.records.specs.StateRecord.{Found, state, read_state, names_block, Pair as Pairing, first_clash}
+use Rattle.records.specs.Held.{phase_held, held_of}
 use Rattle.records.specs.declared.state.Held.{Held}
-use Rattle.records.proofs.Answers.{held_fresh, held_running, held_finished, held_set, held_in_block}
+use Rattle.records.proofs.Answers.{held_none, held_some, held_set, held_in_block}
 use Rattle.records.specs.Clashing.{pair_of, Searchable, Bounded}
-use Rattle.records.specs.declared.clash.Clash.{Clash as Clashing}
-use Rattle.records.specs.declared.clash.Clash.TheVariants.{None, Pair}
 use Rattle.forms.specs.Forms.{At}
-use Rattle.evaluate.specs.Reacts as evaluate
-use Rattle.evaluate.specs.declared.rounds.Phase.{Phase}
-use Rattle.evaluate.specs.declared.rounds.Phase.TheVariants.{Fresh, Running, Finished}
+use Rattle.evaluate.specs.Reacts.{state_of}
 use Rattle.reaction.specs.declared.Given.{Given}
 use Rattle.reaction.specs.declared.Grounds.{Grounds}
-use Rattle.reaction.specs.declared.Met.TheVariants.{Refused, Clash, Ready}
-use Rattle.reaction.specs.Fronts.{Front, stopped, ready, wrong_inputs, try_inputs, try_clash, clash_tried, try_names, try_state, try_block, front}
+use Rattle.reaction.specs.declared.Stopped.{Stopped}
+use Rattle.reaction.specs.declared.Stopped.TheVariants as halt
+use Rattle.reaction.specs.Fronts.{stopped, ready, wrong_inputs, try_inputs, try_clash, clash_tried, try_names, try_state, try_block, front}
 use Rattle.reaction.specs.Instants.{block_of}
 use Rattle.reaction.specs.Outcomes.{Opened, Begins, Means, Meets}
+
+-- the state that a phase and its active pauses stand for
+phase_state : (st : State) {A : _} → A ≡ active_of st → st ≡ state_of (phase_held st) A
+unfolding phase_held active_of
+phase_state fresh e = refl
+phase_state (running X) e = ap running (sym e)
+phase_state finished e = refl
 
 -- what a block that was read gives: it is placed in the table, and its numbers are within bounds
 module _ {tab : Table} {s : Summary} {g : Good} (o : Opened tab s g) where
@@ -62,24 +66,6 @@ module _ {tab : Table} {s : Summary} {g : Good} (o : Opened tab s g) where
   pub same_block : ◌≡◌ {A = Block} (record { inputs = s.inputs; outputs = s.outputs; body = g.body }) (block_of g)
   same_block = λ i. record { inputs = (o.summed i).inputs; outputs = (o.summed i).outputs; body = g.body }
 
-  -- the inputs that are given
-  module _ (st : State) (given : Given) where
-    its_test : wrong_inputs s.inputs given ≡ wrong_inputs g.header.inputs given
-    its_test = ap (λ (x : Summary). wrong_inputs x.inputs given) o.summed
-
-    pub input_way : {x : Bool} {r : Grounds} → x ≡ wrong_inputs s.inputs given → x ≡ true → r.met ≡ Refused Why.Input 0 → Meets (try_inputs g st given) tab r
-    unfolding try_inputs Means number
-    input_way {x} {r} d t e =
-        subst (λ (x : Bool). Meets (cond x (stopped 11 0) (ready g st)) tab r) (sym t ∙ d ∙ its_test)
-        (record { means = record { why = Why.Input; is_refused = e; its_number = refl } })
-
-    pub passed_way : {x : Bool} {phase : Phase} {set : List ℕ} → x ≡ wrong_inputs s.inputs given → x ≡ false → Begins st phase set
-        → Meets (try_inputs g st given) tab (record { met = Ready s phase; active = set })
-    unfolding try_inputs Means
-    passed_way {x} {phase} {set} d f b =
-        subst (λ (x : Bool). Meets (cond x (stopped 11 0) (ready g st)) tab (record { met = Ready s phase; active = set })) (sym f ∙ d ∙ its_test)
-        (record { means = record { summary = s; phase = phase; is_ready = refl; opened = o; begins = b } })
-
   -- the search for a clash may begin
   pub searchable : (set : List ℕ) → ((k : ℕ) → T (set_of set k) → k < g.pauses) → Searchable tab.kinds tab.sizes s.statements set g.body
   searchable set h = record {
@@ -96,113 +82,99 @@ module _ {tab : Table} {s : Summary} {g : Good} (o : Opened tab s g) where
       let e : g.pauses ≡ s.pauses = sym (ap (λ (x : Summary). x.pauses) o.summed) in
       record { bound = λ n t. subst (λ (k : ℕ). n < k) e (h n t); width = subst (λ (k : ℕ). k ≤ 128) e facts.few_pauses }
 
-  module _ (st : State) (given : Given) {phase : Phase} {set : List ℕ} (begins : Begins st phase set) where
-    its_clash : first_clash g.body (set_of set) ≡ first_clash g.body (active_of st)
-    its_clash = ap (first_clash g.body) begins.set_is
-
-    pub pair_way : {x : Clashing} {m n : ℕ} {r : Grounds} → x ≡ Pair m n → pair_of x ≡ first_clash g.body (set_of set) → r.met ≡ Clash m n
-        → Meets (clash_tried g st given) tab r
-    unfolding pair_of try_clash Means
-    pair_way {x} {m} {n} {r} d e c = subst (λ (x : Option Pairing). Meets (try_clash g st given x) tab r) (ap pair_of (sym d) ∙ e ∙ its_clash) (record { means = c })
-
-    pub clear_way : {x : Clashing} {r : Grounds} → x ≡ None → pair_of x ≡ first_clash g.body (set_of set) → Meets (try_inputs g st given) tab r
-        → Meets (clash_tried g st given) tab r
-    unfolding pair_of try_clash
-    clear_way {x} {r} d e h = subst (λ (x : Option Pairing). Meets (try_clash g st given x) tab r) (ap pair_of (sym d) ∙ e ∙ its_clash) h
-
-  -- the block that the record names
-  module _ (st : State) (bs : List ℕ) (given : Given) {x : Bool} (d : x ≡ names_block s.version s.statements bs) where
-    its_names : x ≡ names_block g.header.version g.statements bs
-    its_names = d ∙ ap (λ (y : Summary). names_block y.version y.statements bs) o.summed
-
-    pub named_way : {r : Grounds} → x ≡ true → Meets (clash_tried g st given) tab r → Meets (try_names g st bs given) tab r
-    unfolding try_names
-    named_way {r} t m = subst (λ (y : Bool). Meets (cond y (clash_tried g st given) (stopped 17 0)) tab r) (sym t ∙ its_names) m
-
-    pub other_way : {r : Grounds} → x ≡ false → r.met ≡ Refused Why.OtherBlock 0 → Meets (try_names g st bs given) tab r
-    unfolding try_names Means number
-    other_way {r} f e =
-        subst (λ (y : Bool). Meets (cond y (clash_tried g st given) (stopped 17 0)) tab r) (sym f ∙ its_names)
-        (record { means = record { why = Why.OtherBlock; is_refused = e; its_number = refl } })
-
-  -- a state was looked for in the lent bytes
-  module _ (bs : List ℕ) (bytes : Bytes bs) (h : Held) (held : h ≡ held_of (read_state s.pauses bs)) where
-    found : h ≡ held_of (read_state g.pauses bs)
+  -- a state was found in the lent bytes
+  module _ (bs : List ℕ) (bytes : Bytes bs) {p : Perhaps Held} (held : p ≡ held_of (read_state s.pauses bs)) where
+    found : p ≡ held_of (read_state g.pauses bs)
     found = held ∙ ap (λ (x : Summary). held_of (read_state x.pauses bs)) o.summed
 
-    -- and found, in this phase
-    pub record Took (phase : Phase) : Type 0 where
+    pub record Took (h : Held) : Type 0 where
       pub st : State
       pub its_state : read_state g.pauses bs ≡ state st
-      pub begins : Begins st phase h.active
+      pub begins : Begins st h.phase h.active
       pub in_block : (k : ℕ) → T (set_of h.active k) → k < g.pauses
 
-    took : (phase : Phase) (st : State) → read_state g.pauses bs ≡ state st
-        → (set_of h.active ≡ active_of st → st ≡ evaluate.state_of phase (set_of h.active)) → Took phase
-    took phase st e p = record {
-      st = st;
-      its_state = e;
-      begins = record { state_is = p its_set; set_is = its_set };
-      in_block = λ k t. held_in_block g.pauses bs bytes st e k (subst (λ (x : Held). T (set_of x.active k)) its_held t);
-    }
-      where
-        its_held : h ≡ held_of (state st)
-        its_held = found ∙ ap held_of e
+    pub took : {h : Held} → p ≡ Some h → Took h
+    took {h} e =
+        let w = held_some (read_state g.pauses bs) h (sym found ∙ e) in
+        let same : set_of h.active ≡ active_of w.0 = ap (λ (x : Held). set_of x.active) w.2 ∙ held_set g.pauses bs bytes w.0 w.1 in record {
+          st = w.0;
+          its_state = w.1;
+          begins = record { state_is = phase_state w.0 same ∙ ap (λ (x : Held). state_of x.phase (set_of h.active)) (sym w.2); set_is = same };
+          in_block = λ k t. held_in_block g.pauses bs bytes w.0 w.1 k (subst (λ (x : Held). T (set_of x.active k)) w.2 t);
+        }
 
-        its_set : set_of h.active ≡ active_of st
-        its_set = ap (λ (x : Held). set_of x.active) its_held ∙ held_set g.pauses bs bytes st e
-
-    its_phase : (n : ℕ) → h.phase ≡ n → (held_of (read_state g.pauses bs)).phase ≡ n
-    its_phase n e = ap (λ (x : Held). x.phase) (sym found) ∙ e
-
-    pub took_fresh : h.phase ≡ 0 → Took Fresh
-    took_fresh e = took Fresh fresh (held_fresh _ (its_phase 0 e)) (λ d. refl)
-
-    pub took_running : h.phase ≡ 1 → Took Running
-    unfolding active_of
-    took_running e =
-        let r = held_running _ (its_phase 1 e) in
-        took Running (running r.0) r.1 (λ d. ap running (sym d))
-
-    pub took_finished : h.phase ≡ 2 → Took Finished
-    took_finished e = took Finished finished (held_finished _ (its_phase 2 e)) (λ d. refl)
-
-    pub state_way : (given : Given) {phase : Phase} {r : Grounds} (t : Took phase) → Meets (try_names g t.st bs given) tab r
-        → Meets (try_state g bs given (read_state g.pauses bs)) tab r
-    unfolding try_state
-    state_way given {phase} {r} t m = subst (λ (f : Found). Meets (try_state g bs given f) tab r) (sym t.its_state) m
-
-    no_phase : (f : Found) → ((held_of f).phase ≡ 0 → ⊥) → ((held_of f).phase ≡ 1 → ⊥) → ((held_of f).phase ≡ 2 → ⊥) → f ≡ not_a_state
-    unfolding held_of phase_of
-    no_phase not_a_state a b c = refl
-    no_phase (state fresh) a b c = absurd (a refl)
-    no_phase (state (running A)) a b c = absurd (b refl)
-    no_phase (state finished) a b c = absurd (c refl)
-
-    pub no_state_way : (given : Given) {r : Grounds} → (h.phase ≡ 0 → ⊥) → (h.phase ≡ 1 → ⊥) → (h.phase ≡ 2 → ⊥) → r.met ≡ Refused Why.State 0
-        → Meets (try_state g bs given (read_state g.pauses bs)) tab r
+    -- or none
+    pub no_state_way : (given : Given) → p ≡ None → {r : Refused} → r ≡ record { why = Why.State; place = 0 } → Meets (try_state g bs given (read_state g.pauses bs)) tab (Err (halt.Refused r))
     unfolding try_state Means number
-    no_state_way given {r} a b c e =
-        subst (λ (f : Found). Meets (try_state g bs given f) tab r) (sym (no_phase _ (λ d. a (other d)) (λ d. b (other d)) (λ d. c (other d))))
-        (record { means = record { why = Why.State; is_refused = e; its_number = refl } })
-      where
-        other : {n : ℕ} → (held_of (read_state g.pauses bs)).phase ≡ n → h.phase ≡ n
-        other d = ap (λ (x : Held). x.phase) found ∙ d
+    no_state_way given e {r} d =
+        subst (λ (f : Found). Meets (try_state g bs given f) tab (Err (halt.Refused r)))
+        (sym (held_none (read_state g.pauses bs) (sym found ∙ e))) (record { means = record { why = Why.State; is_refused = ap (λ (x : Refused). Err (halt.Refused x)) d; its_number = refl } })
+
+    -- the tests that follow, for the state that was found
+    module _ (given : Given) {h : Held} (e : p ≡ Some h) {names : Bool} (n : names ≡ names_block s.version s.statements bs) where
+      its : Took h
+      its = took e
+
+      its_names : names ≡ names_block g.header.version g.statements bs
+      its_names = n ∙ ap (λ (y : Summary). names_block y.version y.statements bs) o.summed
+
+      from_state : {r : Result Grounds Stopped} → Meets (try_names g its.st bs given) tab r → Meets (try_state g bs given (read_state g.pauses bs)) tab r
+      unfolding try_state
+      from_state {r} m = subst (λ (f : Found). Meets (try_state g bs given f) tab r) (sym its.its_state) m
+
+      pub other_way : names ≡ false → {r : Refused} → r ≡ record { why = Why.OtherBlock; place = 0 } → Meets (try_state g bs given (read_state g.pauses bs)) tab (Err (halt.Refused r))
+      unfolding try_names Means number
+      other_way f {r} d =
+          from_state (subst (λ (y : Bool). Meets (cond y (clash_tried g its.st given) (stopped 17 0)) tab (Err (halt.Refused r)))
+          (sym f ∙ its_names) (record { means = record { why = Why.OtherBlock; is_refused = ap (λ (x : Refused). Err (halt.Refused x)) d; its_number = refl } }))
+
+      module _ (t : names ≡ true) (c : Perhaps (ℕ × ℕ)) (d : pair_of c ≡ first_clash g.body (set_of h.active)) where
+        its_clash : pair_of c ≡ first_clash g.body (active_of its.st)
+        its_clash = d ∙ ap (first_clash g.body) its.begins.set_is
+
+        from_names : {r : Result Grounds Stopped} → Meets (clash_tried g its.st given) tab r → Meets (try_state g bs given (read_state g.pauses bs)) tab r
+        unfolding try_names
+        from_names {r} m = from_state (subst (λ (y : Bool). Meets (cond y (clash_tried g its.st given) (stopped 17 0)) tab r) (sym t ∙ its_names) m)
+
+        pub pair_way : {m n : ℕ} → c ≡ Some (m, n) → Meets (try_state g bs given (read_state g.pauses bs)) tab (Err (halt.Clash m n))
+        unfolding pair_of try_clash Means
+        pair_way {m} {n} q =
+            from_names (subst (λ (x : Option Pairing). Meets (try_clash g its.st given x) tab (Err (halt.Clash m n))) (ap pair_of (sym q) ∙ its_clash) (record { means = refl }))
+
+        module _ (q : c ≡ None) {wrong : Bool} (w : wrong ≡ wrong_inputs s.inputs given) where
+          its_test : wrong ≡ wrong_inputs g.header.inputs given
+          its_test = w ∙ ap (λ (x : Summary). wrong_inputs x.inputs given) o.summed
+
+          from_clash : {r : Result Grounds Stopped} → Meets (try_inputs g its.st given) tab r → Meets (try_state g bs given (read_state g.pauses bs)) tab r
+          unfolding pair_of try_clash
+          from_clash {r} m = from_names (subst (λ (x : Option Pairing). Meets (try_clash g its.st given x) tab r) (ap pair_of (sym q) ∙ its_clash) m)
+
+          pub input_way : wrong ≡ true → {r : Refused} → r ≡ record { why = Why.Input; place = 0 } → Meets (try_state g bs given (read_state g.pauses bs)) tab (Err (halt.Refused r))
+          unfolding try_inputs Means number
+          input_way b {r} d =
+              from_clash (subst (λ (x : Bool). Meets (cond x (stopped 11 0) (ready g its.st)) tab (Err (halt.Refused r)))
+              (sym b ∙ its_test) (record { means = record { why = Why.Input; is_refused = ap (λ (x : Refused). Err (halt.Refused x)) d; its_number = refl } }))
+
+          pub passed_way : wrong ≡ false → Meets (try_state g bs given (read_state g.pauses bs)) tab (Ok (record { summary = s; phase = h.phase; active = h.active }))
+          unfolding try_inputs Means
+          passed_way b =
+              from_clash (subst (λ (x : Bool). Meets (cond x (stopped 11 0) (ready g its.st)) tab (Ok (record { summary = s; phase = h.phase; active = h.active })))
+              (sym b ∙ its_test) (record { means = record { grounds = record { summary = s; phase = h.phase; active = h.active }; is_ready = refl; opened = o; begins = its.begins } }))
 
 -- a block was looked for and not found
-module _ (b : List ℕ) {tab : Table} {x : Checked} (w : ReadWhole (reading b) tab x) where
-  pub block_fails : (s : List ℕ) (given : Given) {why : Why} {at : ℕ} {r : Grounds} → x ≡ RefusedBlock why at → r.met ≡ Refused why at → Meets (front b s given) tab r
+module _ (b : List ℕ) {tab : Table} {x : Result Summary Refused} (w : ReadWhole (reading b) tab x) where
+  pub block_fails : (s : List ℕ) (given : Given) {e : Refused} → x ≡ Err e → Meets (front b s given) tab (Err (halt.Refused e))
   unfolding front try_block Means
-  block_fails s given {why} {at} {r} e d =
-      subst (λ (y : Reading). Meets (try_block s given y) tab r) (sym (was_turned_down b w e)) (record { means = record { why = why; is_refused = d; its_number = refl } })
+  block_fails s given {e} q =
+      subst (λ (y : Reading). Meets (try_block s given y) tab (Err (halt.Refused e))) (sym (was_turned_down b w q)) (record { means = record { why = e.why; is_refused = refl; its_number = refl } })
 
   -- or read
-  pub block_reads : {s : Summary} → x ≡ GoodBlock s → (g : Good) × Opened tab s g × (reading b ≡ good g)
+  pub block_reads : {s : Summary} → x ≡ Ok s → (g : Good) × Opened tab s g × (reading b ≡ good g)
   block_reads e =
       let r = was_good w e in
       (r.0, record { bytes = b; its_reading = r.1; stands = has_body w r.1; summed = sym r.2 }, r.1)
 
-  pub block_way : (s : List ℕ) (given : Given) {g : Good} {r : Grounds} → reading b ≡ good g → Meets (try_state g s given (read_state g.pauses s)) tab r
+  pub block_way : (s : List ℕ) (given : Given) {g : Good} {r : Result Grounds Stopped} → reading b ≡ good g → Meets (try_state g s given (read_state g.pauses s)) tab r
       → Meets (front b s given) tab r
   unfolding front try_block
   block_way s given {g} {r} e m = subst (λ (y : Reading). Meets (try_block s given y) tab r) (sym e) m

@@ -1,12 +1,25 @@
 -- What the answer of an instant says. Assumes nothing.
+use Rattle.std.specs.Prelude.{Result, Ok, Err}
 use Rattle.refusals.specs.Refusals.{number}
-use Rattle.reaction.specs.declared.Instant.{Instant}
-use Rattle.reaction.specs.declared.Instant.TheVariants.{Answered, NotConstructive, Clash, Refused}
+use Rattle.refusals.specs.declared.Refused.{Refused}
+use Rattle.reaction.specs.declared.Reaction.{Reaction}
+use Rattle.reaction.specs.declared.Stopped.{Stopped}
+use Rattle.reaction.specs.declared.Stopped.TheVariants as stopped
+use Rattle.reaction.specs.declared.Unanswered.{Unanswered}
+use Rattle.reaction.specs.declared.Unanswered.TheVariants as unanswered
 use Rattle.reaction.specs.Instants.{Told, told_refusal, CLASH, NOT_CONSTRUCTIVE}
 
+-- A refusal as what the tests come to, and what the tests come to as what an instant comes to.
+abbrev pub refused_as : Refused → Stopped
+refused_as r = stopped.Refused r
+
+abbrev pub stopped_as : Stopped → Unanswered
+stopped_as (stopped.Clash m n) = unanswered.Clash m n
+stopped_as (stopped.Refused r) = unanswered.Refused r
+
 -- Every field of an answer: document 01's number and values for each case. All fields not named are 0.
-unfoldable pub instant_told : Instant → Told
-instant_told (Answered r) = record {
+unfoldable pub instant_told : Result Reaction Unanswered → Told
+instant_told (Ok r) = record {
   number = 0;
   place = 0;
   first = 0;
@@ -18,7 +31,7 @@ instant_told (Answered r) = record {
   code = r.code.0;
   active = r.active;
 }
-instant_told (NotConstructive d) = record {
+instant_told (Err (unanswered.NotConstructive d)) = record {
   number = NOT_CONSTRUCTIVE;
   place = 0;
   first = 0;
@@ -30,5 +43,5 @@ instant_told (NotConstructive d) = record {
   code = 0;
   active = 0;
 }
-instant_told (Clash m n) = told_refusal CLASH 0 m n
-instant_told (Refused w at) = told_refusal (number w) at 0 0
+instant_told (Err (unanswered.Clash m n)) = told_refusal CLASH 0 m n
+instant_told (Err (unanswered.Refused r)) = told_refusal (number r.why) r.place 0 0

@@ -4,7 +4,7 @@ use Rattle.sets.specs.Numbers.{count}
 use Rattle.sets.specs.Words.{bits, word}
 use Rattle.rules.specs.Statements.{Block}
 use Rattle.rules.specs.Events.{present, absent, Hearing, all_heard}
-use Rattle.rules.specs.States.{State, active_of}
+use Rattle.rules.specs.States.{active_of}
 use Rattle.rules.specs.Rounds.{outputs_with, undecided, Answer, answered, not_constructive, react}
 use Rattle.block.specs.Format.{Good}
 use Rattle.records.specs.StateRecord.{version_in, statements_in, state_record, Pair}

@@ -3,24 +3,27 @@
 
 pub mod tests;
 
-ghost use Rattle.std.specs.Prelude.{◌≡◌, ◌≤◌};
+ghost use Rattle.std.specs.Prelude.{◌≡◌, ◌≤◌, Some, Ok};
 ghost use Rattle.sets.specs.Numbers.{Numbers};
 ghost use Rattle.rules.specs.Statements.{Block};
 ghost use Rattle.rules.specs.States.{State, phase_of, next};
 ghost use Rattle.rules.specs.Rounds as rules;
 ghost use Rattle.block.specs.Format.{Good};
-ghost use Rattle.tables.specs.Table.{table_of};
+ghost use Rattle.records.specs.Held.{phase_number};
 ghost use Rattle.evaluate.specs.Reacts.{IsAnswer};
 ghost use Rattle.words.specs.Words.{hearing_of};
 ghost use Rattle.reaction.specs.Fronts.{ready, wrong_inputs};
 ghost use Rattle.reaction.specs.Instants.{reacted, heard_in, verdict, goes_on};
+ghost use Rattle.reaction.specs.Answers.{refused_as, stopped_as};
 ghost use Rattle.reaction.specs.Outcomes.{Comes, Opened, Begins};
 
 use crate::tests::front;
 use block::whole::Summary;
-use evaluate::rounds::{Phase, Reacted, all_heard, react};
+use evaluate::rounds::{Done, Reacted, all_heard, react};
 use records::bits::{input_over, inputs_wrong};
-use refusals::Why;
+use records::state::Phase;
+use refusals::{Refused, Why};
+use tables::Table;
 use tables::kinds::Code;
 use words::events::Heard;
 
@@ -42,13 +45,38 @@ pub struct Doubt {
     pub rounds: u16,
 }
 
-// What an instant comes to: the rules' reaction, a clash with its pair, or why it is turned down and where.
+// What the tests before the rules turn an instant down for: a clash with its pair, or why and where.
 #[derive(Clone, Copy)]
-pub enum Instant {
-    Answered(Reaction),
+pub enum Stopped {
+    Clash(u16, u16),
+    Refused(Refused),
+}
+
+impl From<Refused> for Stopped {
+    ghost from_gives = { λ refused s. s ≡ refused_as refused };
+
+    fn from(refused: Refused) -> Stopped {
+        Stopped::Refused(refused)
+    }
+}
+
+// Why an instant has no reaction: the program is not constructive there, or the instant was turned down.
+#[derive(Clone, Copy)]
+pub enum Unanswered {
     NotConstructive(Doubt),
     Clash(u16, u16),
-    Refused(Why, usize),
+    Refused(Refused),
+}
+
+impl From<Stopped> for Unanswered {
+    ghost from_gives = { λ stopped u. u ≡ stopped_as stopped };
+
+    fn from(stopped: Stopped) -> Unanswered {
+        match stopped {
+            Stopped::Clash(m, n) => Unanswered::Clash(m, n),
+            Stopped::Refused(refused) => Unanswered::Refused(refused),
+        }
+    }
 }
 
 // The inputs of an instant: a set, with every other input absent; or the inputs present and the inputs absent, with the rest unknown.
@@ -58,26 +86,19 @@ pub enum Given {
     Two(u64, u64),
 }
 
-// What the tests before the rules come to: one of them turns the instant down, or all are passed, with the block and the phase that were found.
-#[derive(Clone, Copy)]
-pub enum Met {
-    Refused(Why, usize),
-    Clash(u16, u16),
-    Ready(Summary, Phase),
-}
-
-// The same, and beside it the active pauses of the state (none where it was not found).
+// What the rules begin with: the block's summary, and the state's phase and active pauses.
 #[derive(Clone, Copy)]
 pub struct Grounds {
-    pub met: Met,
+    pub summary: Summary,
+    pub phase: Phase,
     pub active: [u64; 2],
 }
 
-// The answer, and beside it the phase and the pauses of the next state and what was heard of the inputs (0 and none where there is none).
+// The reaction, and beside it the phase and the pauses of the next state and what was heard of the inputs.
 #[derive(Clone, Copy)]
 pub struct Outcome {
-    pub answer: Instant,
-    pub phase: u16,
+    pub reaction: Reaction,
+    pub phase: Phase,
     pub kept: [u64; 2],
     pub heard: Heard,
 }
@@ -103,96 +124,82 @@ fn hearing(inputs: u16, given: Given) -> Heard
     }
 }
 
-// Turned down: nothing is to be written.
-fn no_state(answer: Instant) -> Outcome
-    ensures { result.answer ≡ answer }
+// The phase of the next state: running after code 1, else finished.
+fn phase_after(code: Code) -> Phase
+    ensures { (A : Numbers) → phase_number result ≡ phase_of (next code.0 A) }
 {
-    Outcome {
-        answer,
-        phase: 0,
-        kept: [0, 0],
-        heard: Heard {
-            present: 0,
-            absent: 0,
-        },
+    if code.0 == 1 {
+        Phase::Running
+    } else {
+        Phase::Finished
     }
 }
 
-// The phase of the next state: running after code 1, else finished.
-fn phase_after(code: Code) -> u16
-    ensures { (A : Numbers) → result ≡ phase_of (next code.0 A) }
+// What is done as an answer.
+fn of_done(r: Reacted, done: Done, heard: Heard) -> Outcome
+    ensures { (b : Block) (a : rules.Answer) → IsAnswer b a r → r.done ≡ Some done
+        → (given : Given) → hearing_of heard ≡ heard_in b given → Comes given (reacted b a) (Ok result) }
 {
-    if code.0 == 1 { 1 } else { 2 }
+    let kept = done.kept;
+    Outcome {
+        reaction: Reaction {
+            present: r.marks.present,
+            code: done.code,
+            rounds: r.rounds,
+            active: done.active,
+        },
+        phase: phase_after(done.code),
+        kept,
+        heard,
+    }
 }
 
 // The rules' reaction as an answer.
-fn of_reaction(r: Reacted, heard: Heard) -> Outcome
+fn of_reaction(r: Reacted, heard: Heard) -> Result<Outcome, Unanswered>
     ensures { (b : Block) (a : rules.Answer) → IsAnswer b a r → (given : Given) → hearing_of heard ≡ heard_in b given → Comes given (reacted b a) result }
 {
-    if r.known {
-        let kept = r.kept;
-        let code = r.code;
-        Outcome {
-            answer: Instant::Answered(Reaction {
-                present: r.present,
-                code,
-                rounds: r.rounds,
-                active: r.active,
-            }),
-            phase: phase_after(code),
-            kept,
-            heard,
-        }
-    } else {
-        no_state(Instant::NotConstructive(Doubt {
-            present: r.present,
-            absent: r.absent,
+    match r.done {
+        Some(done) => Ok(of_done(r, done, heard)),
+        None => Err(Unanswered::NotConstructive(Doubt {
+            present: r.marks.present,
+            absent: r.marks.absent,
             undecided: r.undecided,
             rounds: r.rounds,
-        }))
+        })),
     }
 }
 
 // After the tests of block, state and inputs: ROOM, then the rules react.
 fn past_tests(
-    kinds: &[u16; 512],
-    operands: &[u16; 512],
-    sizes: &[u16; 512],
-    s: Summary,
-    phase: Phase,
-    set: [u64; 2],
+    table: &Table,
+    grounds: Grounds,
     given: Given,
     roomless: bool,
-) -> Outcome
-    requires { (g : Good) × Opened (table_of kinds.now operands.now sizes.now) s g }
-    ensures { (g : Good) → Opened (table_of kinds.now operands.now sizes.now) s g
-        → (st : State) → Begins st phase set → Comes given (goes_on given roomless (ready g st)) result }
+) -> Result<Outcome, Unanswered>
+    requires { (g : Good) × Opened table.now grounds.summary g }
+    ensures { (g : Good) → Opened table.now grounds.summary g
+        → (st : State) → Begins st grounds.phase grounds.active → Comes given (goes_on given roomless (ready g st)) result }
 {
     if roomless {
-        return no_state(Instant::Refused(Why::Room, 0));
+        return Err(Unanswered::Refused(Why::Room.at(0)));
     }
-    let inputs = s.inputs;
-    let outputs = s.outputs;
+    let inputs = grounds.summary.inputs;
+    let outputs = grounds.summary.outputs;
     let heard = hearing(inputs, given);
-    let r = react(kinds, operands, sizes, phase, set, inputs, outputs, heard);
+    let r = react(table, grounds.phase, grounds.active, inputs, outputs, heard);
     of_reaction(r, heard)
 }
 
 // What one instant comes to; `roomless` says that a log without room is lent.
-pub fn comes_to(block: &[u8], state: &[u8], given: Given, roomless: bool) -> Outcome
+pub fn comes_to(
+    block: &[u8],
+    state: &[u8],
+    given: Given,
+    roomless: bool,
+) -> Result<Outcome, Unanswered>
     ensures { Comes given (verdict block.now state.now given roomless) result }
 {
-    let mut kinds = [0u16; 512];
-    let mut operands = [0u16; 512];
-    let mut sizes = [0u16; 512];
-    let grounds = front(block, state, given, &mut kinds, &mut operands, &mut sizes);
-    let met = grounds.met;
-    let set = grounds.active;
-    match met {
-        Met::Refused(why, place) => no_state(Instant::Refused(why, place)),
-        Met::Clash(m, n) => no_state(Instant::Clash(m, n)),
-        Met::Ready(s, phase) => past_tests(
-            &kinds, &operands, &sizes, s, phase, set, given, roomless,
-        ),
-    }
+    let mut table = Table::empty();
+    let grounds = front(block, state, given, &mut table)?;
+    past_tests(&table, grounds, given, roomless)
 }

@@ -1,19 +1,32 @@
 -- Records written behind others, put in between them, and changed: what the lent bytes then hold. Assumes nothing.
 use mathlib.Core.Path.{◌≡◌, refl, sym, ap, ap₂, ◌∙◌, subst}
 use mathlib.Core.List.{List, [], ◌∷◌, ◌++◌, append-nil}
-use Prim.Native.Nat.{ℕ, zero, suc, ◌+◌, ◌-◌, ◌*◌, ◌/◌, ◌%◌, ◌≤◌, ◌<◌}
+use Prim.Native.Nat.{ℕ, zero, suc, ◌+◌, ◌-◌, ◌/◌, ◌%◌, ◌≤◌, ◌<◌}
 use native.Mathlib.Omega.{arith}
-use borrow.Author.Tests.{eq-eqb}
 use mathlib.Core.Bool.{Bool, true, false, not}
-use lib.Dec.{T, eqb, eqb→eq, leb, leb→le, nleb→lt}
+use lib.Dec.{T, leb, leb→le, nleb→lt}
 use lib.ListN.{length, get_or, set, take, drop, length-set, length-append, length-take, length-drop, drop_of_length-le, get_or-append}
 use lib.Seq.{sets, length-sets, sets-eq, drop-set-add, take-set-lt, set_out, take_at, take_all, length-take-le, get_or-take, get_or-drop, get_or-append-add, get_or-set_same, get_or-set_other, ext_get_or}
+use Rattle.std.specs.List.{CopiedTo, SameBelow}
 use Rattle.tables.specs.Kinds.{length_of}
 use Rattle.records.specs.Numerals.{in_bytes}
 use Rattle.writing.specs.Written.{record_bytes}
 use Rattle.text.specs.Machine.{inserted, operand_set}
 use Rattle.read_steps.specs.Records.{Sized, Short, Written, Grown, Shifted}
-use Rattle.read_steps.proofs.LevelLaws.{stored_below, stored_at}
+
+-- What was stored one after the other, and what lies below it.
+pub stored_below : (l vs : List ℕ) (k j : ℕ) → j < k → get_or (sets l k vs) j 0 ≡ get_or l j 0
+stored_below l [] k j h = refl
+stored_below l (a ∷ vs) k j h = stored_below (set l k a) vs (suc k) j (omega (arith, h)) ∙ get_or-set_other l k j a 0 (λ e. omega (arith, e, h))
+
+pub stored_at : (l vs : List ℕ) (k j : ℕ) → k + length vs ≤ length l → j < length vs → get_or (sets l k vs) (k + j) 0 ≡ get_or vs j 0
+stored_at l [] k j h m = absurd (omega (arith, m))
+stored_at l (a ∷ vs) k zero h m =
+    let e : k + 0 ≡ k = omega arith in
+    ap (λ (i : ℕ). get_or (sets (set l k a) (suc k) vs) i 0) e ∙ stored_below (set l k a) vs (suc k) k (omega arith) ∙ get_or-set_same l k a 0 (omega (arith, h))
+stored_at l (a ∷ vs) k (suc j) h m =
+    let e : k + suc j ≡ suc k + j = omega arith in
+    ap (λ (i : ℕ). get_or (sets (set l k a) (suc k) vs) i 0) e ∙ stored_at (set l k a) vs (suc k) j (omega (arith, h, length-set l k a)) (omega (arith, m))
 
 drop_sets : (n i : ℕ) (l vs : List ℕ) → drop n (sets l (n + i) vs) ≡ sets (drop n l) i vs
 drop_sets n i l [] = refl
@@ -147,34 +160,13 @@ inserted_between {out} {size} {b} w fits {k} {at} {a} s l q n m p r {mid} h {out
     (between w fits s l (subst (λ (i : ℕ). Shifted out (14 + i) (14 + size) mid) p (subst (λ (i : ℕ). Shifted out (14 + n) (14 + i) mid) r h))
     (e ∙ ap (λ (i : ℕ). sets mid (14 + i) (record_bytes k 0)) p))
 
--- Bytes moved up, from the last one down.
-pub record Shifting (before : List ℕ) (from to : ℕ) (after : List ℕ) (i : ℕ) : Type 0 where
-  pub from_here : from ≤ i
-  pub to_there : i ≤ to
-  pub as_long : length after ≡ length before
-  pub still : (j : ℕ) → j < i + 4 → get_or after j 0 ≡ get_or before j 0
-  pub gone_up : (j : ℕ) → i ≤ j → j < to → get_or after (j + 4) 0 ≡ get_or before j 0
-
-pub shift_start : (l : List ℕ) (from to : ℕ) → from ≤ to → Shifting l from to l to
-shift_start l from to h = record { from_here = h; to_there = omega arith; as_long = refl; still = λ j m. refl; gone_up = λ j m n. absurd (omega (arith, m, n)) }
-
-pub shift_more : {l : List ℕ} {from to : ℕ} {m : List ℕ} {i : ℕ} → Shifting l from to m i → from < i → to + 4 ≤ length l → Shifting l from to (set m (i - 1 + 4) (get_or m (i - 1) 0)) (i - 1)
-shift_more {l} {from} {to} {m} {i} s h room = record {
-  from_here = omega (arith, h);
-  to_there = omega (arith, s.to_there);
-  as_long = length-set m (i - 1 + 4) (get_or m (i - 1) 0) ∙ s.as_long;
-  still = λ j n. get_or-set_other m (i - 1 + 4) j (get_or m (i - 1) 0) 0 (λ e. omega (arith, e, n)) ∙ s.still j (omega (arith, n, h));
-  gone_up = λ j n o. one j n o (eqb j (i - 1)) refl;
+-- What the library copies within the bytes lies four places further up.
+pub shifted : {l m : List ℕ} {from to : ℕ} → from ≤ to → length m ≡ length l → CopiedTo l m from (from + 4) (to - from) → SameBelow l m (from + 4) → Shifted l from to m
+shifted {l} {m} {from} {to} h e c b = record {
+  same_size = e;
+  low = λ j n. b j 0 n;
+  moved_up = λ j n o. c (j + 4) 0 (omega (arith, n)) (omega (arith, n, o, h)) ∙ ap (λ (k : ℕ). get_or l k 0) (let i : from + (j + 4 - (from + 4)) ≡ j = omega (arith, n) in i);
 }
-  where
-    one : (j : ℕ) → i - 1 ≤ j → j < to → (z : Bool) → eqb j (i - 1) ≡ z → get_or (set m (i - 1 + 4) (get_or m (i - 1) 0)) (j + 4) 0 ≡ get_or l j 0
-    one j n o true e =
-        let q = eqb→eq j (i - 1) (subst T (sym e) tt) in
-        ap (λ (x : ℕ). get_or (set m (i - 1 + 4) (get_or m (i - 1) 0)) (x + 4) 0) q ∙ get_or-set_same m (i - 1 + 4) (get_or m (i - 1) 0) 0 (omega (arith, s.as_long, room, s.to_there, h))
-        ∙ s.still (i - 1) (omega (arith, h)) ∙ ap (λ (x : ℕ). get_or l x 0) (sym q)
-    one j n o false e =
-        let q : (j ≡ i - 1 → ⊥) = λ f. (let z : true ≡ false = sym (eq-eqb j (i - 1) f) ∙ e in let y : ◌≡◌ {A = ℕ} 0 1 = cc in omega arith) in
-        get_or-set_other m (i - 1 + 4) (j + 4) (get_or m (i - 1) 0) 0 (λ f. q (omega (arith, f))) ∙ s.gone_up j (let g : i ≤ j = omega (arith, n, q) in g) o
 
 -- One byte changed, and an operand of two.
 module _ {out : List ℕ} {size : ℕ} {b : List ℕ} (w : Written out size b) (at v : ℕ) where

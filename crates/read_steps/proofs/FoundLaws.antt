@@ -3,20 +3,25 @@
 use mathlib.Core.Path.{◌≡◌, refl, sym, ap, ap₂, ◌∙◌, subst}
 use mathlib.Core.Bool.{Bool, true, false, cond}
 use mathlib.Core.List.{List, [], ◌∷◌, ◌++◌}
-use Prim.Native.Nat.{ℕ, zero, suc, ◌+◌, ◌≤◌, ◌<◌}
+use Prim.Native.Nat.{ℕ, suc, ◌+◌, ◌≤◌, ◌<◌}
 use native.Mathlib.Omega.{arith}
-use borrow.Author.Tests.{lt-ltb, eq-eqb, ne_eqb}
-use lib.Dec.{T, eqb, ltb, ltb→lt, leb}
-use lib.ListN.{length, drop}
-use Rattle.text.specs.Tokens.{Token, sign, name, number, no_token, Placed, same, word_of}
-use Rattle.text.specs.Meaning.{Declaration, signal_named, trap_named, its_name, its_signal, its_depth, passed_over, go_on, signal_in, depth_in, declared}
+use borrow.Author.Tests.{lt-ltb}
+use lib.Dec.{T, ltb, ltb→lt}
+use lib.ListN.{length}
+use Rattle.text.specs.Tokens.{Token, sign, name, number, no_token, Placed, same}
+use Rattle.text.specs.Meaning.{Declaration, signal_named}
 use Rattle.text.specs.Coded.{from_kind, FrontAt, past_spaces, tokens_from}
+use Rattle.std.specs.Prelude.{Some, None}
+use Rattle.text.specs.declared.tokens.Kind.{Kind}
+use Rattle.text.specs.declared.tokens.Kind.TheVariants.{Sign, Name, Number, Nothing as NoToken, End}
 use Rattle.text.specs.declared.tokens.Token.{Token as CodedToken}
 use Rattle.text.proofs.Views.{here, none_here}
-use Rattle.read_steps.specs.Found.{TrapBelow, beyond_trap, its_found, beyond, found_in, word_at, level_declares, through, passed_name}
+use Rattle.read_steps.specs.Found.{TrapBelow, beyond_trap, found_in, word_at, opens, level_declares, through_scope, through, passed_name}
 use Rattle.read_steps.specs.Found.{found_as, and_named, and_counted, names_until, header_names, header_found, through_all}
 use Rattle.read_steps.specs.Levels.{level_in, levels_in}
 use Rattle.read_steps.specs.declared.levels.Level.{Level}
+use Rattle.read_steps.specs.declared.levels.Scope.{Scope}
+use Rattle.read_steps.specs.declared.levels.Scope.TheVariants.{Outermost, ThenPart, EndPart, SuspendBody, InBrackets, TrapBody, SignalBody}
 use Rattle.read_steps.proofs.LevelLaws.{levels_count, one_level_more}
 use Rattle.read_steps.specs.declared.found.Passed.{Passed}
 use Rattle.read_steps.specs.declared.found.Found.{Found}
@@ -31,14 +36,17 @@ not_below a b l = go (ltb a b) refl
 
 -- A level before declarations.
 pub through_found : (text : List ℕ) (l : Level) (ds : List Declaration) (x : List ℕ) → found_in (level_declares text l ++ ds) x ≡ through text l x (found_in ds x)
-unfolding found_in level_declares through
-through_found text l ds x = go (ltb l.kind 5) (eqb l.kind 5)
+unfolding found_in opens through_scope
+through_found text l ds x = go l.kind
   where
-    go : (a b : Bool) → found_in (cond a [] (cond b (trap_named (word_at text l.name) ∷ []) (signal_named (word_at text l.name) l.number ∷ [])) ++ ds) x
-        ≡ cond a (found_in ds x) (cond (same (word_at text l.name) x) (cond b (Trap 0) (Signal l.number)) (cond b (beyond_trap (found_in ds x)) (found_in ds x)))
-    go true b = refl
-    go false true = refl
-    go false false = refl
+    go : (k : Scope) → found_in (opens k (word_at text l.name) l.number ++ ds) x ≡ through_scope k (word_at text l.name) l.number x (found_in ds x)
+    go Outermost = refl
+    go ThenPart = refl
+    go EndPart = refl
+    go SuspendBody = refl
+    go InBrackets = refl
+    go TrapBody = refl
+    go SignalBody = refl
 
 -- An exit passes over no more traps than there are levels.
 no_more : (n : ℕ) (f : Found) → TrapBelow n f → TrapBelow (suc n) (beyond_trap f)
@@ -53,21 +61,28 @@ weaker m n Nothing l t = tt
 weaker m n (Signal s) l t = tt
 weaker m n (Trap d) l t = omega (arith, t, l)
 
-through_below : (text : List ℕ) (l : Level) (x : List ℕ) (f : Found) (n : ℕ) → TrapBelow n f → TrapBelow (suc n) (through text l x f)
-unfolding through TrapBelow
-through_below text l x f n t = go (ltb l.kind 5) (same (word_at text l.name) x) (eqb l.kind 5)
+through_below : (k : Scope) (y : List ℕ) (s : ℕ) (x : List ℕ) (f : Found) (n : ℕ) → TrapBelow n f → TrapBelow (suc n) (through_scope k y s x f)
+unfolding through_scope TrapBelow
+through_below Outermost y s x f n t = weaker n (suc n) f (omega arith) t
+through_below ThenPart y s x f n t = weaker n (suc n) f (omega arith) t
+through_below EndPart y s x f n t = weaker n (suc n) f (omega arith) t
+through_below SuspendBody y s x f n t = weaker n (suc n) f (omega arith) t
+through_below InBrackets y s x f n t = weaker n (suc n) f (omega arith) t
+through_below TrapBody y s x f n t = own (same y x)
   where
-    go : (a b c : Bool) → TrapBelow (suc n) (cond a f (cond b (cond c (Trap 0) (Signal l.number)) (cond c (beyond_trap f) f)))
-    go true b c = weaker n (suc n) f (omega arith) t
-    go false true true = omega arith
-    go false true false = tt
-    go false false true = no_more n f t
-    go false false false = weaker n (suc n) f (omega arith) t
+    own : (z : Bool) → TrapBelow (suc n) (cond z (Trap 0) (beyond_trap f))
+    own true = omega arith
+    own false = no_more n f t
+through_below SignalBody y s x f n t = own (same y x)
+  where
+    own : (z : Bool) → TrapBelow (suc n) (cond z (Signal s) f)
+    own true = tt
+    own false = weaker n (suc n) f (omega arith) t
 
 pub all_below : (text : List ℕ) (ls : List Level) (x : List ℕ) (f : Found) → TrapBelow 0 f → TrapBelow (length ls) (through_all text ls x f)
 unfolding through_all
 all_below text [] x f t = t
-all_below text (l ∷ ls) x f t = through_below text l x (through_all text ls x f) (length ls) (all_below text ls x f t)
+all_below text (l ∷ ls) x f t = through_below l.kind (word_at text l.name) l.number x (through_all text ls x f) (length ls) (all_below text ls x f t)
 
 -- The header has no traps.
 pub record NoTraps (ds : List Declaration) : Type 0 where
@@ -106,28 +121,19 @@ header_signals end ps x = (until_signals end [] 0 ps none).no_trap x
     none = record { no_trap = λ x. tt }
 
 -- One token of the header.
-module _ (text : List ℕ) (kind value start : ℕ) (x : List ℕ) (p : Passed) (ds : List Declaration) (e : found_in ds x ≡ found_as p.found) where
-  abbrev its_token : Token
-  its_token = from_kind kind value (word_at text start)
-
-  pub one_passed : (and_counted its_token p.count ≡ (passed_name text kind start x p).count) × (found_in (and_named its_token p.count ds) x ≡ found_as
-      (passed_name text kind start x p).found)
+module _ (text : List ℕ) (start : ℕ) (x : List ℕ) (p : Passed) (ds : List Declaration) (e : found_in ds x ≡ found_as p.found) where
+  pub one_passed : (k : Kind) → (and_counted (from_kind k (word_at text start)) p.count ≡ (passed_name text k start x p).count)
+      × (found_in (and_named (from_kind k (word_at text start)) p.count ds) x ≡ found_as (passed_name text k start x p).found)
   unfolding from_kind passed_name found_in found_as
-  one_passed = go (eqb kind 17) (eqb kind 18) (eqb kind 19)
+  one_passed (Sign k) = (refl, e)
+  one_passed Name = let k : suc p.count ≡ p.count + 1 = omega arith in (k, same_one (same (word_at text start) x))
     where
-      same_one : (z : Bool) → cond z (Signal p.count) (found_in ds x) ≡ found_as (cond z (p.count + 1) p.found)
-      same_one true = let k : p.count + 1 ≡ suc p.count = omega arith in sym (ap found_as k)
+      same_one : (z : Bool) → cond z (Signal p.count) (found_in ds x) ≡ found_as (cond z (Some p.count) p.found)
+      same_one true = refl
       same_one false = e
-
-      go : (a b c : Bool)
-          → (and_counted (cond a (name (word_at text start)) (cond b (number value) (cond c no_token (sign kind)))) p.count
-          ≡ (cond a (record { count = p.count + 1; found = cond (same (word_at text start) x) (p.count + 1) p.found }) p).count)
-          × (found_in (and_named (cond a (name (word_at text start)) (cond b (number value) (cond c no_token (sign kind)))) p.count ds) x
-          ≡ found_as (cond a (record { count = p.count + 1; found = cond (same (word_at text start) x) (p.count + 1) p.found }) p).found)
-      go true b c = let k : suc p.count ≡ p.count + 1 = omega arith in (k, same_one (same (word_at text start) x))
-      go false true c = (refl, e)
-      go false false true = (refl, e)
-      go false false false = (refl, e)
+  one_passed (Number v) = (refl, e)
+  one_passed NoToken = (refl, e)
+  one_passed End = (refl, e)
 
 -- The tokens before a place, and the first that is not.
 pub until_here : (end : ℕ) (ds : List Declaration) (n : ℕ) (p : Placed) (ps : List Placed) → p.place < end
@@ -141,28 +147,42 @@ until_past end ds n p ps l = ap (λ (z : Bool). cond z (names_until end (and_nam
 
 -- The ways through a level.
 module _ (text : List ℕ) (l : Level) (x : List ℕ) (f : Found) where
-  pub through_none : l.kind < 5 → through text l x f ≡ f
-  unfolding through
-  through_none h =
-      ap (λ (z : Bool). cond z f (cond (same (word_at text l.name) x) (cond (eqb l.kind 5) (Trap 0) (Signal l.number)) (cond (eqb l.kind 5) (beyond_trap f) f)))
-      (lt-ltb l.kind 5 h)
+  pub through_trap : l.kind ≡ TrapBody → {z : Bool} → same (word_at text l.name) x ≡ z → cond z (Trap 0) (beyond_trap f) ≡ through text l x f
+  unfolding through_scope
+  through_trap e h =
+      ap (λ (z : Bool). cond z (Trap 0) (beyond_trap f)) (sym h) ∙ sym (ap (λ (k : Scope). through_scope k (word_at text l.name) l.number x f) e)
 
-  some_name : 5 ≤ l.kind → {z : Bool} → same (word_at text l.name) x ≡ z
-      → through text l x f ≡ cond z (cond (eqb l.kind 5) (Trap 0) (Signal l.number)) (cond (eqb l.kind 5) (beyond_trap f) f)
-  unfolding through
-  some_name h e =
-      ap₂ (λ (y z : Bool). cond y f (cond z (cond (eqb l.kind 5) (Trap 0) (Signal l.number)) (cond (eqb l.kind 5) (beyond_trap f) f))) (not_below l.kind 5 h) e
+  pub through_signal : l.kind ≡ SignalBody → {z : Bool} → same (word_at text l.name) x ≡ z → cond z (Signal l.number) f ≡ through text l x f
+  unfolding through_scope
+  through_signal e h =
+      ap (λ (z : Bool). cond z (Signal l.number) f) (sym h) ∙ sym (ap (λ (k : Scope). through_scope k (word_at text l.name) l.number x f) e)
 
-  pub through_its : 5 ≤ l.kind → same (word_at text l.name) x ≡ true → through text l x f ≡ cond (eqb l.kind 5) (Trap 0) (Signal l.number)
-  through_its h e = some_name h e
+  pub through_none : (l.kind ≡ TrapBody → ⊥) → (l.kind ≡ SignalBody → ⊥) → f ≡ through text l x f
+  unfolding through_scope
+  through_none p q = go l.kind p q
+    where
+      go : (k : Scope) → (k ≡ TrapBody → ⊥) → (k ≡ SignalBody → ⊥) → f ≡ through_scope k (word_at text l.name) l.number x f
+      go Outermost p q = refl
+      go ThenPart p q = refl
+      go EndPart p q = refl
+      go SuspendBody p q = refl
+      go InBrackets p q = refl
+      go TrapBody p q = absurd (p refl)
+      go SignalBody p q = absurd (q refl)
 
-  pub through_other : 5 ≤ l.kind → same (word_at text l.name) x ≡ false → through text l x f ≡ cond (eqb l.kind 5) (beyond_trap f) f
-  through_other h e = some_name h e
-
-pub no_name : (text : List ℕ) (kind start : ℕ) (x : List ℕ) (p : Passed) → (kind ≡ 17 → ⊥) → passed_name text kind start x p ≡ p
+pub no_name : (text : List ℕ) (k : Kind) (start : ℕ) (x : List ℕ) (p : Passed) → (k ≡ Name → ⊥) → passed_name text k start x p ≡ p
 unfolding passed_name
-no_name text kind start x p n =
-    ap (λ (z : Bool). cond z (record { count = p.count + 1; found = cond (same (word_at text start) x) (p.count + 1) p.found }) p) (ne_eqb kind 17 n)
+no_name text (Sign k) start x p n = refl
+no_name text Name start x p n = absurd (n refl)
+no_name text (Number v) start x p n = refl
+no_name text NoToken start x p n = refl
+no_name text End start x p n = refl
+
+pub one_name : (text : List ℕ) {k : Kind} (start : ℕ) (x : List ℕ) (p : Passed) → k ≡ Name → {z : Bool} → same (word_at text start) x ≡ z
+    → record { count = p.count + 1; found = cond z (Some p.count) p.found } ≡ passed_name text k start x p
+unfolding passed_name
+one_name text start x p e h =
+    ap (λ (y : Bool). record { count = p.count + 1; found = cond y (Some p.count) p.found }) (sym h) ∙ sym (ap (λ (j : Kind). passed_name text j start x p) e)
 
 -- The header's tokens passed so far: the names among them, and the last that is the one looked for.
 pub record Passing (text : List ℕ) (end : ℕ) (x : List ℕ) (at : ℕ) (p : Passed) : Type 0 where
@@ -172,7 +192,7 @@ pub record Passing (text : List ℕ) (end : ℕ) (x : List ℕ) (at : ℕ) (p : 
   pub so_far : header_names text end ≡ names_until end names p.count (tokens_from text at)
   pub found_there : found_in names x ≡ found_as p.found
 
-pub pass_start : (text : List ℕ) (end : ℕ) (x : List ℕ) → Passing text end x 0 (record { count = 0; found = 0 })
+pub pass_start : (text : List ℕ) (end : ℕ) (x : List ℕ) → Passing text end x 0 (record { count = 0; found = None })
 unfolding found_in found_as
 pass_start text end x = record { inside = omega arith; few = omega arith; names = []; so_far = refl; found_there = refl }
 
@@ -180,8 +200,8 @@ module _ {text : List ℕ} {end : ℕ} {x : List ℕ} {at : ℕ} {p : Passed} (w
   pub pass_more : t.start < length text → t.start < end → {q : Passed} → q ≡ passed_name text t.kind t.start x p → Passing text end x t.end q
   pass_more l m {q} e =
       let h = here text at f l in
-      let one = one_passed text t.kind t.value t.start x p w.names w.found_there in
-      let tok = from_kind t.kind t.value (word_at text t.start) in
+      let one = one_passed text t.start x p w.names w.found_there t.kind in
+      let tok = from_kind t.kind (word_at text t.start) in
       let c : and_counted tok p.count ≡ q.count = one.0 ∙ sym (ap (λ (r : Passed). r.count) e) in
       record {
         inside = h.within;
@@ -206,19 +226,19 @@ module _ {text : List ℕ} {end : ℕ} {x : List ℕ} {at : ℕ} {p : Passed} (w
   pub pass_past : t.start < length text → end ≤ t.start → found_as p.found ≡ header_found text end x
   pass_past l m =
       let h = here text at f l in
-      let tok = from_kind t.kind t.value (word_at text t.start) in
+      let tok = from_kind t.kind (word_at text t.start) in
       sym (ap (λ (ds : List Declaration). found_in ds x) (w.so_far ∙ ap (names_until end w.names p.count) h.first_of
       ∙ until_past end w.names p.count (record { place = t.start; token = tok }) (tokens_from text t.end) m) ∙ w.found_there)
 
 -- The levels one after the other, from the outermost in.
-module _ (text names marks : List ℕ) (i end : ℕ) (x : List ℕ) {f : Found} (e : f ≡ through_all text (levels_in names marks i) x (header_found text end x)) where
+module _ (text : List ℕ) (levels : List Level) (i end : ℕ) (x : List ℕ) {f : Found} (e : f ≡ through_all text (levels_in levels i) x (header_found text end x)) where
   pub few_traps : i ≤ 1025 → TrapBelow 1025 f
   few_traps l =
-      let b = all_below text (levels_in names marks i) x (header_found text end x) (header_signals end (tokens_from text 0) x) in
-      subst (TrapBelow 1025) (sym e) (weaker (length (levels_in names marks i)) 1025 (through_all text (levels_in names marks i) x (header_found text end x)) (omega
-      (arith, l, levels_count names marks i)) b)
+      let b = all_below text (levels_in levels i) x (header_found text end x) (header_signals end (tokens_from text 0) x) in
+      subst (TrapBelow 1025) (sym e) (weaker (length (levels_in levels i)) 1025 (through_all text (levels_in levels i) x (header_found text end x)) (omega
+      (arith, l, levels_count levels i)) b)
 
-  pub one_more_level : {l : Level} {g : Found} → l ≡ level_in names marks i → g ≡ through text l x f → g ≡ through_all text (levels_in names marks (i + 1)) x (header_found text end x)
+  pub one_more_level : {l : Level} {g : Found} → l ≡ level_in levels i → g ≡ through text l x f → g ≡ through_all text (levels_in levels (i + 1)) x (header_found text end x)
   unfolding through_all
   one_more_level h k =
-      k ∙ ap₂ (λ (l : Level) (f : Found). through text l x f) h e ∙ sym (ap (λ (ls : List Level). through_all text ls x (header_found text end x)) (one_level_more names marks i))
+      k ∙ ap₂ (λ (l : Level) (f : Found). through text l x f) h e ∙ sym (ap (λ (ls : List Level). through_all text ls x (header_found text end x)) (one_level_more levels i))

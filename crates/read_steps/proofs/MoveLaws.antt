@@ -1,5 +1,5 @@
 -- The tables of moves are those of Machine: each test of one is a test of the other, in the same order. Assumes nothing.
-use mathlib.Core.Path.{◌≡◌, refl, sym, ap, ap₂, ◌∙◌, subst}
+use mathlib.Core.Path.{◌≡◌, refl, sym, ap, ◌∙◌}
 use mathlib.Core.Bool.{Bool, true, false, cond, ◌||◌}
 use mathlib.Core.List.{List, [], ◌∷◌}
 use mathlib.Core.Option.{Option, none, some}
@@ -9,15 +9,19 @@ use lib.Dec.{eqb}
 use native.Mathlib.Omega.{arith}
 use Rattle.text.specs.Tokens.{same, NOTHING, PAUSE, EMIT, PRESENT, THEN, ELSE, END, SUSPEND, WHEN, LOOP, TRAP, IN, EXIT, SIGNAL, SEMICOLON, BRACKET, CLOSED, BESIDE}
 use Rattle.text.specs.Meaning.{Declaration, signal_named, trap_named, its_name, its_signal, its_depth, passed_over, signal_in, depth_in, declared, go_on, if_new}
-use Rattle.text.specs.Machine.{Closer, at_the_end, by_else, by_end, by_when, by_bracket, put, opened, whened}
+use Rattle.text.specs.Machine.{Closer, by_else, by_end, put, opened, whened}
 use Rattle.text.specs.Machine.{Mode, due, after, emit_name, exit_name, present_name, trap_name, signal_name, when_name, then_due, in_due}
-use Rattle.text.specs.Machine.{State, around, declared_by, popped, due_step, closed, after_step, by_sign, by_name}
-use Rattle.read_steps.specs.Found.{beyond_trap, its_found, beyond, found_in}
-use Rattle.read_steps.specs.Moves.{mode_number, mode_of, closer_of, due_move, closed_move, after_move, sign_move, signal_move, trap_move, new_move, found_move, opens, next_after, made}
+use Rattle.text.specs.Machine.{State, around, due_step, closed, after_step, by_sign, by_name}
+use Rattle.read_steps.specs.Found.{opens, beyond_trap, its_found, beyond, found_in}
+use Rattle.read_steps.specs.Moves.{mode_of, closer_of, due_move, closed_move, after_move, sign_move, signal_move, trap_move, new_move, found_move, next_after, made}
+use Rattle.read_steps.specs.declared.modes.Mode.{Mode as CodeMode}
+use Rattle.read_steps.specs.declared.modes.Mode.TheVariants.{Due, After, EmitName, ExitName, PresentName, TrapName, SignalName, WhenName, ThenDue, InDue}
+use Rattle.read_steps.specs.declared.levels.Scope.{Scope}
+use Rattle.read_steps.specs.declared.levels.Scope.TheVariants.{Outermost, ThenPart, EndPart, SuspendBody, InBrackets, TrapBody, SignalBody}
 use Rattle.read_steps.specs.declared.found.Found.{Found}
 use Rattle.read_steps.specs.declared.found.Found.TheVariants.{Nothing, Signal, Trap}
 use Rattle.read_steps.specs.declared.moves.Move.{Move}
-use Rattle.read_steps.specs.declared.moves.Move.TheVariants.{Fault, To, Put, Open, Bracket, Close, Sequence, Parallel, Turn, When}
+use Rattle.read_steps.specs.declared.moves.Move.TheVariants.{Fault, To, Put, Open, Bracket, Close, Sequence, Parallel, Turn}
 
 -- A choice of moves is made as the chosen one is.
 choice : (x : List ℕ) (s : State) (z : Bool) (m n : Move) → made x s (cond z m n) ≡ cond z (made x s m) (made x s n)
@@ -35,36 +39,32 @@ module _ (x : List ℕ) (s : State) where
       or_else (eqb k NOTHING) _ _ (or_else (eqb k PAUSE) _ _ (or_else (eqb k EMIT) _ _ (or_else (eqb k EXIT) _ _ (or_else (eqb k PRESENT) _ _ (or_else (eqb k TRAP) _ _
       (or_else (eqb k SIGNAL) _ _ (or_else (eqb k SUSPEND) _ _ (or_else (eqb k LOOP) _ _ (choice x s (eqb k BRACKET) Bracket Fault)))))))))
 
-  closed_made : (c k : ℕ) → made x s (closed_move c k) ≡ closed (closer_of c) s k
+  closed_made : (c : Scope) (k : ℕ) → made x s (closed_move c k) ≡ closed (closer_of c) s k
   unfolding closed_move closed made mode_of closer_of
-  closed_made c k = go (eqb c 0) (eqb c 1) (eqb c 3) (eqb c 4)
-    where
-      go : (p q r t : Bool)
-          → made x s (cond p Fault (cond q (cond (eqb k ELSE) Turn Fault) (cond r (cond (eqb k WHEN) (Close 7) Fault) (cond t (cond (eqb k CLOSED) (Close 1) Fault) (cond (eqb k END)
-          (Close 1) Fault)))))
-          ≡ closed (cond p at_the_end (cond q by_else (cond r by_when (cond t by_bracket by_end)))) s k
-      go true q r t = refl
-      go false true r t = choice x s (eqb k ELSE) Turn Fault
-      go false false true t = choice x s (eqb k WHEN) (Close 7) Fault
-      go false false false true = choice x s (eqb k CLOSED) (Close 1) Fault
-      go false false false false = choice x s (eqb k END) (Close 1) Fault
+  closed_made Outermost k = refl
+  closed_made ThenPart k = choice x s (eqb k ELSE) Turn Fault
+  closed_made EndPart k = choice x s (eqb k END) (Close After) Fault
+  closed_made SuspendBody k = choice x s (eqb k WHEN) (Close WhenName) Fault
+  closed_made InBrackets k = choice x s (eqb k CLOSED) (Close After) Fault
+  closed_made TrapBody k = choice x s (eqb k END) (Close After) Fault
+  closed_made SignalBody k = choice x s (eqb k END) (Close After) Fault
 
-  after_made : (c k : ℕ) → s.top.closer ≡ closer_of c → made x s (after_move c k) ≡ after_step s k
+  after_made : (c : Scope) (k : ℕ) → s.top.closer ≡ closer_of c → made x s (after_move c k) ≡ after_step s k
   unfolding after_move after_step made
   after_made c k e = or_else (eqb k SEMICOLON) _ _ (or_else (eqb k BESIDE) _ _ (closed_made c k ∙ sym (ap (λ (d : Closer). closed d s k) e)))
 
-  pub sign_made : (m : Mode) (c k : ℕ) → s.top.closer ≡ closer_of c → made x s (sign_move (mode_number m) c k) ≡ by_sign m s k
-  unfolding sign_move mode_number by_sign made mode_of
-  sign_made due c k e = due_made k
-  sign_made after c k e = after_made c k e
-  sign_made emit_name c k e = refl
-  sign_made exit_name c k e = refl
-  sign_made present_name c k e = refl
-  sign_made trap_name c k e = refl
-  sign_made signal_name c k e = refl
-  sign_made when_name c k e = refl
-  sign_made then_due c k e = choice x s (eqb k THEN) (To 0) Fault
-  sign_made in_due c k e = choice x s (eqb k IN) (To 0) Fault
+  pub sign_made : (m : CodeMode) (c : Scope) (k : ℕ) → s.top.closer ≡ closer_of c → made x s (sign_move m c k) ≡ by_sign (mode_of m) s k
+  unfolding sign_move by_sign made mode_of
+  sign_made Due c k e = due_made k
+  sign_made After c k e = after_made c k e
+  sign_made EmitName c k e = refl
+  sign_made ExitName c k e = refl
+  sign_made PresentName c k e = refl
+  sign_made TrapName c k e = refl
+  sign_made SignalName c k e = refl
+  sign_made WhenName c k e = refl
+  sign_made ThenDue c k e = choice x s (eqb k THEN) (To Due) Fault
+  sign_made InDue c k e = choice x s (eqb k IN) (To Due) Fault
 
 -- What a name stands for answers every question of Meaning.
 abbrev signal_told : Found → Option ℕ
@@ -158,65 +158,115 @@ module _ (x : List ℕ) (s : State) where
   asked then_due = refl
   asked in_due = refl
 
-  answered : (m : Mode) (f : Found) → made x s (found_move (mode_number m) f s.next) ≡ named_by m (signal_told f) (depth_told f) (told_some f)
-  unfolding found_move signal_move trap_move new_move mode_number made mode_of closer_of opens next_after
-  answered due Nothing = refl
-  answered due (Signal n) = refl
-  answered due (Trap d) = refl
-  answered after Nothing = refl
-  answered after (Signal n) = refl
-  answered after (Trap d) = refl
-  answered emit_name Nothing = refl
-  answered emit_name (Signal n) = refl
-  answered emit_name (Trap d) = refl
-  answered exit_name Nothing = refl
-  answered exit_name (Signal n) = refl
-  answered exit_name (Trap d) = refl
-  answered present_name Nothing = refl
-  answered present_name (Signal n) = refl
-  answered present_name (Trap d) = refl
-  answered trap_name Nothing = refl
-  answered trap_name (Signal n) = refl
-  answered trap_name (Trap d) = refl
-  answered signal_name Nothing = refl
-  answered signal_name (Signal n) = refl
-  answered signal_name (Trap d) = refl
-  answered when_name Nothing = refl
-  answered when_name (Signal n) = refl
-  answered when_name (Trap d) = refl
-  answered then_due Nothing = refl
-  answered then_due (Signal n) = refl
-  answered then_due (Trap d) = refl
-  answered in_due Nothing = refl
-  answered in_due (Signal n) = refl
-  answered in_due (Trap d) = refl
+  answered : (m : CodeMode) (f : Found) → made x s (found_move m f s.next) ≡ named_by (mode_of m) (signal_told f) (depth_told f) (told_some f)
+  unfolding found_move signal_move trap_move new_move made mode_of closer_of opens next_after
+  answered Due Nothing = refl
+  answered Due (Signal n) = refl
+  answered Due (Trap d) = refl
+  answered After Nothing = refl
+  answered After (Signal n) = refl
+  answered After (Trap d) = refl
+  answered EmitName Nothing = refl
+  answered EmitName (Signal n) = refl
+  answered EmitName (Trap d) = refl
+  answered ExitName Nothing = refl
+  answered ExitName (Signal n) = refl
+  answered ExitName (Trap d) = refl
+  answered PresentName Nothing = refl
+  answered PresentName (Signal n) = refl
+  answered PresentName (Trap d) = refl
+  answered TrapName Nothing = refl
+  answered TrapName (Signal n) = refl
+  answered TrapName (Trap d) = refl
+  answered SignalName Nothing = refl
+  answered SignalName (Signal n) = refl
+  answered SignalName (Trap d) = refl
+  answered WhenName Nothing = refl
+  answered WhenName (Signal n) = refl
+  answered WhenName (Trap d) = refl
+  answered ThenDue Nothing = refl
+  answered ThenDue (Signal n) = refl
+  answered ThenDue (Trap d) = refl
+  answered InDue Nothing = refl
+  answered InDue (Signal n) = refl
+  answered InDue (Trap d) = refl
 
-  pub name_made : (m : Mode) → made x s (found_move (mode_number m) (found_in (around s) x) s.next) ≡ by_name m s x
+  pub name_made : (m : CodeMode) → made x s (found_move m (found_in (around s) x) s.next) ≡ by_name (mode_of m) s x
   name_made m =
       answered m (found_in (around s) x)
-      ∙ sym (asked m ∙ (λ i. named_by m (signal_found (around s) x i) (depth_found (around s) x i) (declared_found (around s) x i)))
+      ∙ sym (asked (mode_of m) ∙ (λ i. named_by (mode_of m) (signal_found (around s) x i) (depth_found (around s) x i) (declared_found (around s) x i)))
 
 -- What is in no row of a table.
 pub due_other : (k : ℕ) → (k ≡ NOTHING → ⊥) → (k ≡ PAUSE → ⊥) → (k ≡ EMIT → ⊥) → (k ≡ EXIT → ⊥) → (k ≡ PRESENT → ⊥) → (k ≡ TRAP → ⊥) → (k ≡ SIGNAL → ⊥) → (k ≡ SUSPEND → ⊥) → (k ≡ LOOP → ⊥)
     → (k ≡ BRACKET → ⊥) → Fault ≡ due_move k
 unfolding due_move
 due_other k a b c d e f g h j l =
-    sym (λ i. cond (ne_eqb k NOTHING a i) (Put 16 0) (cond (ne_eqb k PAUSE b i) (Put 17 0) (cond (ne_eqb k EMIT c i) (To 2) (cond (ne_eqb k EXIT d i) (To 3) (cond (ne_eqb k PRESENT e i) (To 4)
-    (cond (ne_eqb k TRAP f i) (To 5) (cond (ne_eqb k SIGNAL g i) (To 6) (cond (ne_eqb k SUSPEND h i) (Open 20 0 3 0) (cond (ne_eqb k LOOP j i) (Open 22 0 2 0) (cond
+    sym (λ i. cond (ne_eqb k NOTHING a i) (Put 16 0) (cond (ne_eqb k PAUSE b i) (Put 17 0) (cond (ne_eqb k EMIT c i) (To EmitName) (cond (ne_eqb k EXIT d i) (To ExitName) (cond (ne_eqb k PRESENT e i) (To PresentName)
+    (cond (ne_eqb k TRAP f i) (To TrapName) (cond (ne_eqb k SIGNAL g i) (To SignalName) (cond (ne_eqb k SUSPEND h i) (Open 20 0 SuspendBody Due) (cond (ne_eqb k LOOP j i) (Open 22 0 EndPart Due) (cond
     (ne_eqb k BRACKET l i) Bracket Fault))))))))))
 
-pub closed_other : (c k : ℕ) → (c ≡ 0 → ⊥) → (c ≡ 1 → ⊥) → (c ≡ 3 → ⊥) → (c ≡ 4 → ⊥) → cond (eqb k END) (Close 1) Fault ≡ closed_move c k
-unfolding closed_move
-closed_other c k a b d e =
-    sym (λ i. cond (ne_eqb c 0 a i) Fault (cond (ne_eqb c 1 b i) (cond (eqb k ELSE) Turn Fault) (cond (ne_eqb c 3 d i) (cond (eqb k WHEN) (Close 7) Fault)
-    (cond (ne_eqb c 4 e i) (cond (eqb k CLOSED) (Close 1) Fault) (cond (eqb k END) (Close 1) Fault)))))
+pub after_other : (c : Scope) (k : ℕ) → (k ≡ SEMICOLON → ⊥) → (k ≡ BESIDE → ⊥) → closed_move c k ≡ after_move c k
+unfolding after_move
+after_other c k a b = sym (λ i. cond (ne_eqb k SEMICOLON a i) Sequence (cond (ne_eqb k BESIDE b i) Parallel (closed_move c k)))
 
-pub sign_other : (m c k : ℕ) → (m ≡ 0 → ⊥) → (m ≡ 1 → ⊥) → (m ≡ 8 → ⊥) → (m ≡ 9 → ⊥) → Fault ≡ sign_move m c k
+pub sign_other : (m : CodeMode) (c : Scope) (k : ℕ) → (m ≡ Due → ⊥) → (m ≡ After → ⊥) → (m ≡ ThenDue → ⊥) → (m ≡ InDue → ⊥) → Fault ≡ sign_move m c k
 unfolding sign_move
-sign_other m c k a b d e =
-    sym (λ i. cond (ne_eqb m 0 a i) (due_move k) (cond (ne_eqb m 1 b i) (after_move c k) (cond (ne_eqb m 8 d i) (cond (eqb k THEN) (To 0) Fault) (cond (ne_eqb m 9 e i) (cond (eqb k IN)
-    (To 0) Fault) Fault))))
+sign_other Due c k p q r t = absurd (p refl)
+sign_other After c k p q r t = absurd (q refl)
+sign_other EmitName c k p q r t = refl
+sign_other ExitName c k p q r t = refl
+sign_other PresentName c k p q r t = refl
+sign_other TrapName c k p q r t = refl
+sign_other SignalName c k p q r t = refl
+sign_other WhenName c k p q r t = refl
+sign_other ThenDue c k p q r t = absurd (r refl)
+sign_other InDue c k p q r t = absurd (t refl)
 
-pub signal_other : (m n : ℕ) → (m ≡ 2 → ⊥) → (m ≡ 4 → ⊥) → (m ≡ 7 → ⊥) → Fault ≡ signal_move m n
+pub signal_other : (m : CodeMode) (n : ℕ) → (m ≡ EmitName → ⊥) → (m ≡ PresentName → ⊥) → (m ≡ WhenName → ⊥) → Fault ≡ signal_move m n
 unfolding signal_move
-signal_other m n a b d = sym (λ i. cond (ne_eqb m 2 a i) (Put 18 n) (cond (ne_eqb m 4 b i) (Open 19 n 1 8) (cond (ne_eqb m 7 d i) (When n) Fault)))
+signal_other Due n p q r = refl
+signal_other After n p q r = refl
+signal_other EmitName n p q r = absurd (p refl)
+signal_other ExitName n p q r = refl
+signal_other PresentName n p q r = absurd (q refl)
+signal_other TrapName n p q r = refl
+signal_other SignalName n p q r = refl
+signal_other WhenName n p q r = absurd (r refl)
+signal_other ThenDue n p q r = refl
+signal_other InDue n p q r = refl
+
+pub trap_other : (m : CodeMode) (d : ℕ) → (m ≡ ExitName → ⊥) → Fault ≡ trap_move m d
+unfolding trap_move
+trap_other Due d p = refl
+trap_other After d p = refl
+trap_other EmitName d p = refl
+trap_other ExitName d p = absurd (p refl)
+trap_other PresentName d p = refl
+trap_other TrapName d p = refl
+trap_other SignalName d p = refl
+trap_other WhenName d p = refl
+trap_other ThenDue d p = refl
+trap_other InDue d p = refl
+
+pub new_other : (m : CodeMode) (n : ℕ) → (m ≡ TrapName → ⊥) → (m ≡ SignalName → ⊥) → Fault ≡ new_move m n
+unfolding new_move
+new_other Due n p q = refl
+new_other After n p q = refl
+new_other EmitName n p q = refl
+new_other ExitName n p q = refl
+new_other PresentName n p q = refl
+new_other TrapName n p q = absurd (p refl)
+new_other SignalName n p q = absurd (q refl)
+new_other WhenName n p q = refl
+new_other ThenDue n p q = refl
+new_other InDue n p q = refl
+
+pub next_same : (k : Scope) (n : ℕ) → (k ≡ SignalBody → ⊥) → n ≡ next_after k n
+unfolding next_after
+next_same Outermost n p = refl
+next_same ThenPart n p = refl
+next_same EndPart n p = refl
+next_same SuspendBody n p = refl
+next_same InBrackets n p = refl
+next_same TrapBody n p = refl
+next_same SignalBody n p = absurd (p refl)

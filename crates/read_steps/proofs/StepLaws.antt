@@ -2,7 +2,8 @@
 use mathlib.Core.Path.{◌≡◌, refl, sym, ap, ap₂, ◌∙◌, subst}
 use mathlib.Core.Bool.{Bool, true, false, cond}
 use mathlib.Core.List.{List, [], ◌∷◌, ◌++◌}
-use mathlib.Core.Option.{Option, none, some}
+use mathlib.Core.Option.{some}
+use Rattle.std.specs.Prelude.{Option, Some, None, Result, Ok, Err}
 use Prim.Native.Nat.{ℕ, zero, suc, ◌+◌, ◌-◌, ◌/◌, ◌%◌, ◌≤◌, ◌<◌}
 use native.Mathlib.Omega.{arith}
 use borrow.Author.Tests.{ne_eqb, eq-eqb}
@@ -10,23 +11,28 @@ use lib.Dec.{eqb}
 use lib.ListN.{length, length-append, set, take, drop, length-take, length-drop}
 use lib.Seq.{length-sets}
 use Rattle.sets.specs.Numbers.{listed}
-use Rattle.tables.specs.Kinds.{Shape, shape, length_of}
+use Rattle.tables.specs.declared.kinds.Shape.{Shape}
+use Rattle.tables.specs.Kinds.{shape, length_of}
 use Rattle.records.specs.Numerals.{in_bytes}
 use Rattle.writing.specs.Written.{operand_bytes, shaped_bytes, record_bytes}
-use Rattle.text.specs.Meaning.{Declaration}
-use Rattle.text.specs.Machine.{by_bracket, by_end, Level, level_at, moved, Mode, due, after, State, state, to, put, opened, popped, inserted, sequenced, paralleled, turned, operand_set, whened}
+use Rattle.text.specs.Machine.{by_bracket, by_end, Level, level_at, Mode, due, after, state, to, put, opened, popped, inserted, sequenced, paralleled, turned, operand_set, whened}
 use Rattle.text.specs.Reader.{places}
-use Rattle.read_steps.specs.Levels.{level_in, levels_in, Roomy, Stored}
-use Rattle.read_steps.specs.Found.{level_declares, word_at}
+use Rattle.read_steps.specs.Levels.{level_in, levels_in}
+use Rattle.read_steps.specs.Found.{opens, level_declares, word_at}
 use Rattle.read_steps.specs.Records.{Sized, Short, Written, Grown}
-use Rattle.read_steps.specs.Moves.{mode_number, mode_of, closer_of, opens, next_after, made}
+use Rattle.read_steps.specs.Moves.{mode_of, closer_of, next_after, made}
 use Rattle.read_steps.specs.Holding.{Place, level_of, around_it, levels_of, Course, course, state_of, Rising, Kept, KeptAll, codes, FreshAt, FreshIn, Holds, Steps}
 use Rattle.read_steps.specs.Holding.{faulted, went, burst, Valid, Does}
 use Rattle.read_steps.specs.declared.levels.Level.{Level as CodeLevel}
+use Rattle.read_steps.specs.declared.modes.Mode.{Mode as CodeMode}
+use Rattle.read_steps.specs.declared.modes.Mode.TheVariants.{Due, After}
+use Rattle.read_steps.specs.declared.levels.Scope.{Scope}
+use Rattle.read_steps.specs.declared.levels.Scope.TheVariants.{Outermost, ThenPart, EndPart, SuspendBody, InBrackets, TrapBody, SignalBody}
 use Rattle.read_steps.specs.declared.steps.Stage.{Stage}
-use Rattle.read_steps.specs.declared.steps.Stepped.{Stepped}
+use Rattle.read_steps.specs.declared.steps.Fault.{Fault as Refused}
+use Rattle.read_steps.specs.declared.steps.Fault.TheVariants.{Grammar, Deep}
 use Rattle.read_steps.specs.declared.moves.Move.{Move}
-use Rattle.read_steps.specs.declared.moves.Move.TheVariants.{Fault, To, Put, Open, Bracket, Close, Sequence, Parallel, Turn, When}
+use Rattle.read_steps.specs.declared.moves.Move.TheVariants.{To, Open, Bracket, Close, Turn}
 use Rattle.read_steps.proofs.LevelLaws.{levels_count}
 
 -- The kinds of records that the moves write.
@@ -161,8 +167,8 @@ short_operand k x = go (shape k)
     both (suc n) = ap₂ (λ (a b : ℕ). a ∷ b ∷ []) (low_byte x) (high_byte x)
 
     go : (o : Option Shape) → shaped_bytes k (x % 65536) o ≡ shaped_bytes k x o
-    go none = refl
-    go (some s) = ap (λ (l : List ℕ). in_bytes 2 s.length ++ (in_bytes 2 k ++ l)) (both s.operands)
+    go None = refl
+    go (Some s) = ap (λ (l : List ℕ). in_bytes 2 s.length ++ (in_bytes 2 k ++ l)) (both s.operands)
 
 short_set : (x a : ℕ) (b : List ℕ) → operand_set (x % 65536) a b ≡ operand_set x a b
 unfolding operand_set in_bytes
@@ -178,17 +184,16 @@ unfolding Rising
 further [] l r = tt
 further (p ∷ ps) l r = (omega (arith, l, r.0), r.1)
 
-module _ {names marks out : List ℕ} {at : ℕ} {s : Stage} {g : Course} (text : List ℕ) (h : Holds names marks out at s g) where
+module _ {levels : List CodeLevel} {out : List ℕ} {at : ℕ} {s : Stage} {g : Course} (text : List ℕ) (h : Holds levels out at s g) where
   nothing_more : Grown out s.size s.size g.block
   nothing_more = record { written = h.written; no_less = omega arith }
 
   -- Another innermost place, with the same around it.
-  on_top : {out' : List ℕ} {r : ℕ} (m : Mode) (k : ℕ) (f : Bool) (q : Place) (b : List ℕ) {c : CodeLevel} → k ≡ mode_number m → q.code ≡ c → Rising q.start g.under → q.start ≤ length b
+  on_top : {out' : List ℕ} {r : ℕ} (m : Mode) (k : CodeMode) (f : Bool) (q : Place) (b : List ℕ) {c : CodeLevel} → mode_of k ≡ m → q.code ≡ c → Rising q.start g.under → q.start ≤ length b
       → FreshIn m f q (length b) → Grown out' s.size r b → Kept r (at + 1) q
-      → Holds names marks out' (at + 1) (record { mode = k; fresh = f; size = r; depth = s.depth; next = s.next; top = c }) (course m g.header q g.under b g.next)
+      → Holds levels out' (at + 1) (record { mode = k; fresh = f; size = r; depth = s.depth; next = s.next; top = c }) (course m g.header q g.under b g.next)
   unfolding KeptAll
   on_top m k f q b e t r l x w p = record {
-    roomy = h.roomy;
     its_mode = e;
     its_next = h.its_next;
     few_locals = omega (arith, h.few_locals);
@@ -204,13 +209,13 @@ module _ {names marks out : List ℕ} {at : ℕ} {s : Stage} {g : Course} (text 
 
   -- A record at the end.
   pub put_held : {out' : List ℕ} {r : ℕ} (k v : ℕ) → Grown out' s.size r (g.block ++ record_bytes k (v % 65536))
-      → Steps text 0 (λ q. Holds names marks out' (at + 1) (record { mode = 1; fresh = s.fresh; size = r; depth = s.depth; next = s.next; top = s.top }) q) (some (put
+      → Steps text (Ok (record { mode = After; fresh = s.fresh; size = r; depth = s.depth; next = s.next; top = s.top })) (Holds levels out' (at + 1)) (some (put
       (state_of text g) k v after))
-  unfolding state_of mode_number FreshIn KeptAll
+  unfolding state_of mode_of FreshIn KeptAll
   put_held {out'} {r} k v w =
       let e = short_operand k v in
       let w' = subst (λ (x : List ℕ). Grown out' s.size r (g.block ++ x)) e w in
-      went (course after g.header g.here g.under (g.block ++ record_bytes k v) g.next) refl (on_top after 1 s.fresh g.here (g.block ++ record_bytes k v) (refl)
+      went (course after g.header g.here g.under (g.block ++ record_bytes k v) g.next) refl (on_top after After s.fresh g.here (g.block ++ record_bytes k v) (refl)
       h.its_top h.rising (omega (arith, h.begun, length-append g.block (record_bytes k v))) (tt) w'
       (kept_one h.kept.0 w'.no_less (omega arith)))
 
@@ -220,27 +225,26 @@ module _ {names marks out : List ℕ} {at : ℕ} {s : Stage} {g : Course} (text 
   too_many l e m =
       let n = count_places text l (g.here ∷ g.under) (m, h.rising) in
       let c = codes_count g.under in
-      let d = ap length h.its_levels ∙ levels_count names marks s.depth in
+      let d = ap length h.its_levels ∙ levels_count levels s.depth in
       omega (arith, n, c, d, e)
 
   -- A level that begins at the end, behind a record or none.
-  new_level : {names' marks' out' : List ℕ} {r : ℕ} (b : List ℕ) (m : Mode) (k l name next : ℕ) → Stored names marks s.depth s.top names' marks' → (s.depth ≡ 1024 → ⊥)
-      → Grown out' s.size r b → g.here.start < length b → k ≡ mode_number m → ((p : Place) (end : ℕ) → FreshAt true p end → FreshIn m true p end) → next ≤ at + 1
-      → Holds names' marks' out' (at + 1)
+  new_level : {levels' : List CodeLevel} {out' : List ℕ} {r : ℕ} (b : List ℕ) (m : Mode) (k : CodeMode) (l : Scope) (name next : ℕ) → levels_in levels' (s.depth + 1) ≡ s.top ∷ levels_in levels s.depth → (s.depth ≡ 1024 → ⊥)
+      → Grown out' s.size r b → g.here.start < length b → mode_of k ≡ m → ((p : Place) (end : ℕ) → FreshAt true p end → FreshIn m true p end) → next ≤ at + 1
+      → Holds levels' out' (at + 1)
       (record { mode = k; fresh = true; size = r; depth = s.depth + 1; next = next; top = record { kind = l; start = r; arm = r; link = r; name = name; number = s.next; brackets = 0 } })
       (course m g.header
       (record { code = record { kind = l; start = r; arm = r; link = r; name = name; number = s.next; brackets = 0 }; start = length b; arm = length b; link = length b })
       (g.here ∷ g.under) b next)
   unfolding KeptAll Rising codes FreshAt
-  new_level {names'} {marks'} {out'} {r} b m k l name next t d w lt e f few =
+  new_level {levels'} {out'} {r} b m k l name next t d w lt e f few =
       let exact : r ≤ 3072 → r ≡ length b = λ h. sym (w.written.counted h) in
       record {
-        roomy = t.still_roomy;
         its_mode = e;
         its_next = refl;
         few_locals = few;
         its_top = refl;
-        its_levels = ap₂ (λ (x : CodeLevel) (xs : List CodeLevel). x ∷ xs) h.its_top h.its_levels ∙ sym t.on_top;
+        its_levels = ap₂ (λ (x : CodeLevel) (xs : List CodeLevel). x ∷ xs) h.its_top h.its_levels ∙ sym t;
         few_levels = omega (arith, h.few_levels, d);
         rising = (lt, h.rising);
         begun = omega arith;
@@ -249,37 +253,35 @@ module _ {names marks out : List ℕ} {at : ℕ} {s : Stage} {g : Course} (text 
         kept = (record { start_is = exact; arm_is = exact; link_is = exact; few_brackets = omega arith }, kept_more (g.here ∷ g.under) w.no_less (omega arith) h.kept);
       }
 
-  pub open_held : {names' marks' out' : List ℕ} {r nx : ℕ} (k v l m name : ℕ) → Sized k → Valid g (Open k v l m) → Stored names marks s.depth s.top names' marks' → (s.depth ≡ 1024 → ⊥)
+  pub open_held : {levels' : List CodeLevel} {out' : List ℕ} {r nx : ℕ} (k v : ℕ) (l : Scope) (m : CodeMode) (name : ℕ) → Sized k → Valid g (Open k v l m) → levels_in levels' (s.depth + 1) ≡ s.top ∷ levels_in levels s.depth → (s.depth ≡ 1024 → ⊥)
       → Grown out' s.size r (g.block ++ record_bytes k (v % 65536)) → nx ≡ next_after l s.next
-      → Steps text 0 (λ q. Holds names' marks' out' (at + 1)
-      (record { mode = m; fresh = true; size = r; depth = s.depth + 1; next = nx; top = record { kind = l; start = r; arm = r; link = r; name = name; number = s.next; brackets = 0 } }) q)
+      → Steps text (Ok (record { mode = m; fresh = true; size = r; depth = s.depth + 1; next = nx; top = record { kind = l; start = r; arm = r; link = r; name = name; number = s.next; brackets = 0 } })) (Holds levels' out' (at + 1))
       (made (word_at text name) (state_of text g) (Open k v l m))
   unfolding state_of made levels_of Valid level_of around_it next_after
-  open_held {names'} {marks'} {out'} {r} {nx} k v l m name z ok t d w e =
+  open_held {levels'} {out'} {r} {nx} k v l m name z ok t d w e =
       let b = g.block ++ record_bytes k v in
       let w' = subst (λ (x : List ℕ). Grown out' s.size r (g.block ++ x)) (short_operand k v) w in
       let code : CodeLevel = record { kind = l; start = r; arm = r; link = r; name = name; number = s.next; brackets = 0 } in
       let more : g.here.start < length b = omega (arith, h.begun, length-append g.block (record_bytes k v), z.its_bytes v, z.some_bytes) in
-      let held = new_level b (mode_of m) m l name nx t d w' more (sym ok.0) ok.1 (few_next l e) in
-      let same = ok.2 text code refl ∙ ap (opens l (word_at text name)) h.its_next in
+      let held = new_level b (mode_of m) m l name nx t d w' more refl ok (few_next l e) in
+      let same = ap (opens l (word_at text name)) h.its_next in
       let after_it : nx ≡ next_after l g.next = e ∙ ap (next_after l) h.its_next in
-      subst (Steps text 0 (λ q. Holds names' marks' out' (at + 1) (record { mode = m; fresh = true; size = r; depth = s.depth + 1; next = nx; top = code }) q))
+      subst (Steps text (Ok (record { mode = m; fresh = true; size = r; depth = s.depth + 1; next = nx; top = code })) (Holds levels' out' (at + 1)))
       (λ i. some (state g.header (mode_of m) (level_at (closer_of l) (same i) (length b)) (level_of text g.here g.here.code.brackets g.here.arm g.here.link
       ∷ around_it text g.here g.here.code.brackets (levels_of text g.under)) b (after_it i)))
       (went _ refl held)
     where
-      few_next : (l : ℕ) → nx ≡ next_after l s.next → nx ≤ at + 1
-      few_next l e = go (eqb l 6) (e ∙ opened_next l)
-        where
-          opened_next : (l : ℕ) → next_after l s.next ≡ cond (eqb l 6) (suc s.next) s.next
-          opened_next l = refl
+      few_next : (l : Scope) → nx ≡ next_after l s.next → nx ≤ at + 1
+      few_next Outermost e = omega (arith, e, h.few_locals)
+      few_next ThenPart e = omega (arith, e, h.few_locals)
+      few_next EndPart e = omega (arith, e, h.few_locals)
+      few_next SuspendBody e = omega (arith, e, h.few_locals)
+      few_next InBrackets e = omega (arith, e, h.few_locals)
+      few_next TrapBody e = omega (arith, e, h.few_locals)
+      few_next SignalBody e = omega (arith, e, h.few_locals)
 
-          go : (z : Bool) → nx ≡ cond z (suc s.next) s.next → nx ≤ at + 1
-          go true e = omega (arith, e, h.few_locals)
-          go false e = omega (arith, e, h.few_locals)
-
-  pub open_burst : {names' marks' out' : List ℕ} {t : Stage} (k v l m name : ℕ) → Sized k → s.depth ≡ 1024
-      → Steps text 2 (λ q. Holds names' marks' out' (at + 1) t q) (made (word_at text name) (state_of text g) (Open k v l m))
+  pub open_burst : {levels' : List CodeLevel} {out' : List ℕ} (k v : ℕ) (l : Scope) (m : CodeMode) (name : ℕ) → Sized k → s.depth ≡ 1024
+      → Steps text (Err Deep) (Holds levels' out' (at + 1)) (made (word_at text name) (state_of text g) (Open k v l m))
   unfolding state_of made levels_of
   open_burst k v l m name z e =
       burst refl (too_many (length (g.block ++ record_bytes k v)) e (omega (arith, h.begun, length-append g.block (record_bytes k v), z.its_bytes v, z.some_bytes)))
@@ -287,9 +289,9 @@ module _ {names marks out : List ℕ} {at : ℕ} {s : Stage} {g : Course} (text 
   -- A bracket of the same place.
   pub bracket_held : {t : CodeLevel} → Valid g Bracket → s.fresh ≡ true
       → t ≡ record { kind = s.top.kind; start = s.top.start; arm = s.top.arm; link = s.top.link; name = s.top.name; number = s.top.number; brackets = s.top.brackets + 1 }
-      → Steps text 0 (λ q. Holds names marks out (at + 1) (record { mode = 0; fresh = s.fresh; size = s.size; depth = s.depth; next = s.next; top = t }) q) (some (opened
+      → Steps text (Ok (record { mode = Due; fresh = s.fresh; size = s.size; depth = s.depth; next = s.next; top = t })) (Holds levels out (at + 1)) (some (opened
       (state_of text g) by_bracket [] g.next due))
-  unfolding state_of level_of around_it Valid FreshIn FreshAt mode_number KeptAll level_declares
+  unfolding state_of level_of around_it Valid FreshIn FreshAt mode_of KeptAll opens
   bracket_held {t} ok e f =
       let p = g.here in
       let n = p.code.brackets in
@@ -316,10 +318,10 @@ module _ {names marks out : List ℕ} {at : ℕ} {s : Stage} {g : Course} (text 
         brackets = a i;
       }) in
       let k = h.kept.0 in
-      subst (Steps text 0 (λ q. Holds names marks out (at + 1) (record { mode = 0; fresh = s.fresh; size = s.size; depth = s.depth; next = s.next; top = t }) q))
+      subst (Steps text (Ok (record { mode = Due; fresh = s.fresh; size = s.size; depth = s.depth; next = s.next; top = t })) (Holds levels out (at + 1)))
       (λ i. some (state g.header due (record { closer = by_bracket; declares = []; start = fr.0 i; arm = (fr.1 ∙ fr.0) i; link = (fr.2 ∙ fr.0) i })
       ((alike_level alike n p.start p.start ∙ ap₂ (level_of text p n) (sym fr.1) (sym fr.2)) i ∷ alike_around alike n (levels_of text g.under) i) g.block g.next))
-      (went (course due g.header q g.under g.block g.next) refl (on_top due 0 s.fresh q g.block (refl) (sym more) h.rising h.begun (subst (λ (z : Bool). FreshAt z q
+      (went (course due g.header q g.under g.block g.next) refl (on_top due Due s.fresh q g.block (refl) (sym more) h.rising h.begun (subst (λ (z : Bool). FreshAt z q
       (length g.block)) (sym e) fr) nothing_more
       (record { start_is = k.start_is; arm_is = k.arm_is; link_is = k.link_is; few_brackets = omega (arith, k.few_brackets) })))
 
@@ -328,31 +330,30 @@ module _ {names marks out : List ℕ} {at : ℕ} {s : Stage} {g : Course} (text 
   unfolding Valid FreshAt
   begins ok e = subst (λ (z : Bool). FreshAt z g.here (length g.block)) e (ok s.fresh h.its_fresh)
 
-  pub bracket_opened : {names' marks' : List ℕ} → Valid g Bracket → s.fresh ≡ false → Stored names marks s.depth s.top names' marks' → (s.depth ≡ 1024 → ⊥)
-      → Steps text 0 (λ q. Holds names' marks' out (at + 1) (record {
-        mode = 0;
+  pub bracket_opened : {levels' : List CodeLevel} → Valid g Bracket → s.fresh ≡ false → levels_in levels' (s.depth + 1) ≡ s.top ∷ levels_in levels s.depth → (s.depth ≡ 1024 → ⊥)
+      → Steps text (Ok (record {
+        mode = Due;
         fresh = true;
         size = s.size;
         depth = s.depth + 1;
         next = s.next;
-        top = record { kind = 4; start = s.size; arm = s.size; link = s.size; name = 0; number = 0; brackets = 0 };
-      }) q)
+        top = record { kind = InBrackets; start = s.size; arm = s.size; link = s.size; name = 0; number = 0; brackets = 0 };
+      })) (Holds levels' out (at + 1))
       (some (opened (state_of text g) by_bracket [] g.next due))
-  unfolding state_of level_of around_it levels_of level_declares closer_of mode_number FreshIn KeptAll Rising codes FreshAt
-  bracket_opened {names'} {marks'} ok e t d =
+  unfolding state_of level_of around_it levels_of opens closer_of mode_of FreshIn KeptAll Rising codes FreshAt
+  bracket_opened {levels'} ok e t d =
       let exact : s.size ≤ 3072 → s.size ≡ length g.block = λ k. sym (h.written.counted k) in
       went (course due g.header (record {
-        code = record { kind = 4; start = s.size; arm = s.size; link = s.size; name = 0; number = 0; brackets = 0 };
+        code = record { kind = InBrackets; start = s.size; arm = s.size; link = s.size; name = 0; number = 0; brackets = 0 };
         start = length g.block;
         arm = length g.block;
         link = length g.block;
       }) (g.here ∷ g.under) g.block g.next) refl (record {
-        roomy = t.still_roomy;
         its_mode = refl;
         its_next = h.its_next;
         few_locals = omega (arith, h.few_locals);
         its_top = refl;
-        its_levels = ap₂ (λ (x : CodeLevel) (xs : List CodeLevel). x ∷ xs) h.its_top h.its_levels ∙ sym t.on_top;
+        its_levels = ap₂ (λ (x : CodeLevel) (xs : List CodeLevel). x ∷ xs) h.its_top h.its_levels ∙ sym t;
         few_levels = omega (arith, h.few_levels, d);
         rising = (begins ok e, h.rising);
         begun = omega arith;
@@ -361,21 +362,21 @@ module _ {names marks out : List ℕ} {at : ℕ} {s : Stage} {g : Course} (text 
         kept = (record { start_is = exact; arm_is = exact; link_is = exact; few_brackets = omega arith }, kept_more (g.here ∷ g.under) (omega arith) (omega arith) h.kept);
       })
 
-  pub bracket_burst : {names' marks' : List ℕ} {t : Stage} → Valid g Bracket → s.fresh ≡ false → s.depth ≡ 1024
-      → Steps text 2 (λ q. Holds names' marks' out (at + 1) t q) (some (opened (state_of text g) by_bracket [] g.next due))
+  pub bracket_burst : {levels' : List CodeLevel} → Valid g Bracket → s.fresh ≡ false → s.depth ≡ 1024
+      → Steps text (Err Deep) (Holds levels' out (at + 1)) (some (opened (state_of text g) by_bracket [] g.next due))
   unfolding state_of levels_of
   bracket_burst ok e d = burst refl (too_many (length g.block) d (begins ok e))
 
   -- A bracket of the place closed, and the place closed.
-  pub close_bracket : {t : CodeLevel} (m : ℕ) → Valid g (Close m) → 0 < s.top.brackets
+  pub close_bracket : {t : CodeLevel} (m : CodeMode) → Valid g (Close m) → 0 < s.top.brackets
       → t ≡ record { kind = s.top.kind; start = s.top.start; arm = s.top.start; link = s.top.start; name = s.top.name; number = s.top.number; brackets = s.top.brackets - 1 }
-      → Steps text 0 (λ q. Holds names marks out (at + 1) (record { mode = m; fresh = s.fresh; size = s.size; depth = s.depth; next = s.next; top = t }) q) (popped
+      → Steps text (Ok (record { mode = m; fresh = s.fresh; size = s.size; depth = s.depth; next = s.next; top = t })) (Holds levels out (at + 1)) (popped
       (state_of text g).below (state_of text g) (mode_of m))
-  unfolding state_of around_it popped Valid KeptAll level_declares
+  unfolding state_of around_it popped Valid KeptAll opens
   close_bracket {t} m ok l f = go g.here.code.brackets refl
     where
       go : (n : ℕ) → g.here.code.brackets ≡ n
-          → Steps text 0 (λ q. Holds names marks out (at + 1) (record { mode = m; fresh = s.fresh; size = s.size; depth = s.depth; next = s.next; top = t }) q)
+          → Steps text (Ok (record { mode = m; fresh = s.fresh; size = s.size; depth = s.depth; next = s.next; top = t })) (Holds levels out (at + 1))
           (popped (around_it text g.here n (levels_of text g.under)) (state g.header g.mode (level_of text g.here n g.here.arm g.here.link)
           (around_it text g.here n (levels_of text g.under)) g.block g.next) (mode_of m))
       go zero e = absurd (omega (arith, l, e, ap (λ (c : CodeLevel). c.brackets) h.its_top))
@@ -403,59 +404,58 @@ module _ {names marks out : List ℕ} {at : ℕ} {s : Stage} {g : Course} (text 
             brackets = b i;
           }) in
           let k = h.kept.0 in
-          subst (Steps text 0 (λ q. Holds names marks out (at + 1) (record { mode = m; fresh = s.fresh; size = s.size; depth = s.depth; next = s.next; top = t }) q))
+          subst (Steps text (Ok (record { mode = m; fresh = s.fresh; size = s.size; depth = s.depth; next = s.next; top = t })) (Holds levels out (at + 1)))
           (λ i. some (state g.header (mode_of m) (alike_level alike n g.here.start g.here.start i) (alike_around alike n (levels_of text g.under) i) g.block g.next))
-          (went (course (mode_of m) g.header q g.under g.block g.next) refl (on_top (mode_of m) m s.fresh q g.block (sym ok.0) (sym less) h.rising h.begun
-          (ok.1 _ _ _) nothing_more
+          (went (course (mode_of m) g.header q g.under g.block g.next) refl (on_top (mode_of m) m s.fresh q g.block refl (sym less) h.rising h.begun
+          (ok _ _ _) nothing_more
           (record { start_is = k.start_is; arm_is = k.start_is; link_is = k.start_is; few_brackets = omega (arith, k.few_brackets, e) })))
 
-  pub close_none : {t : Stage} (m : ℕ) → s.top.brackets ≡ 0 → s.depth ≡ 0 → Steps text 1 (λ q. Holds names marks out (at + 1) t q) (popped (state_of text g).below (state_of text g)
+  pub close_none : (m : CodeMode) → s.top.brackets ≡ 0 → s.depth ≡ 0 → Steps text (Err Grammar) (Holds levels out (at + 1)) (popped (state_of text g).below (state_of text g)
       (mode_of m))
   unfolding state_of around_it popped levels_of levels_in codes
-  close_none {t} m b d = go g.here.code.brackets g.under (ap (λ (c : CodeLevel). c.brackets) h.its_top ∙ b) (ap length h.its_levels ∙ levels_count names marks s.depth ∙ d)
+  close_none m b d = go g.here.code.brackets g.under (ap (λ (c : CodeLevel). c.brackets) h.its_top ∙ b) (ap length h.its_levels ∙ levels_count levels s.depth ∙ d)
     where
       go : (n : ℕ) (ps : List Place) → n ≡ 0 → length (codes ps) ≡ 0
-          → Steps text 1 (λ q. Holds names marks out (at + 1) t q) (popped (around_it text g.here n (levels_of text ps)) (state_of text g) (mode_of m))
+          → Steps text (Err Grammar) (Holds levels out (at + 1)) (popped (around_it text g.here n (levels_of text ps)) (state_of text g) (mode_of m))
       go zero [] e f = faulted refl
       go zero (p ∷ ps) e f = absurd (omega (arith, f))
       go (suc n) ps e f = absurd (omega (arith, e))
 
-  pub close_place : {l : CodeLevel} (m : ℕ) → Valid g (Close m) → s.top.brackets ≡ 0 → (s.depth ≡ 0 → ⊥) → l ≡ level_in names marks (s.depth - 1)
-      → Steps text 0 (λ q. Holds names marks out (at + 1) (record { mode = m; fresh = s.fresh; size = s.size; depth = s.depth - 1; next = s.next; top = l }) q)
+  pub close_place : {l : CodeLevel} (m : CodeMode) → Valid g (Close m) → s.top.brackets ≡ 0 → (s.depth ≡ 0 → ⊥) → l ≡ level_in levels (s.depth - 1)
+      → Steps text (Ok (record { mode = m; fresh = s.fresh; size = s.size; depth = s.depth - 1; next = s.next; top = l })) (Holds levels out (at + 1))
       (popped (state_of text g).below (state_of text g) (mode_of m))
   unfolding state_of around_it popped levels_of levels_in codes Valid Rising KeptAll
   close_place {l} m ok b d f =
       go g.here.code.brackets g.under (ap (λ (c : CodeLevel). c.brackets) h.its_top ∙ b) s.depth refl h.its_levels h.rising h.kept.1
     where
-      go : (n : ℕ) (ps : List Place) → n ≡ 0 → (i : ℕ) → s.depth ≡ i → codes ps ≡ levels_in names marks i → Rising g.here.start ps → KeptAll s.size at ps
-          → Steps text 0 (λ q. Holds names marks out (at + 1) (record { mode = m; fresh = s.fresh; size = s.size; depth = s.depth - 1; next = s.next; top = l }) q)
+      go : (n : ℕ) (ps : List Place) → n ≡ 0 → (i : ℕ) → s.depth ≡ i → codes ps ≡ levels_in levels i → Rising g.here.start ps → KeptAll s.size at ps
+          → Steps text (Ok (record { mode = m; fresh = s.fresh; size = s.size; depth = s.depth - 1; next = s.next; top = l })) (Holds levels out (at + 1))
           (popped (around_it text g.here n (levels_of text ps)) (state_of text g) (mode_of m))
       go (suc n) ps e i j c r k = absurd (omega (arith, e))
       go zero ps e zero j c r k = absurd (d j)
       go zero [] e (suc i) j c r k = absurd (omega (arith, ap length c))
       go zero (p ∷ ps) e (suc i) j c r k =
           let x : s.depth - 1 ≡ i = omega (arith, j) in
-          let hd : p.code ≡ level_in names marks i = cc in
-          let tl : codes ps ≡ levels_in names marks i = cc in
+          let hd : p.code ≡ level_in levels i = cc in
+          let tl : codes ps ≡ levels_in levels i = cc in
           went (course (mode_of m) g.header p ps g.block g.next) refl (record {
-            roomy = h.roomy;
-            its_mode = sym ok.0;
+            its_mode = refl;
             its_next = h.its_next;
             few_locals = omega (arith, h.few_locals);
-            its_top = hd ∙ sym (f ∙ ap (level_in names marks) x);
-            its_levels = tl ∙ sym (ap (levels_in names marks) x);
+            its_top = hd ∙ sym (f ∙ ap (level_in levels) x);
+            its_levels = tl ∙ sym (ap (levels_in levels) x);
             few_levels = omega (arith, h.few_levels, j);
             rising = r.1;
             begun = omega (arith, h.begun, r.0);
-            its_fresh = ok.1 _ _ _;
+            its_fresh = ok _ _ _;
             written = h.written;
             kept = kept_more (p ∷ ps) (omega arith) (omega arith) k;
           })
 
   -- A record before the last basic statement, and before the last arm.
   between_held : {out' : List ℕ} {r : ℕ} (b : List ℕ) (a : ℕ) (ca : ℕ) → Grown out' s.size r b → length g.block < length b → (r ≤ 3072 → ca ≡ a)
-      → Holds names marks out' (at + 1) (record {
-        mode = 0;
+      → Holds levels out' (at + 1) (record {
+        mode = Due;
         fresh = false;
         size = r;
         depth = s.depth;
@@ -469,12 +469,12 @@ module _ {names marks out : List ℕ} {at : ℕ} {s : Stage} {g : Course} (text 
         arm = a;
         link = length b;
       }) g.under b g.next)
-  unfolding mode_number FreshIn FreshAt KeptAll
+  unfolding mode_of FreshIn FreshAt KeptAll
   between_held {out'} {r} b a ca w l e =
       let k = h.kept.0 in
       let st : s.top.start ≡ g.here.code.start = ap (λ (c : CodeLevel). c.start) (sym h.its_top) in
       let br : s.top.brackets ≡ g.here.code.brackets = ap (λ (c : CodeLevel). c.brackets) (sym h.its_top) in
-      on_top due 0 false _ b (refl) (refl) h.rising (omega (arith, h.begun, l)) (omega (arith, h.begun, l)) w
+      on_top due Due false _ b (refl) (refl) h.rising (omega (arith, h.begun, l)) (omega (arith, h.begun, l)) w
       (record { start_is = λ x. st ∙ k.start_is (omega (arith, x, w.no_less)); arm_is = e; link_is = λ x. sym (w.written.counted x); few_brackets = omega (arith, k.few_brackets, br) })
 
   -- The place after it is alike the place before.
@@ -485,7 +485,7 @@ module _ {names marks out : List ℕ} {at : ℕ} {s : Stage} {g : Course} (text 
         arm = a;
         link = k;
       }) g.here
-  unfolding level_declares
+  unfolding opens
   still_alike a k ca ck =
       let e = sym h.its_top in
       record { same_closer = ap (λ (c : CodeLevel). closer_of c.kind) e; same_names = ap (level_declares text) e; same_start = refl }
@@ -527,14 +527,14 @@ module _ {names marks out : List ℕ} {at : ℕ} {s : Stage} {g : Course} (text 
       (ap (λ (i : ℕ). around_it text q i (levels_of text g.under)) f ∙ alike_around e n (levels_of text g.under))
 
   pub sequence_held : {out' : List ℕ} {r : ℕ} → Short 21 → Grown out' s.size r (inserted 21 g.here.link g.block)
-      → Steps text 0 (λ q. Holds names marks out' (at + 1) (record {
-        mode = 0;
+      → Steps text (Ok (record {
+        mode = Due;
         fresh = false;
         size = r;
         depth = s.depth;
         next = s.next;
         top = record { kind = s.top.kind; start = s.top.start; arm = s.top.arm; link = r; name = s.top.name; number = s.top.number; brackets = s.top.brackets };
-      }) q)
+      })) (Holds levels out' (at + 1))
       (some (sequenced (state_of text g)))
   unfolding state_of KeptAll
   sequence_held {out'} {r} z w =
@@ -542,86 +542,86 @@ module _ {names marks out : List ℕ} {at : ℕ} {s : Stage} {g : Course} (text 
       let b = inserted 21 g.here.link g.block in
       let ar : s.top.arm ≡ g.here.code.arm = ap (λ (c : CodeLevel). c.arm) (sym h.its_top) in
       let br : s.top.brackets ≡ n = ap (λ (c : CodeLevel). c.brackets) (sym h.its_top) in
-      subst (Steps text 0 (λ q. Holds names marks out' (at + 1) (record {
-        mode = 0;
+      subst (Steps text (Ok (record {
+        mode = Due;
         fresh = false;
         size = r;
         depth = s.depth;
         next = s.next;
         top = record { kind = s.top.kind; start = s.top.start; arm = s.top.arm; link = r; name = s.top.name; number = s.top.number; brackets = s.top.brackets };
-      }) q))
+      })) (Holds levels out' (at + 1)))
       (ap some (put_back _ due b (still_alike g.here.arm (length b) s.top.arm r) br ∙ sym (sequenced_as n (around_it text g.here n (levels_of text g.under)))))
       (went _ refl (between_held b g.here.arm s.top.arm w (longer_by 21 g.here.link z) (λ x. ar ∙ h.kept.0.arm_is (omega (arith, x, w.no_less)))))
 
   pub parallel_held : {out' : List ℕ} {r : ℕ} → Short 23 → Grown out' s.size r (inserted 23 g.here.arm g.block)
-      → Steps text 0 (λ q. Holds names marks out' (at + 1) (record {
-        mode = 0;
+      → Steps text (Ok (record {
+        mode = Due;
         fresh = false;
         size = r;
         depth = s.depth;
         next = s.next;
         top = record { kind = s.top.kind; start = s.top.start; arm = r; link = r; name = s.top.name; number = s.top.number; brackets = s.top.brackets };
-      }) q)
+      })) (Holds levels out' (at + 1))
       (some (paralleled (state_of text g)))
   unfolding state_of KeptAll
   parallel_held {out'} {r} z w =
       let n = g.here.code.brackets in
       let b = inserted 23 g.here.arm g.block in
       let br : s.top.brackets ≡ n = ap (λ (c : CodeLevel). c.brackets) (sym h.its_top) in
-      subst (Steps text 0 (λ q. Holds names marks out' (at + 1) (record {
-        mode = 0;
+      subst (Steps text (Ok (record {
+        mode = Due;
         fresh = false;
         size = r;
         depth = s.depth;
         next = s.next;
         top = record { kind = s.top.kind; start = s.top.start; arm = r; link = r; name = s.top.name; number = s.top.number; brackets = s.top.brackets };
-      }) q))
+      })) (Holds levels out' (at + 1)))
       (ap some (put_back _ due b (still_alike (length b) (length b) r r) br ∙ sym (paralleled_as n (around_it text g.here n (levels_of text g.under)))))
       (went _ refl (between_held b (length b) r w (longer_by 23 g.here.arm z) (λ x. sym (w.written.counted x))))
 
   -- The second part of a present.
   pub turn_held : Valid g Turn
-      → Steps text 0 (λ q. Holds names marks out (at + 1) (record {
-        mode = 0;
+      → Steps text (Ok (record {
+        mode = Due;
         fresh = true;
         size = s.size;
         depth = s.depth;
         next = s.next;
-        top = record { kind = 2; start = s.size; arm = s.size; link = s.size; name = 0; number = 0; brackets = 0 };
-      }) q)
+        top = record { kind = EndPart; start = s.size; arm = s.size; link = s.size; name = 0; number = 0; brackets = 0 };
+      })) (Holds levels out (at + 1))
       (some (turned (state_of text g)))
-  unfolding state_of level_of around_it level_declares closer_of mode_number FreshIn FreshAt KeptAll Valid
+  unfolding state_of level_of around_it opens closer_of mode_of FreshIn FreshAt KeptAll Valid
   turn_held ok =
       let exact : s.size ≤ 3072 → s.size ≡ length g.block = λ k. sym (h.written.counted k) in
-      subst (Steps text 0 (λ q. Holds names marks out (at + 1) (record {
-        mode = 0;
+      subst (Steps text (Ok (record {
+        mode = Due;
         fresh = true;
         size = s.size;
         depth = s.depth;
         next = s.next;
-        top = record { kind = 2; start = s.size; arm = s.size; link = s.size; name = 0; number = 0; brackets = 0 };
-      }) q))
+        top = record { kind = EndPart; start = s.size; arm = s.size; link = s.size; name = 0; number = 0; brackets = 0 };
+      })) (Holds levels out (at + 1)))
       (ap (λ (n : ℕ). some (state g.header due (level_at by_end [] (length g.block)) (around_it text g.here n (levels_of text g.under)) g.block g.next)) (sym ok))
       (went (course due g.header (record {
-        code = record { kind = 2; start = s.size; arm = s.size; link = s.size; name = 0; number = 0; brackets = 0 };
+        code = record { kind = EndPart; start = s.size; arm = s.size; link = s.size; name = 0; number = 0; brackets = 0 };
         start = length g.block;
         arm = length g.block;
         link = length g.block;
-      }) g.under g.block g.next) refl (on_top due 0 true _ g.block (refl) (refl) (further g.under h.begun h.rising) (omega arith) ((refl, refl, refl)) nothing_more
+      }) g.under g.block g.next) refl (on_top due Due true _ g.block (refl) (refl) (further g.under h.begun h.rising) (omega arith) ((refl, refl, refl)) nothing_more
       (record { start_is = exact; arm_is = exact; link_is = exact; few_brackets = omega arith })))
 
   -- The signal of a suspend.
   pub when_held : {out' : List ℕ} (v : ℕ) → Written out' s.size (operand_set (v % 65536) g.here.link g.block)
-      → Steps text 0 (λ q. Holds names marks out' (at + 1) (record { mode = 1; fresh = s.fresh; size = s.size; depth = s.depth; next = s.next; top = s.top }) q) (some (whened
+      → Steps text (Ok (record { mode = After; fresh = s.fresh; size = s.size; depth = s.depth; next = s.next; top = s.top })) (Holds levels out' (at + 1)) (some (whened
       (state_of text g) v))
-  unfolding state_of mode_number FreshIn KeptAll
+  unfolding state_of mode_of FreshIn KeptAll
   when_held {out'} v w =
       let n = g.here.code.brackets in
       let w' = subst (Written out' s.size) (short_set v g.here.link g.block) w in
       let same = set_long v g.here.link g.block in
-      subst (Steps text 0 (λ q. Holds names marks out' (at + 1) (record { mode = 1; fresh = s.fresh; size = s.size; depth = s.depth; next = s.next; top = s.top }) q))
+      subst (Steps text (Ok (record { mode = After; fresh = s.fresh; size = s.size; depth = s.depth; next = s.next; top = s.top })) (Holds levels out' (at + 1)))
       (ap some (sym (whened_as n v (around_it text g.here n (levels_of text g.under)))))
-      (went (course after g.header g.here g.under (operand_set v g.here.link g.block) g.next) refl (on_top after 1 s.fresh g.here (operand_set v g.here.link
+      (went (course after g.header g.here g.under (operand_set v g.here.link g.block) g.next) refl (on_top after After s.fresh g.here (operand_set v g.here.link
       g.block) (refl) h.its_top h.rising (omega (arith, h.begun, same)) (tt) (record { written = w'; no_less = omega arith })
       (kept_one h.kept.0 (omega arith) (omega arith))))
 
@@ -635,23 +635,22 @@ module _ {names marks out : List ℕ} {at : ℕ} {s : Stage} {g : Course} (text 
   arm_right l = ap (λ (c : CodeLevel). c.arm) (sym h.its_top) ∙ h.kept.0.arm_is l
 
   -- Another mode.
-  pub to_held : (m : ℕ) → Valid g (To m)
-      → Steps text 0 (λ q. Holds names marks out (at + 1) (record { mode = m; fresh = s.fresh; size = s.size; depth = s.depth; next = s.next; top = s.top }) q) (some (to
+  pub to_held : (m : CodeMode) → Valid g (To m)
+      → Steps text (Ok (record { mode = m; fresh = s.fresh; size = s.size; depth = s.depth; next = s.next; top = s.top })) (Holds levels out (at + 1)) (some (to
       (state_of text g) (mode_of m)))
   unfolding state_of Valid KeptAll
   to_held m ok =
-      went (course (mode_of m) g.header g.here g.under g.block g.next) refl (on_top (mode_of m) m s.fresh g.here g.block (sym ok.0) h.its_top h.rising
-      h.begun (ok.1 _ h.its_fresh) nothing_more
+      went (course (mode_of m) g.header g.here g.under g.block g.next) refl (on_top (mode_of m) m s.fresh g.here g.block refl h.its_top h.rising
+      h.begun (ok _ h.its_fresh) nothing_more
       (kept_one h.kept.0 (omega arith) (omega arith)))
 
-pub same_move : {names marks out : List ℕ} {s : Stage} {name : ℕ} {m m' : Move} {names' marks' out' : List ℕ} {r : Stepped} → m ≡ m' → Does names marks out s name m' names' marks' out' r
-    → Does names marks out s name m names' marks' out' r
-same_move {names} {marks} {out} {s} {name} {m} {m'} {names'} {marks'} {out'} {r} e d = subst (λ (x : Move). Does names marks out s name x names' marks' out' r) (sym e) d
+pub same_move : {levels : List CodeLevel} {out : List ℕ} {s : Stage} {name : ℕ} {m m' : Move} {levels' : List CodeLevel} {out' : List ℕ} {r : Result Stage Refused} → m ≡ m' → Does levels out s name m' levels' out' r
+    → Does levels out s name m levels' out' r
+same_move {levels} {out} {s} {name} {m} {m'} {levels'} {out'} {r} e d = subst (λ (x : Move). Does levels out s name x levels' out' r) (sym e) d
 
 -- What is held stays so while more of the text is read; and not over 1,024 places are open.
-pub held_on : {names marks out : List ℕ} {at to : ℕ} {s : Stage} {g : Course} → at ≤ to → Holds names marks out at s g → Holds names marks out to s g
+pub held_on : {levels : List CodeLevel} {out : List ℕ} {at to : ℕ} {s : Stage} {g : Course} → at ≤ to → Holds levels out at s g → Holds levels out to s g
 held_on {g = g} l h = record {
-  roomy = h.roomy;
   its_mode = h.its_mode;
   its_next = h.its_next;
   few_locals = omega (arith, h.few_locals, l);
@@ -665,13 +664,13 @@ held_on {g = g} l h = record {
   kept = kept_more (g.here ∷ g.under) (omega arith) l h.kept;
 }
 
-pub few_places : {names marks out : List ℕ} {at : ℕ} {s : Stage} {g : Course} (text : List ℕ) → Holds names marks out at s g → places (state_of text g).top.start (state_of text g).below ≤ 1025
+pub few_places : {levels : List CodeLevel} {out : List ℕ} {at : ℕ} {s : Stage} {g : Course} (text : List ℕ) → Holds levels out at s g → places (state_of text g).top.start (state_of text g).below ≤ 1025
 unfolding state_of
-few_places {names} {marks} {s = s} {g = g} text h =
+few_places {levels} {s = s} {g = g} text h =
     let p = g.here in
     let n = p.code.brackets in
     let e = ap (λ (x : ℕ). places x (around_it text p n (levels_of text g.under))) (level_start text p n p.arm p.link) ∙ one_place text p n (levels_of text g.under)
     ∙ count_places text p.start g.under h.rising in
     let c = codes_count g.under in
-    let d = ap length h.its_levels ∙ levels_count names marks s.depth in
+    let d = ap length h.its_levels ∙ levels_count levels s.depth in
     omega (arith, e, c, d, h.few_levels)

@@ -1,30 +1,38 @@
 -- The moves of the tables are ones that can be made, and a token's step is the move that the tables have for it. Assumes nothing.
-use mathlib.Core.Path.{◌≡◌, refl, sym, ap, ap₂, ◌∙◌, subst}
+use mathlib.Core.Path.{◌≡◌, refl, sym, ap, ◌∙◌, subst, subst⁻¹}
 use mathlib.Core.Bool.{Bool, true, false, cond}
 use mathlib.Core.List.{List, [], ◌∷◌, ◌++◌}
-use mathlib.Core.Option.{Option, none, some}
-use Prim.Native.Nat.{ℕ, zero, suc, ◌+◌, ◌≤◌, ◌<◌}
+use mathlib.Core.Option.{none}
+use Rattle.std.specs.Prelude.{Result, Err}
+use mathlib.Core.Logic.{◌⊎◌, inl, inr}
+use Prim.Native.Nat.{ℕ, zero, suc, ◌+◌}
 use native.Mathlib.Omega.{arith}
-use borrow.Author.Tests.{ne_eqb, eq-eqb}
-use lib.Dec.{T, eqb, eqb→eq, ltb}
+use borrow.Author.Tests.{ne_eqb}
+use lib.Dec.{T, eqb, eqb→eq}
 use lib.ListN.{length}
-use Rattle.text.specs.Tokens.{name, number, sign, no_token, NOTHING, PAUSE, EMIT, PRESENT, THEN, ELSE, END, SUSPEND, WHEN, LOOP, TRAP, IN, EXIT, SIGNAL, SEMICOLON, BRACKET, CLOSED, BESIDE}
-use Rattle.text.specs.Meaning.{Declaration, signal_named, trap_named}
+use Rattle.text.specs.Tokens.{name, sign, NOTHING, PAUSE, EMIT, PRESENT, THEN, ELSE, END, SUSPEND, WHEN, LOOP, TRAP, IN, EXIT, SIGNAL, SEMICOLON, BRACKET, CLOSED, BESIDE}
+use Rattle.text.specs.Meaning.{Declaration}
 use Rattle.text.specs.Coded.{from_kind}
-use Rattle.text.specs.Machine.{Closer, at_the_end, by_else, by_end, by_when, by_bracket, Level, Mode, due, after, emit_name, exit_name, present_name, trap_name, signal_name, when_name}
-use Rattle.text.specs.Machine.{then_due, in_due, State, declared_by, around, due_step, closed, after_step, by_sign, by_name, step}
+use Rattle.text.specs.Machine.{Level, Mode, due}
+use Rattle.text.specs.Machine.{then_due, in_due, declared_by, around, by_sign, by_name, step}
 use Rattle.read_steps.specs.Found.{found_in, word_at, level_declares, through, through_all, header_names, names_found}
-use Rattle.read_steps.specs.Levels.{levels_in}
-use Rattle.read_steps.specs.Moves.{mode_number, mode_of, closer_of, due_move, closed_move, after_move, sign_move, signal_move, trap_move, new_move, found_move, opens, made}
+use Rattle.read_steps.specs.Moves.{mode_of, closer_of, due_move, closed_move, after_move, sign_move, signal_move, trap_move, new_move, found_move, made}
 use Rattle.read_steps.specs.Holding.{Place, level_of, around_it, levels_of, Course, state_of, codes, FreshAt, FreshIn, Holds, Steps, faulted, Valid, Does, Safe, closer_in}
 use Rattle.read_steps.specs.declared.levels.Level.{Level as CodeLevel}
+use Rattle.read_steps.specs.declared.modes.Mode.{Mode as CodeMode}
+use Rattle.read_steps.specs.declared.modes.Mode.TheVariants.{Due, After, EmitName, ExitName, PresentName, TrapName, SignalName, WhenName, ThenDue, InDue}
+use Rattle.read_steps.specs.declared.levels.Scope.{Scope}
+use Rattle.read_steps.specs.declared.levels.Scope.TheVariants.{Outermost, ThenPart, EndPart, SuspendBody, InBrackets, TrapBody, SignalBody}
 use Rattle.read_steps.specs.declared.steps.Stage.{Stage}
-use Rattle.read_steps.specs.declared.steps.Stepped.{Stepped}
+use Rattle.read_steps.specs.declared.steps.Fault.{Fault as Refused}
+use Rattle.read_steps.specs.declared.steps.Fault.TheVariants.{Grammar}
+use Rattle.text.specs.declared.tokens.Kind.{Kind}
+use Rattle.text.specs.declared.tokens.Kind.TheVariants.{Sign, Name, Number, Nothing as NoToken, End}
 use Rattle.text.specs.declared.tokens.Token.{Token as CodedToken}
 use Rattle.read_steps.specs.declared.found.Found.{Found}
 use Rattle.read_steps.specs.declared.found.Found.TheVariants.{Nothing, Signal, Trap}
 use Rattle.read_steps.specs.declared.moves.Move.{Move}
-use Rattle.read_steps.specs.declared.moves.Move.TheVariants.{Fault, To, Put, Open, Bracket, Close, Sequence, Parallel, Turn, When}
+use Rattle.read_steps.specs.declared.moves.Move.TheVariants.{Fault, To, Bracket}
 use Rattle.read_steps.proofs.FoundLaws.{through_found}
 use Rattle.read_steps.proofs.MoveLaws.{sign_made, name_made}
 use Rattle.read_steps.proofs.StepLaws.{sized_16, sized_17, sized_18, sized_19, sized_20, sized_22, sized_24, sized_25, sized_26}
@@ -40,117 +48,143 @@ due_safe k =
     either Safe (eqb k NOTHING) sized_16 (either Safe (eqb k PAUSE) sized_17 (either Safe (eqb k EMIT) tt (either Safe (eqb k EXIT) tt (either Safe (eqb k PRESENT) tt (either Safe (eqb k TRAP) tt
     (either Safe (eqb k SIGNAL) tt (either Safe (eqb k SUSPEND) sized_20 (either Safe (eqb k LOOP) sized_22 (either Safe (eqb k BRACKET) tt tt)))))))))
 
-after_safe : (c k : ℕ) → Safe (after_move c k)
-unfolding after_move closed_move Safe
-after_safe c k =
-    either Safe (eqb k SEMICOLON) tt (either Safe (eqb k BESIDE) tt (either Safe (eqb c 0) tt (either Safe (eqb c 1) (either Safe (eqb k ELSE) tt tt) (either Safe (eqb c 3) (either Safe
-    (eqb k WHEN) tt tt)
-    (either Safe (eqb c 4) (either Safe (eqb k CLOSED) tt tt) (either Safe (eqb k END) tt tt))))))
+closed_safe : (c : Scope) (k : ℕ) → Safe (closed_move c k)
+unfolding closed_move Safe
+closed_safe Outermost k = tt
+closed_safe ThenPart k = either Safe (eqb k ELSE) tt tt
+closed_safe EndPart k = either Safe (eqb k END) tt tt
+closed_safe SuspendBody k = either Safe (eqb k WHEN) tt tt
+closed_safe InBrackets k = either Safe (eqb k CLOSED) tt tt
+closed_safe TrapBody k = either Safe (eqb k END) tt tt
+closed_safe SignalBody k = either Safe (eqb k END) tt tt
 
-pub sign_safe : (m c k : ℕ) → Safe (sign_move m c k)
-unfolding sign_move Safe
-sign_safe m c k =
-    either Safe (eqb m 0) (due_safe k) (either Safe (eqb m 1) (after_safe c k) (either Safe (eqb m 8) (either Safe (eqb k THEN) tt tt) (either Safe (eqb m 9) (either Safe (eqb k IN) tt tt) tt)))
+pub sign_safe : (m : CodeMode) (c : Scope) (k : ℕ) → Safe (sign_move m c k)
+unfolding sign_move after_move Safe
+sign_safe Due c k = due_safe k
+sign_safe After c k = either Safe (eqb k SEMICOLON) tt (either Safe (eqb k BESIDE) tt (closed_safe c k))
+sign_safe EmitName c k = tt
+sign_safe ExitName c k = tt
+sign_safe PresentName c k = tt
+sign_safe TrapName c k = tt
+sign_safe SignalName c k = tt
+sign_safe WhenName c k = tt
+sign_safe ThenDue c k = either Safe (eqb k THEN) tt tt
+sign_safe InDue c k = either Safe (eqb k IN) tt tt
 
-pub name_safe : (m : ℕ) (f : Found) (n : ℕ) → Safe (found_move m f n)
+pub name_safe : (m : CodeMode) (f : Found) (n : ℕ) → Safe (found_move m f n)
 unfolding found_move signal_move trap_move new_move Safe
-name_safe m Nothing n = either Safe (eqb m 5) sized_24 (either Safe (eqb m 6) sized_26 tt)
-name_safe m (Signal s) n = either Safe (eqb m 2) sized_18 (either Safe (eqb m 4) sized_19 (either Safe (eqb m 7) tt tt))
-name_safe m (Trap d) n = either Safe (eqb m 3) sized_25 tt
-
--- What a level of a kind declares.
-declares_as : (l : ℕ) (text : List ℕ) (c : CodeLevel) → c.kind ≡ l
-    → level_declares text c ≡ cond (ltb l 5) [] (cond (eqb l 5) (trap_named (word_at text c.name) ∷ []) (signal_named (word_at text c.name) c.number ∷ []))
-unfolding level_declares
-declares_as l text c e = ap (λ (k : ℕ). cond (ltb k 5) [] (cond (eqb k 5) (trap_named (word_at text c.name) ∷ []) (signal_named (word_at text c.name) c.number ∷ []))) e
+name_safe Due Nothing n = tt
+name_safe Due (Signal s) n = tt
+name_safe Due (Trap d) n = tt
+name_safe After Nothing n = tt
+name_safe After (Signal s) n = tt
+name_safe After (Trap d) n = tt
+name_safe EmitName Nothing n = tt
+name_safe EmitName (Signal s) n = sized_18
+name_safe EmitName (Trap d) n = tt
+name_safe ExitName Nothing n = tt
+name_safe ExitName (Signal s) n = tt
+name_safe ExitName (Trap d) n = sized_25
+name_safe PresentName Nothing n = tt
+name_safe PresentName (Signal s) n = sized_19
+name_safe PresentName (Trap d) n = tt
+name_safe TrapName Nothing n = sized_24
+name_safe TrapName (Signal s) n = tt
+name_safe TrapName (Trap d) n = tt
+name_safe SignalName Nothing n = sized_26
+name_safe SignalName (Signal s) n = tt
+name_safe SignalName (Trap d) n = tt
+name_safe WhenName Nothing n = tt
+name_safe WhenName (Signal s) n = tt
+name_safe WhenName (Trap d) n = tt
+name_safe ThenDue Nothing n = tt
+name_safe ThenDue (Signal s) n = tt
+name_safe ThenDue (Trap d) n = tt
+name_safe InDue Nothing n = tt
+name_safe InDue (Signal s) n = tt
+name_safe InDue (Trap d) n = tt
 
 module _ (g : Course) where
-  due_valid : (k : ℕ) → g.mode ≡ due → Valid g (due_move k)
-  unfolding due_move Valid mode_of mode_number FreshIn opens
+  due_valid : (k : ℕ) → due ≡ g.mode → Valid g (due_move k)
+  unfolding due_move Valid mode_of FreshIn
   due_valid k e =
-      let suspends : Valid g (Open 20 0 3 0) = (refl, (λ p end x. x), λ text c h. declares_as 3 text c h) in
-      let loops : Valid g (Open 22 0 2 0) = (refl, (λ p end x. x), λ text c h. declares_as 2 text c h) in
-      let bracket : Valid g Bracket = λ f x. subst (λ (m : Mode). FreshIn m f g.here (length g.block)) e x in
+      let bracket : Valid g Bracket = λ f x. subst⁻¹ (λ (m : Mode). FreshIn m f g.here (length g.block)) e x in
       let on : (f : Bool) → FreshIn g.mode f g.here (length g.block) → Unit {0} = λ f x. tt in
-      either (Valid g) (eqb k NOTHING) tt (either (Valid g) (eqb k PAUSE) tt (either (Valid g) (eqb k EMIT) (refl, on) (either (Valid g) (eqb k EXIT) (refl, on)
-      (either (Valid g) (eqb k PRESENT) (refl, on) (either (Valid g) (eqb k TRAP) (refl, on) (either (Valid g) (eqb k SIGNAL) (refl, on) (either (Valid g) (eqb k SUSPEND) suspends
-      (either (Valid g) (eqb k LOOP) loops (either (Valid g) (eqb k BRACKET) bracket tt)))))))))
+      either (Valid g) (eqb k NOTHING) tt (either (Valid g) (eqb k PAUSE) tt (either (Valid g) (eqb k EMIT) on (either (Valid g) (eqb k EXIT) on
+      (either (Valid g) (eqb k PRESENT) on (either (Valid g) (eqb k TRAP) on (either (Valid g) (eqb k SIGNAL) on (either (Valid g) (eqb k SUSPEND) (λ p end x. x)
+      (either (Valid g) (eqb k LOOP) (λ p end x. x) (either (Valid g) (eqb k BRACKET) bracket tt)))))))))
 
-  after_valid : (c k : ℕ) → c ≡ closer_in g.here.code → Valid g (after_move c k)
-  unfolding after_move closed_move Valid mode_of mode_number FreshIn closer_in
-  after_valid c k e =
-      let closes : (refl_of : Bool) → Valid g (Close 1) = λ z. (refl, λ f p end. tt) in
-      let waits : Valid g (Close 7) = (refl, λ f p end. tt) in
-      either (Valid g) (eqb k SEMICOLON) tt (either (Valid g) (eqb k BESIDE) tt (either (Valid g) (eqb c 0) tt (turns (eqb c 1) refl _ (either (Valid g) (eqb c 3) (either (Valid g)
-      (eqb k WHEN) waits tt)
-      (either (Valid g) (eqb c 4) (either (Valid g) (eqb k CLOSED) (closes true) tt) (either (Valid g) (eqb k END) (closes true) tt))))))
+  -- `else` closes a level that no bracket is open in.
+  closed_valid : (c : Scope) (k : ℕ) → c ≡ closer_in g.here.code → Valid g (closed_move c k)
+  unfolding closed_move Valid mode_of FreshIn closer_in
+  closed_valid Outermost k e = tt
+  closed_valid ThenPart k e = either (Valid g) (eqb k ELSE) (no_bracket g.here.code.brackets (eqb g.here.code.brackets 0) refl e) tt
     where
-      no_bracket : (b : ℕ) (z : Bool) → eqb b 0 ≡ z → 1 ≡ cond z g.here.code.kind 4 → b ≡ 0
+      no_bracket : (b : ℕ) (z : Bool) → eqb b 0 ≡ z → ThenPart ≡ cond z g.here.code.kind InBrackets → b ≡ 0
       no_bracket b true q h = eqb→eq b 0 (subst T (sym q) tt)
-      no_bracket b false q h = absurd (omega (arith, h))
+      no_bracket b false q h = let y : ◌≡◌ {A = ℕ} 0 1 = cc in absurd (omega arith)
+  closed_valid EndPart k e = either (Valid g) (eqb k END) (λ f p end. tt) tt
+  closed_valid SuspendBody k e = either (Valid g) (eqb k WHEN) (λ f p end. tt) tt
+  closed_valid InBrackets k e = either (Valid g) (eqb k CLOSED) (λ f p end. tt) tt
+  closed_valid TrapBody k e = either (Valid g) (eqb k END) (λ f p end. tt) tt
+  closed_valid SignalBody k e = either (Valid g) (eqb k END) (λ f p end. tt) tt
 
-      turns : (z : Bool) → eqb c 1 ≡ z → (n : Move) → Valid g n → Valid g (cond z (cond (eqb k ELSE) Turn Fault) n)
-      turns false q n v = v
-      turns true q n v =
-          let one : c ≡ 1 = eqb→eq c 1 (subst T (sym q) tt) in
-          either (Valid g) (eqb k ELSE) (no_bracket g.here.code.brackets (eqb g.here.code.brackets 0) refl (sym one ∙ e)) tt
+  waiting : (m : Mode) → m ≡ g.mode → ((f : Bool) → FreshIn m f g.here (length g.block) → FreshAt f g.here (length g.block)) → (z : Bool) → Valid g (cond z (To Due) Fault)
+  unfolding Valid mode_of FreshIn
+  waiting m e h true = λ f x. h f (subst⁻¹ (λ (n : Mode). FreshIn n f g.here (length g.block)) e x)
+  waiting m e h false = tt
 
-  waiting : (m : Mode) (k : ℕ) → g.mode ≡ m → ((f : Bool) → FreshIn m f g.here (length g.block) → FreshAt f g.here (length g.block)) → (z : Bool) → Valid g (cond z (To 0) Fault)
-  unfolding Valid mode_of mode_number FreshIn
-  waiting m k e h true = (refl, λ f x. h f (subst (λ (n : Mode). FreshIn n f g.here (length g.block)) e x))
-  waiting m k e h false = tt
+  pub sign_valid : (m : CodeMode) → mode_of m ≡ g.mode → (c : Scope) (k : ℕ) → c ≡ closer_in g.here.code → Valid g (sign_move m c k)
+  unfolding sign_move after_move mode_of Valid FreshIn
+  sign_valid Due e c k q = due_valid k e
+  sign_valid After e c k q = either (Valid g) (eqb k SEMICOLON) tt (either (Valid g) (eqb k BESIDE) tt (closed_valid c k q))
+  sign_valid EmitName e c k q = tt
+  sign_valid ExitName e c k q = tt
+  sign_valid PresentName e c k q = tt
+  sign_valid TrapName e c k q = tt
+  sign_valid SignalName e c k q = tt
+  sign_valid WhenName e c k q = tt
+  sign_valid ThenDue e c k q = waiting then_due e (λ f x. x) (eqb k THEN)
+  sign_valid InDue e c k q = waiting in_due e (λ f x. x) (eqb k IN)
 
-  pub sign_valid : (m : Mode) → g.mode ≡ m → (c k : ℕ) → c ≡ closer_in g.here.code → Valid g (sign_move (mode_number m) c k)
-  unfolding sign_move mode_number Valid FreshIn
-  sign_valid due e c k q = due_valid k e
-  sign_valid after e c k q = after_valid c k q
-  sign_valid emit_name e c k q = tt
-  sign_valid exit_name e c k q = tt
-  sign_valid present_name e c k q = tt
-  sign_valid trap_name e c k q = tt
-  sign_valid signal_name e c k q = tt
-  sign_valid when_name e c k q = tt
-  sign_valid then_due e c k q = waiting then_due k e (λ f x. x) (eqb k THEN)
-  sign_valid in_due e c k q = waiting in_due k e (λ f x. x) (eqb k IN)
-
-  pub name_valid : (m : Mode) (f : Found) (n : ℕ) → Valid g (found_move (mode_number m) f n)
-  unfolding found_move signal_move trap_move new_move mode_number Valid mode_of FreshIn opens
-  name_valid due Nothing n = tt
-  name_valid due (Signal s) n = tt
-  name_valid due (Trap d) n = tt
-  name_valid after Nothing n = tt
-  name_valid after (Signal s) n = tt
-  name_valid after (Trap d) n = tt
-  name_valid emit_name Nothing n = tt
-  name_valid emit_name (Signal s) n = tt
-  name_valid emit_name (Trap d) n = tt
-  name_valid exit_name Nothing n = tt
-  name_valid exit_name (Signal s) n = tt
-  name_valid exit_name (Trap d) n = tt
-  name_valid present_name Nothing n = tt
-  name_valid present_name (Signal s) n = (refl, (λ p end x. x), λ text c h. declares_as 1 text c h)
-  name_valid present_name (Trap d) n = tt
-  name_valid trap_name Nothing n = (refl, (λ p end x. x), λ text c h. declares_as 5 text c h)
-  name_valid trap_name (Signal s) n = tt
-  name_valid trap_name (Trap d) n = tt
-  name_valid signal_name Nothing n = (refl, (λ p end x. x), λ text c h. declares_as 6 text c h)
-  name_valid signal_name (Signal s) n = tt
-  name_valid signal_name (Trap d) n = tt
-  name_valid when_name Nothing n = tt
-  name_valid when_name (Signal s) n = tt
-  name_valid when_name (Trap d) n = tt
-  name_valid then_due Nothing n = tt
-  name_valid then_due (Signal s) n = tt
-  name_valid then_due (Trap d) n = tt
-  name_valid in_due Nothing n = tt
-  name_valid in_due (Signal s) n = tt
-  name_valid in_due (Trap d) n = tt
+  pub name_valid : (m : CodeMode) (f : Found) (n : ℕ) → Valid g (found_move m f n)
+  unfolding found_move signal_move trap_move new_move Valid mode_of FreshIn
+  name_valid Due Nothing n = tt
+  name_valid Due (Signal s) n = tt
+  name_valid Due (Trap d) n = tt
+  name_valid After Nothing n = tt
+  name_valid After (Signal s) n = tt
+  name_valid After (Trap d) n = tt
+  name_valid EmitName Nothing n = tt
+  name_valid EmitName (Signal s) n = tt
+  name_valid EmitName (Trap d) n = tt
+  name_valid ExitName Nothing n = tt
+  name_valid ExitName (Signal s) n = tt
+  name_valid ExitName (Trap d) n = tt
+  name_valid PresentName Nothing n = tt
+  name_valid PresentName (Signal s) n = λ p end x. x
+  name_valid PresentName (Trap d) n = tt
+  name_valid TrapName Nothing n = λ p end x. x
+  name_valid TrapName (Signal s) n = tt
+  name_valid TrapName (Trap d) n = tt
+  name_valid SignalName Nothing n = λ p end x. x
+  name_valid SignalName (Signal s) n = tt
+  name_valid SignalName (Trap d) n = tt
+  name_valid WhenName Nothing n = tt
+  name_valid WhenName (Signal s) n = tt
+  name_valid WhenName (Trap d) n = tt
+  name_valid ThenDue Nothing n = tt
+  name_valid ThenDue (Signal s) n = tt
+  name_valid ThenDue (Trap d) n = tt
+  name_valid InDue Nothing n = tt
+  name_valid InDue (Signal s) n = tt
+  name_valid InDue (Trap d) n = tt
 
 -- What closes the innermost level, and what is declared around it.
-closer_right : (text : List ℕ) (p : Place) (n a k : ℕ) → (level_of text p n a k).closer ≡ closer_of (cond (eqb n 0) p.code.kind 4)
+closer_right : (text : List ℕ) (p : Place) (n a k : ℕ) → (level_of text p n a k).closer ≡ closer_of (cond (eqb n 0) p.code.kind InBrackets)
 unfolding level_of closer_of
 closer_right text p zero a k = refl
-closer_right text p (suc n) a k = ap (λ (z : Bool). closer_of (cond z p.code.kind 4)) (sym (ne_eqb (suc n) 0 (λ e. omega (arith, e))))
+closer_right text p (suc n) a k = ap (λ (z : Bool). closer_of (cond z p.code.kind InBrackets)) (sym (ne_eqb (suc n) 0 (λ e. omega (arith, e))))
 
 pub state_closer : (text : List ℕ) (g : Course) → (state_of text g).top.closer ≡ closer_of (closer_in g.here.code)
 unfolding state_of closer_in
@@ -173,75 +207,58 @@ around_found : (text : List ℕ) (g : Course) (x : List ℕ) → found_in (aroun
 unfolding state_of levels_of declared_by codes
 around_found text g x = all_found text g.header (g.here ∷ g.under) x
 
--- What is no token has no row.
-no_row : (m : Mode) (s : State) → by_sign m s 19 ≡ none
-unfolding by_sign due_step after_step closed
-no_row due s = refl
-no_row after s = go s.top.closer
-  where
-    go : (c : Closer) → closed c s 19 ≡ none
-    go at_the_end = refl
-    go by_else = refl
-    go by_end = refl
-    go by_when = refl
-    go by_bracket = refl
-no_row emit_name s = refl
-no_row exit_name s = refl
-no_row present_name s = refl
-no_row trap_name s = refl
-no_row signal_name s = refl
-no_row when_name s = refl
-no_row then_due s = refl
-no_row in_due s = refl
-
 -- A token's step.
-module _ (text : List ℕ) (g : Course) where
-  pub number_step : (k v : ℕ) (w : List ℕ) → k ≡ 18 → step (state_of text g) (from_kind k v w) ≡ none
-  unfolding step from_kind
-  number_step k v w e = ap (λ (i : ℕ). step (state_of text g) (from_kind i v w)) e
+module _ (text : List ℕ) (g : Course) (m : CodeMode) (e : mode_of m ≡ g.mode) where
+  sign_step : (k : ℕ) (x : List ℕ) {c : Scope} → c ≡ closer_in g.here.code → made x (state_of text g) (sign_move m c k) ≡ step (state_of text g) (sign k)
+  unfolding step state_of
+  sign_step k x {c} f = sign_made x (state_of text g) m c k (state_closer text g ∙ sym (ap closer_of f)) ∙ ap (λ (a : Mode). by_sign a (state_of text g) k) e
 
-  pub sign_step : {k : ℕ} (v : ℕ) (w x : List ℕ) {c : ℕ} → (k ≡ 17 → ⊥) → (k ≡ 18 → ⊥) → c ≡ closer_in g.here.code
-      → made x (state_of text g) (sign_move (mode_number g.mode) c k) ≡ step (state_of text g) (from_kind k v w)
-  unfolding step from_kind state_of
-  sign_step {k} v w x {c} p q e =
-      sign_made x (state_of text g) g.mode c k (state_closer text g ∙ sym (ap closer_of e)) ∙ go (eqb k 19) refl
-      ∙ sym (ap₂ (λ (y z : Bool). step (state_of text g) (cond y (name w) (cond z (number v) (cond (eqb k 19) no_token (sign k))))) (ne_eqb k 17 p) (ne_eqb k 18 q))
-    where
-      go : (z : Bool) → eqb k 19 ≡ z → by_sign g.mode (state_of text g) k ≡ step (state_of text g) (cond z no_token (sign k))
-      go true h = ap (by_sign g.mode (state_of text g)) (eqb→eq k 19 (subst T (sym h) tt)) ∙ no_row g.mode (state_of text g)
-      go false h = refl
-
-  pub name_step : {k : ℕ} (v : ℕ) (w : List ℕ) {f : Found} → k ≡ 17 → f ≡ through_all text (g.here.code ∷ codes g.under) w (found_in g.header w)
-      → made w (state_of text g) (found_move (mode_number g.mode) f g.next) ≡ step (state_of text g) (from_kind k v w)
-  unfolding step from_kind state_of
-  name_step {k} v w {f} e h =
-      ap (λ (x : Found). made w (state_of text g) (found_move (mode_number g.mode) x g.next)) (h ∙ sym (around_found text g w))
-      ∙ name_made w (state_of text g) g.mode ∙ sym (ap (λ (i : ℕ). step (state_of text g) (from_kind i v w)) e)
+  name_step : (w : List ℕ) {f : Found} → f ≡ through_all text (g.here.code ∷ codes g.under) w (found_in g.header w)
+      → made w (state_of text g) (found_move m f g.next) ≡ step (state_of text g) (name w)
+  unfolding step state_of
+  name_step w {f} h =
+      ap (λ (x : Found). made w (state_of text g) (found_move m x g.next)) (h ∙ sym (around_found text g w)) ∙ name_made w (state_of text g) m
+      ∙ ap (λ (a : Mode). by_name a (state_of text g) w) e
 
 -- The code's step with a token.
-module _ {names marks out : List ℕ} {at : ℕ} {s : Stage} {g : Course} (text : List ℕ) (t : CodedToken) (h : Holds names marks out at s g) {m : Move} {names' marks' out' : List ℕ} {r : Stepped}
-    (d : Does names marks out s t.start m names' marks' out' r) where
-  abbrev Taken : Type 0
-  Taken = Steps text r.answer (λ q. Holds names' marks' out' (at + 1) r.stage q) (step (state_of text g) (from_kind t.kind t.value (word_at text t.start)))
+module _ {levels : List CodeLevel} {out : List ℕ} {at : ℕ} {s : Stage} {g : Course} (text : List ℕ) (t : CodedToken) (h : Holds levels out at s g) {m : Move} {levels' : List CodeLevel}
+    {out' : List ℕ} {r : Result Stage Refused} (d : Does levels out s t.start m levels' out' r) where
+  abbrev x : List ℕ
+  x = word_at text t.start
 
-  pub takes_name : (end : ℕ) → g.header ≡ header_names text end → t.kind ≡ 17 → {f : Found} → f ≡ names_found text names marks s.depth s.top end (word_at text t.start)
-      → m ≡ found_move s.mode f s.next → Taken
+  abbrev Taken : Type 0
+  Taken = Steps text r (Holds levels' out' (at + 1)) (step (state_of text g) (from_kind t.kind x))
+
+  as_token : {k : Kind} → t.kind ≡ k → Steps text r (Holds levels' out' (at + 1)) (step (state_of text g) (from_kind k x)) → Taken
+  as_token e w = subst (λ (k : Kind). Steps text r (Holds levels' out' (at + 1)) (step (state_of text g) (from_kind k x))) (sym e) w
+
+  pub takes_name : (end : ℕ) → g.header ≡ header_names text end → t.kind ≡ Name → {f : Found} → f ≡ names_found text levels s.depth s.top end x → m ≡ found_move s.mode f s.next → Taken
+  unfolding from_kind
   takes_name end e k {f} p q =
-      let x = word_at text t.start in
       let here : f ≡ through_all text (g.here.code ∷ codes g.under) x (found_in g.header x) =
       p ∙ (λ i. through_all text (sym h.its_top i ∷ sym h.its_levels i) x (found_in (sym e i) x)) in
-      let own : m ≡ found_move (mode_number g.mode) f g.next = q ∙ ap₂ (λ (a n : ℕ). found_move a f n) h.its_mode h.its_next in
-      subst (Steps text r.answer (λ q. Holds names' marks' out' (at + 1) r.stage q)) (ap (made x (state_of text g)) own ∙ name_step text g t.value x k here)
-      (d.does text at g h (subst (Valid g) (sym own) (name_valid g g.mode f g.next)))
+      let own : m ≡ found_move s.mode f g.next = q ∙ ap (found_move s.mode f) h.its_next in
+      as_token k (subst (Steps text r (Holds levels' out' (at + 1))) (ap (made x (state_of text g)) own ∙ name_step text g s.mode h.its_mode x here)
+      (d.does text at g h (subst (Valid g) (sym own) (name_valid g s.mode f g.next))))
 
-  pub takes_sign : (t.kind ≡ 17 → ⊥) → (t.kind ≡ 18 → ⊥) → {c : ℕ} → c ≡ closer_in s.top → m ≡ sign_move s.mode c t.kind → Taken
-  takes_sign k l {c} p q =
-      let x = word_at text t.start in
+  pub takes_sign : {k : ℕ} → t.kind ≡ Sign k → {c : Scope} → c ≡ closer_in s.top → m ≡ sign_move s.mode c k → Taken
+  unfolding from_kind
+  takes_sign {k} e {c} p q =
       let by : c ≡ closer_in g.here.code = p ∙ ap closer_in (sym h.its_top) in
-      let own : m ≡ sign_move (mode_number g.mode) c t.kind = q ∙ ap (λ (a : ℕ). sign_move a c t.kind) h.its_mode in
-      subst (Steps text r.answer (λ q. Holds names' marks' out' (at + 1) r.stage q)) (ap (made x (state_of text g)) own ∙ sign_step text g t.value x x k l by)
-      (d.does text at g h (subst (Valid g) (sym own) (sign_valid g g.mode refl c t.kind by)))
+      as_token e (subst (Steps text r (Holds levels' out' (at + 1))) (ap (made x (state_of text g)) q ∙ sign_step text g s.mode h.its_mode k x by)
+      (d.does text at g h (subst (Valid g) (sym q) (sign_valid g s.mode h.its_mode c k by))))
 
-pub takes_number : (text : List ℕ) (t : CodedToken) (g : Course) {H : Course → Type 0} → t.kind ≡ 18 → Steps text 1 H (step (state_of text g) (from_kind t.kind t.value (word_at text
-    t.start)))
-takes_number text t g {H} e = subst (Steps text 1 H) (sym (number_step text g t.kind t.value (word_at text t.start) e)) (faulted refl)
+-- No other token may stand in a statement.
+pub takes_stray : (text : List ℕ) (t : CodedToken) (g : Course) {H : Stage → Course → Type 0} → ((v : ℕ) × (t.kind ≡ Number v)) ⊎ ((t.kind ≡ NoToken) ⊎ (t.kind ≡ End))
+    → Steps text (Err Grammar) H (step (state_of text g) (from_kind t.kind (word_at text t.start)))
+unfolding step from_kind
+takes_stray text t g {H} o = go o
+  where
+    stray : {k : Kind} → t.kind ≡ k → step (state_of text g) (from_kind k (word_at text t.start)) ≡ none
+        → Steps text (Err Grammar) H (step (state_of text g) (from_kind t.kind (word_at text t.start)))
+    stray {k} e n = subst (Steps text (Err Grammar) H) (sym (ap (λ (j : Kind). step (state_of text g) (from_kind j (word_at text t.start))) e ∙ n)) (faulted refl)
+
+    go : ((v : ℕ) × (t.kind ≡ Number v)) ⊎ ((t.kind ≡ NoToken) ⊎ (t.kind ≡ End)) → Steps text (Err Grammar) H (step (state_of text g) (from_kind t.kind (word_at text t.start)))
+    go (inl e) = stray e.1 refl
+    go (inr (inl e)) = stray e refl
+    go (inr (inr e)) = stray e refl

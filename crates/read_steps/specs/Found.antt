@@ -1,10 +1,14 @@
 -- What a name stands for, as the code looks it up. Assumes nothing.
-use Rattle.std.specs.Prelude.{◌≡◌, cond, List, [], ◌∷◌, ℕ, zero, suc, ◌+◌, ◌<◌, eqb, ltb, length, drop}
+use Rattle.std.specs.Prelude.{Option, Some, None, cond, List, [], ◌∷◌, ℕ, suc, ◌+◌, ◌<◌, ltb, drop}
 use Rattle.text.specs.Tokens.{Token, sign, name, number, no_token, Placed, same, word_of}
 use Rattle.text.specs.Meaning.{Declaration, signal_named, trap_named, its_name}
 use Rattle.text.specs.Coded.{tokens_from}
+use Rattle.text.specs.declared.tokens.Kind.{Kind}
+use Rattle.text.specs.declared.tokens.Kind.TheVariants.{Sign, Name, Number, Nothing as NoToken, End}
 use Rattle.read_steps.specs.Levels.{levels_in}
 use Rattle.read_steps.specs.declared.levels.Level.{Level}
+use Rattle.read_steps.specs.declared.levels.Scope.{Scope}
+use Rattle.read_steps.specs.declared.levels.Scope.TheVariants.{Outermost, ThenPart, EndPart, SuspendBody, InBrackets, TrapBody, SignalBody}
 use Rattle.read_steps.specs.declared.found.Passed.{Passed}
 use Rattle.read_steps.specs.declared.found.Found.{Found}
 use Rattle.read_steps.specs.declared.found.Found.TheVariants.{Nothing, Signal, Trap}
@@ -34,28 +38,47 @@ unfolding beyond_trap
 found_in [] x = Nothing
 found_in (d ∷ ds) x = cond (same (its_name d) x) (its_found d) (beyond d (found_in ds x))
 
--- A level of kind 5 declares a trap, one above it a signal, one below it nothing.
+-- What a level declares, by what opened it, with a name and a signal's number.
+unfoldable pub opens : Scope → List ℕ → ℕ → List Declaration
+opens Outermost x n = []
+opens ThenPart x n = []
+opens EndPart x n = []
+opens SuspendBody x n = []
+opens InBrackets x n = []
+opens TrapBody x n = trap_named x ∷ []
+opens SignalBody x n = signal_named x n ∷ []
+
 abbrev pub word_at : List ℕ → ℕ → List ℕ
 word_at text at = word_of (drop at text)
 
-unfoldable pub level_declares : List ℕ → Level → List Declaration
-level_declares text l =
-    cond (ltb l.kind 5) [] (cond (eqb l.kind 5) (trap_named (word_at text l.name) ∷ []) (signal_named (word_at text l.name) l.number ∷ []))
+abbrev pub level_declares : List ℕ → Level → List Declaration
+level_declares text l = opens l.kind (word_at text l.name) l.number
 
-unfoldable pub through : List ℕ → Level → List ℕ → Found → Found
+-- What a name x stands for inside a level that may declare y.
+unfoldable pub through_scope : Scope → List ℕ → ℕ → List ℕ → Found → Found
 unfolding beyond_trap
-through text l x f =
-    cond (ltb l.kind 5) f
-    (cond (same (word_at text l.name) x) (cond (eqb l.kind 5) (Trap 0) (Signal l.number)) (cond (eqb l.kind 5) (beyond_trap f) f))
+through_scope Outermost y n x f = f
+through_scope ThenPart y n x f = f
+through_scope EndPart y n x f = f
+through_scope SuspendBody y n x f = f
+through_scope InBrackets y n x f = f
+through_scope TrapBody y n x f = cond (same y x) (Trap 0) (beyond_trap f)
+through_scope SignalBody y n x f = cond (same y x) (Signal n) f
+
+abbrev pub through : List ℕ → Level → List ℕ → Found → Found
+through text l x f = through_scope l.kind (word_at text l.name) l.number x f
 
 -- One token of the header: only a name counts.
-unfoldable pub passed_name : List ℕ → ℕ → ℕ → List ℕ → Passed → Passed
-passed_name text kind start x p =
-    cond (eqb kind 17) (record { count = p.count + 1; found = cond (same (word_at text start) x) (p.count + 1) p.found }) p
+unfoldable pub passed_name : List ℕ → Kind → ℕ → List ℕ → Passed → Passed
+passed_name text (Sign k) start x p = p
+passed_name text Name start x p = record { count = p.count + 1; found = cond (same (word_at text start) x) (Some p.count) p.found }
+passed_name text (Number v) start x p = p
+passed_name text NoToken start x p = p
+passed_name text End start x p = p
 
-unfoldable pub found_as : ℕ → Found
-found_as zero = Nothing
-found_as (suc n) = Signal n
+unfoldable pub found_as : Option ℕ → Found
+found_as None = Nothing
+found_as (Some n) = Signal n
 
 -- The names of the header: those of the tokens that begin before a place.
 abbrev pub and_named : Token → ℕ → List Declaration → List Declaration
@@ -82,9 +105,9 @@ header_found text end x = found_in (header_names text end) x
 
 -- Through all levels, the innermost last.
 unfoldable pub through_all : List ℕ → List Level → List ℕ → Found → Found
-unfolding through
+unfolding through_scope
 through_all text [] x f = f
 through_all text (l ∷ ls) x f = through text l x (through_all text ls x f)
 
-abbrev pub names_found : List ℕ → List ℕ → List ℕ → ℕ → Level → ℕ → List ℕ → Found
-names_found text names marks depth top end x = through_all text (top ∷ levels_in names marks depth) x (header_found text end x)
+abbrev pub names_found : List ℕ → List Level → ℕ → Level → ℕ → List ℕ → Found
+names_found text levels depth top end x = through_all text (top ∷ levels_in levels depth) x (header_found text end x)

@@ -1,18 +1,21 @@
 -- What the code holds of a state of Machine. Assumes nothing.
-use Rattle.std.specs.Prelude.{◌≡◌, Bool, true, false, cond, List, [], ◌∷◌, ℕ, zero, suc, ◌+◌, ◌≤◌, ◌<◌, eqb, length}
+use Rattle.std.specs.Prelude.{◌≡◌, Bool, true, false, cond, List, [], ◌∷◌, ℕ, zero, suc, ◌+◌, ◌≤◌, ◌<◌, eqb, length, Result, Ok, Err}
 use Rattle.std.proofs.Math.Option.{Option, none, some}
 use Rattle.text.specs.Meaning.{Declaration}
 use Rattle.text.specs.Machine.{by_bracket, Level, Mode, due, after, emit_name, exit_name, present_name, trap_name, signal_name, when_name, then_due, in_due, State, state, step}
 use Rattle.text.specs.Reader.{places}
 use Rattle.text.specs.Coded.{from_kind}
 use Rattle.text.specs.declared.tokens.Token.{Token as CodedToken}
-use Rattle.read_steps.specs.Levels.{levels_in, Roomy}
+use Rattle.read_steps.specs.Levels.{levels_in}
 use Rattle.read_steps.specs.Found.{level_declares, word_at, header_names}
 use Rattle.read_steps.specs.Records.{Sized, Written}
-use Rattle.read_steps.specs.Moves.{mode_number, mode_of, closer_of, opens, made}
+use Rattle.read_steps.specs.Moves.{mode_of, closer_of, made}
 use Rattle.read_steps.specs.declared.levels.Level.{Level as CodeLevel}
+use Rattle.read_steps.specs.declared.levels.Scope.{Scope}
+use Rattle.read_steps.specs.declared.levels.Scope.TheVariants.{InBrackets}
 use Rattle.read_steps.specs.declared.steps.Stage.{Stage}
-use Rattle.read_steps.specs.declared.steps.Stepped.{Stepped}
+use Rattle.read_steps.specs.declared.steps.Fault.{Fault as Refused}
+use Rattle.read_steps.specs.declared.steps.Fault.TheVariants.{Grammar, Deep}
 use Rattle.read_steps.specs.declared.moves.Move.{Move}
 use Rattle.read_steps.specs.declared.moves.Move.TheVariants.{Fault, To, Put, Open, Bracket, Close, Sequence, Parallel, Turn, When}
 
@@ -96,13 +99,12 @@ FreshIn then_due f p end = FreshAt f p end
 FreshIn in_due f p end = FreshAt f p end
 
 -- The code's state and lent arrays hold a state, where so many bytes of the text were read.
-pub record Holds (names marks out : List ℕ) (at : ℕ) (s : Stage) (g : Course) : Type 0 where
-  pub roomy : Roomy names marks
-  pub its_mode : s.mode ≡ mode_number g.mode
+pub record Holds (levels : List CodeLevel) (out : List ℕ) (at : ℕ) (s : Stage) (g : Course) : Type 0 where
+  pub its_mode : mode_of s.mode ≡ g.mode
   pub its_next : s.next ≡ g.next
   pub few_locals : s.next ≤ at
   pub its_top : g.here.code ≡ s.top
-  pub its_levels : codes g.under ≡ levels_in names marks s.depth
+  pub its_levels : codes g.under ≡ levels_in levels s.depth
   pub few_levels : s.depth ≤ 1024
   pub rising : Rising g.here.start g.under
   pub begun : g.here.start ≤ length g.block
@@ -111,32 +113,30 @@ pub record Holds (names marks out : List ℕ) (at : ℕ) (s : Stage) (g : Course
   pub kept : KeptAll s.size at (g.here ∷ g.under)
 
 -- What a step gives: no state, a state that is held, or one with over 1,024 places open.
-pub data Steps (text : List ℕ) (answer : ℕ) (holds : Course → Type 0) : Option State → Type 0 where
-  faulted : answer ≡ 1 → Steps text answer holds none
-  went : (g : Course) → answer ≡ 0 → holds g → Steps text answer holds (some (state_of text g))
-  burst : {q : State} → answer ≡ 2 → 1025 < places q.top.start q.below → Steps text answer holds (some q)
+pub data Steps (text : List ℕ) (r : Result Stage Refused) (holds : Stage → Course → Type 0) : Option State → Type 0 where
+  faulted : r ≡ Err Grammar → Steps text r holds none
+  went : {t : Stage} (g : Course) → r ≡ Ok t → holds t g → Steps text r holds (some (state_of text g))
+  burst : {q : State} → r ≡ Err Deep → 1025 < places q.top.start q.below → Steps text r holds (some q)
 
 -- What a move needs of the state that it is made in: the mode that follows it has what it says of the innermost level, and `else` closes a
 -- level that no bracket is open in.
 unfoldable pub Valid : Course → Move → Type 0
 unfolding FreshIn
 Valid g Fault = Unit {0}
-Valid g (To m) = (mode_number (mode_of m) ≡ m) × ((f : Bool) → FreshIn g.mode f g.here (length g.block) → FreshIn (mode_of m) f g.here (length g.block))
+Valid g (To m) = (f : Bool) → FreshIn g.mode f g.here (length g.block) → FreshIn (mode_of m) f g.here (length g.block)
 Valid g (Put k v) = Unit {0}
-Valid g (Open k v l m) =
-    (mode_number (mode_of m) ≡ m) × ((p : Place) (end : ℕ) → FreshAt true p end → FreshIn (mode_of m) true p end)
-    × ((text : List ℕ) (c : CodeLevel) → c.kind ≡ l → level_declares text c ≡ opens l (word_at text c.name) c.number)
+Valid g (Open k v l m) = (p : Place) (end : ℕ) → FreshAt true p end → FreshIn (mode_of m) true p end
 Valid g Bracket = (f : Bool) → FreshIn g.mode f g.here (length g.block) → FreshAt f g.here (length g.block)
-Valid g (Close m) = (mode_number (mode_of m) ≡ m) × ((f : Bool) (p : Place) (end : ℕ) → FreshIn (mode_of m) f p end)
+Valid g (Close m) = (f : Bool) (p : Place) (end : ℕ) → FreshIn (mode_of m) f p end
 Valid g Sequence = Unit {0}
 Valid g Parallel = Unit {0}
 Valid g Turn = g.here.code.brackets ≡ 0
 Valid g (When v) = Unit {0}
 
 -- The code makes a move: from what it held before, it holds what the move gives.
-pub record Does (names marks out : List ℕ) (s : Stage) (name : ℕ) (m : Move) (names' marks' out' : List ℕ) (r : Stepped) : Type 0 where
-  pub does : (text : List ℕ) (at : ℕ) (g : Course) → Holds names marks out at s g → Valid g m
-      → Steps text r.answer (λ q. Holds names' marks' out' (at + 1) r.stage q) (made (word_at text name) (state_of text g) m)
+pub record Does (levels : List CodeLevel) (out : List ℕ) (s : Stage) (name : ℕ) (m : Move) (levels' : List CodeLevel) (out' : List ℕ) (r : Result Stage Refused) : Type 0 where
+  pub does : (text : List ℕ) (at : ℕ) (g : Course) → Holds levels out at s g → Valid g m
+      → Steps text r (Holds levels' out' (at + 1)) (made (word_at text name) (state_of text g) m)
 
 -- The kinds of records that a move writes are such.
 unfoldable pub Safe : Move → Type 0
@@ -151,11 +151,11 @@ Safe Parallel = Unit {0}
 Safe Turn = Unit {0}
 Safe (When v) = Unit {0}
 
--- What closes the innermost level of a place, in numbers.
-unfoldable pub closer_in : CodeLevel → ℕ
-closer_in l = cond (eqb l.brackets 0) l.kind 4
+-- What closes the innermost level of a place.
+unfoldable pub closer_in : CodeLevel → Scope
+closer_in l = cond (eqb l.brackets 0) l.kind InBrackets
 
 -- The code takes a token of the statement: from what it held before, it holds what the token's step gives.
-pub record Takes (text : List ℕ) (end : ℕ) (names marks out : List ℕ) (s : Stage) (t : CodedToken) (names' marks' out' : List ℕ) (r : Stepped) : Type 0 where
-  pub takes : (at : ℕ) (g : Course) → Holds names marks out at s g → g.header ≡ header_names text end
-      → Steps text r.answer (λ q. Holds names' marks' out' (at + 1) r.stage q) (step (state_of text g) (from_kind t.kind t.value (word_at text t.start)))
+pub record Takes (text : List ℕ) (end : ℕ) (levels : List CodeLevel) (out : List ℕ) (s : Stage) (t : CodedToken) (levels' : List CodeLevel) (out' : List ℕ) (r : Result Stage Refused) : Type 0 where
+  pub takes : (at : ℕ) (g : Course) → Holds levels out at s g → g.header ≡ header_names text end
+      → Steps text r (Holds levels' out' (at + 1)) (step (state_of text g) (from_kind t.kind (word_at text t.start)))

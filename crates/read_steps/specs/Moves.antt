@@ -1,80 +1,128 @@
 -- The moves of the reader as the code has them, and what each does to the state of Machine. Assumes nothing.
-use Rattle.std.specs.Prelude.{cond, List, [], ◌∷◌, ℕ, suc, eqb}
+use Rattle.std.specs.Prelude.{cond, List, [], ℕ, suc, eqb}
 use Rattle.std.proofs.Math.Option.{Option, none, some}
 use Rattle.text.specs.Tokens.{NOTHING, PAUSE, EMIT, PRESENT, THEN, ELSE, END, SUSPEND, WHEN, LOOP, TRAP, IN, EXIT, SIGNAL, SEMICOLON, BRACKET, CLOSED, BESIDE}
-use Rattle.text.specs.Meaning.{Declaration, signal_named, trap_named}
 use Rattle.text.specs.Machine.{Closer, at_the_end, by_else, by_end, by_when, by_bracket, Mode, due, after, emit_name, exit_name, present_name, trap_name, signal_name, when_name}
 use Rattle.text.specs.Machine.{then_due, in_due, State, to, put, opened, popped, sequenced, paralleled, turned, whened}
+use Rattle.read_steps.specs.Found.{opens}
+use Rattle.read_steps.specs.declared.modes.Mode.{Mode as CodeMode}
+use Rattle.read_steps.specs.declared.modes.Mode.TheVariants.{Due, After, EmitName, ExitName, PresentName, TrapName, SignalName, WhenName, ThenDue, InDue}
+use Rattle.read_steps.specs.declared.levels.Scope.{Scope}
+use Rattle.read_steps.specs.declared.levels.Scope.TheVariants.{Outermost, ThenPart, EndPart, SuspendBody, InBrackets, TrapBody, SignalBody}
 use Rattle.read_steps.specs.declared.found.Found.{Found}
 use Rattle.read_steps.specs.declared.found.Found.TheVariants.{Nothing, Signal, Trap}
 use Rattle.read_steps.specs.declared.moves.Move.{Move}
 use Rattle.read_steps.specs.declared.moves.Move.TheVariants.{Fault, To, Put, Open, Bracket, Close, Sequence, Parallel, Turn, When}
 
--- The modes in numbers, and the closers: a level that declares a trap (5) or a signal (6) is closed by `end` too.
-unfoldable pub mode_number : Mode → ℕ
-mode_number due = 0
-mode_number after = 1
-mode_number emit_name = 2
-mode_number exit_name = 3
-mode_number present_name = 4
-mode_number trap_name = 5
-mode_number signal_name = 6
-mode_number when_name = 7
-mode_number then_due = 8
-mode_number in_due = 9
+-- The modes and closers of Machine: what declares a trap or a signal is closed by `end` too.
+unfoldable pub mode_of : CodeMode → Mode
+mode_of Due = due
+mode_of After = after
+mode_of EmitName = emit_name
+mode_of ExitName = exit_name
+mode_of PresentName = present_name
+mode_of TrapName = trap_name
+mode_of SignalName = signal_name
+mode_of WhenName = when_name
+mode_of ThenDue = then_due
+mode_of InDue = in_due
 
-unfoldable pub mode_of : ℕ → Mode
-mode_of m =
-    cond (eqb m 0) due (cond (eqb m 1) after (cond (eqb m 2) emit_name (cond (eqb m 3) exit_name (cond (eqb m 4) present_name
-    (cond (eqb m 5) trap_name (cond (eqb m 6) signal_name (cond (eqb m 7) when_name (cond (eqb m 8) then_due in_due))))))))
-
-unfoldable pub closer_of : ℕ → Closer
-closer_of k = cond (eqb k 0) at_the_end (cond (eqb k 1) by_else (cond (eqb k 3) by_when (cond (eqb k 4) by_bracket by_end)))
+unfoldable pub closer_of : Scope → Closer
+closer_of Outermost = at_the_end
+closer_of ThenPart = by_else
+closer_of EndPart = by_end
+closer_of SuspendBody = by_when
+closer_of InBrackets = by_bracket
+closer_of TrapBody = by_end
+closer_of SignalBody = by_end
 
 -- The tables.
 unfoldable pub due_move : ℕ → Move
 due_move k =
-    cond (eqb k NOTHING) (Put 16 0) (cond (eqb k PAUSE) (Put 17 0) (cond (eqb k EMIT) (To 2) (cond (eqb k EXIT) (To 3) (cond (eqb k PRESENT) (To 4)
-    (cond (eqb k TRAP) (To 5) (cond (eqb k SIGNAL) (To 6) (cond (eqb k SUSPEND) (Open 20 0 3 0) (cond (eqb k LOOP) (Open 22 0 2 0) (cond (eqb k BRACKET) Bracket Fault)))))))))
+    cond (eqb k NOTHING) (Put 16 0) (cond (eqb k PAUSE) (Put 17 0) (cond (eqb k EMIT) (To EmitName) (cond (eqb k EXIT) (To ExitName) (cond (eqb k PRESENT) (To PresentName)
+    (cond (eqb k TRAP) (To TrapName) (cond (eqb k SIGNAL) (To SignalName) (cond (eqb k SUSPEND) (Open 20 0 SuspendBody Due) (cond (eqb k LOOP) (Open 22 0 EndPart Due) (cond (eqb k BRACKET)
+    Bracket Fault)))))))))
 
-unfoldable pub closed_move : ℕ → ℕ → Move
-closed_move c k =
-    cond (eqb c 0) Fault
-    (cond (eqb c 1) (cond (eqb k ELSE) Turn Fault)
-    (cond (eqb c 3) (cond (eqb k WHEN) (Close 7) Fault)
-    (cond (eqb c 4) (cond (eqb k CLOSED) (Close 1) Fault)
-    (cond (eqb k END) (Close 1) Fault))))
+abbrev pub expected : ℕ → ℕ → Move → Move
+expected k key m = cond (eqb k key) m Fault
 
-unfoldable pub after_move : ℕ → ℕ → Move
+unfoldable pub closed_move : Scope → ℕ → Move
+closed_move Outermost k = Fault
+closed_move ThenPart k = expected k ELSE Turn
+closed_move EndPart k = expected k END (Close After)
+closed_move SuspendBody k = expected k WHEN (Close WhenName)
+closed_move InBrackets k = expected k CLOSED (Close After)
+closed_move TrapBody k = expected k END (Close After)
+closed_move SignalBody k = expected k END (Close After)
+
+unfoldable pub after_move : Scope → ℕ → Move
 unfolding closed_move
 after_move c k = cond (eqb k SEMICOLON) Sequence (cond (eqb k BESIDE) Parallel (closed_move c k))
 
-unfoldable pub sign_move : ℕ → ℕ → ℕ → Move
+unfoldable pub sign_move : CodeMode → Scope → ℕ → Move
 unfolding due_move after_move
-sign_move m c k =
-    cond (eqb m 0) (due_move k) (cond (eqb m 1) (after_move c k) (cond (eqb m 8) (cond (eqb k THEN) (To 0) Fault) (cond (eqb m 9) (cond (eqb k IN) (To 0) Fault) Fault)))
+sign_move Due c k = due_move k
+sign_move After c k = after_move c k
+sign_move EmitName c k = Fault
+sign_move ExitName c k = Fault
+sign_move PresentName c k = Fault
+sign_move TrapName c k = Fault
+sign_move SignalName c k = Fault
+sign_move WhenName c k = Fault
+sign_move ThenDue c k = expected k THEN (To Due)
+sign_move InDue c k = expected k IN (To Due)
 
-unfoldable pub signal_move : ℕ → ℕ → Move
-signal_move m n = cond (eqb m 2) (Put 18 n) (cond (eqb m 4) (Open 19 n 1 8) (cond (eqb m 7) (When n) Fault))
+unfoldable pub signal_move : CodeMode → ℕ → Move
+signal_move Due n = Fault
+signal_move After n = Fault
+signal_move EmitName n = Put 18 n
+signal_move ExitName n = Fault
+signal_move PresentName n = Open 19 n ThenPart ThenDue
+signal_move TrapName n = Fault
+signal_move SignalName n = Fault
+signal_move WhenName n = When n
+signal_move ThenDue n = Fault
+signal_move InDue n = Fault
 
-unfoldable pub trap_move : ℕ → ℕ → Move
-trap_move m d = cond (eqb m 3) (Put 25 d) Fault
+unfoldable pub trap_move : CodeMode → ℕ → Move
+trap_move Due d = Fault
+trap_move After d = Fault
+trap_move EmitName d = Fault
+trap_move ExitName d = Put 25 d
+trap_move PresentName d = Fault
+trap_move TrapName d = Fault
+trap_move SignalName d = Fault
+trap_move WhenName d = Fault
+trap_move ThenDue d = Fault
+trap_move InDue d = Fault
 
-unfoldable pub new_move : ℕ → ℕ → Move
-new_move m next = cond (eqb m 5) (Open 24 0 5 9) (cond (eqb m 6) (Open 26 next 6 9) Fault)
+unfoldable pub new_move : CodeMode → ℕ → Move
+new_move Due next = Fault
+new_move After next = Fault
+new_move EmitName next = Fault
+new_move ExitName next = Fault
+new_move PresentName next = Fault
+new_move TrapName next = Open 24 0 TrapBody InDue
+new_move SignalName next = Open 26 next SignalBody InDue
+new_move WhenName next = Fault
+new_move ThenDue next = Fault
+new_move InDue next = Fault
 
-unfoldable pub found_move : ℕ → Found → ℕ → Move
+unfoldable pub found_move : CodeMode → Found → ℕ → Move
 unfolding signal_move trap_move new_move
 found_move m Nothing next = new_move m next
 found_move m (Signal n) next = signal_move m n
 found_move m (Trap d) next = trap_move m d
 
--- What a new level declares, with the name that was read and the number of the next local; and the number after it.
-unfoldable pub opens : ℕ → List ℕ → ℕ → List Declaration
-opens l x n = cond (eqb l 5) (trap_named x ∷ []) (cond (eqb l 6) (signal_named x n ∷ []) [])
-
-unfoldable pub next_after : ℕ → ℕ → ℕ
-next_after l n = cond (eqb l 6) (suc n) n
+-- The number of the next local inside a level.
+unfoldable pub next_after : Scope → ℕ → ℕ
+next_after Outermost n = n
+next_after ThenPart n = n
+next_after EndPart n = n
+next_after SuspendBody n = n
+next_after InBrackets n = n
+next_after TrapBody n = n
+next_after SignalBody n = suc n
 
 -- The move made, where the name x was read last.
 unfoldable pub made : List ℕ → State → Move → Option State

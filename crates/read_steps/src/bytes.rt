@@ -3,7 +3,7 @@
 ghost use Rattle.std.specs.Prelude.{◌≡◌, List, ◌++◌, ℕ, ◌+◌, ◌≤◌, length, set};
 ghost use Rattle.writing.specs.Written.{record_bytes};
 ghost use Rattle.text.specs.Machine.{inserted, operand_set};
-ghost use Rattle.read_steps.specs.Records.{Sized, Short, Written, Grown, Shifted};
+ghost use Rattle.read_steps.specs.Records.{Sized, Short, Written, Grown};
 
 use tables::kinds::wide;
 use writing::put_record;
@@ -21,20 +21,6 @@ pub fn append(out: &mut [u8], size: u16, kind: u16, operand: u16) -> u16
     (end - 14) as u16
 }
 
-// The bytes from one place to another, four places further up; the four before them stay.
-fn shift(out: &mut [u8], from: usize, to: usize)
-    requires from_le_to { from ≤ to }
-    requires to_in_bounds { to + 4 ≤ length out.old }
-    ensures { Shifted out.old from to out.new }
-{
-    let mut i = to;
-    while from < i {
-        i -= 1;
-        let b = out[i];
-        out[i + 4] = b;
-    }
-}
-
 // A record of four bytes put in before what begins at a place; the new size.
 pub fn insert(out: &mut [u8], size: u16, at: u16, kind: u16) -> u16
     requires out_len { length out.old ≡ 3092 }
@@ -50,7 +36,7 @@ pub fn insert(out: &mut [u8], size: u16, at: u16, kind: u16) -> u16
         return size + 4;
     }
     let from = 14 + wide(at);
-    shift(out, from, end);
+    out.copy_within(from..end, from + 4);
     put_record(out, from, kind, 0);
     size + 4
 }

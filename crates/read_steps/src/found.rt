@@ -3,8 +3,9 @@ ghost use Rattle.std.specs.Prelude.{◌≡◌, ℕ, ◌≤◌, ◌<◌, length, 
 ghost use Rattle.text.specs.Tokens.{word_of};
 ghost use Rattle.read_steps.specs.Found.{TrapBelow, beyond_trap, through, passed_name, found_as, header_found, names_found};
 
-use crate::levels::{Level, level_at};
-use text::tokens::{same_word, token_at};
+use crate::levels::{Level, Scope};
+use crate::steps::Stage;
+use text::tokens::{Kind, same_word, token_at};
 
 // A signal with its number, a trap with the depth of an exit of it, or neither.
 #[derive(Clone, Copy)]
@@ -31,55 +32,60 @@ fn inside(text: &[u8], l: Level, name: usize, f: Found) -> Found
     requires { TrapBelow 1025 f }
     ensures { result ≡ through text.now l (word_of (drop name text.now)) f }
 {
-    if l.kind < 5 {
-        return f;
-    }
-    let at = l.name;
-    if same_word(text, at, name) {
-        if l.kind == 5 {
-            return Found::Trap(0);
+    match l.kind {
+        Scope::TrapBody => {
+            if same_word(text, l.name, name) {
+                return Found::Trap(0);
+            }
+            deeper(f)
         }
-        return Found::Signal(l.number);
+        Scope::SignalBody => {
+            if same_word(text, l.name, name) {
+                return Found::Signal(l.number);
+            }
+            f
+        }
+        _ => f,
     }
-    if l.kind == 5 {
-        return deeper(f);
-    }
-    f
 }
 
-// How many names of the header were passed, and the last of them that is the one looked for, as its number and one more; 0 for none.
+// How many names of the header were passed, and the number of the last of them that is the one looked for.
 #[derive(Clone, Copy)]
 struct Passed {
     count: usize,
-    found: usize,
+    found: Option<usize>,
 }
 
 // One token of the header more.
-fn pass(text: &[u8], kind: u16, start: usize, name: usize, p: Passed) -> Passed
+fn pass(text: &[u8], kind: Kind, start: usize, name: usize, p: Passed) -> Passed
     requires { p.count < length text.now }
     ensures { result ≡ passed_name text.now kind start (word_of (drop name text.now)) p }
 {
-    if kind != 17 {
-        return p;
-    }
-    let n = p.count + 1;
-    if same_word(text, start, name) {
-        return Passed { count: n, found: n };
-    }
-    Passed {
-        count: n,
-        found: p.found,
+    match kind {
+        Kind::Name => {
+            if same_word(text, start, name) {
+                return Passed {
+                    count: p.count + 1,
+                    found: Some(p.count),
+                };
+            }
+            Passed {
+                count: p.count + 1,
+                ..p
+            }
+        }
+        _ => p,
     }
 }
 
-// The signal that was found, by one more than its number.
-fn numbered(found: usize) -> Found
+// The signal that was found, by its number.
+fn numbered(found: Option<usize>) -> Found
     ensures { result ≡ found_as found }
 {
-    if found == 0 {
-        return Found::Nothing;
+    match found {
+        Some(n) => Found::Signal(n),
+        None => Found::Nothing,
     }
-    Found::Signal(found - 1)
 }
 
 // What a name stands for among the header's names, which end before a place of the text.
@@ -87,7 +93,10 @@ pub fn in_header(text: &[u8], end: usize, name: usize) -> Found
     ensures { result ≡ header_found text.now end (word_of (drop name text.now)) }
 {
     let mut at: usize = 0;
-    let mut p = Passed { count: 0, found: 0 };
+    let mut p = Passed {
+        count: 0,
+        found: None,
+    };
     loop {
         let t = token_at(text, at);
         let start = t.start;
@@ -103,23 +112,13 @@ pub fn in_header(text: &[u8], end: usize, name: usize) -> Found
 }
 
 // What a name stands for inside the levels and the innermost one.
-pub fn find(
-    text: &[u8],
-    names: &[usize; 3075],
-    marks: &[u16; 4100],
-    depth: usize,
-    top: Level,
-    end: usize,
-    name: usize,
-) -> Found
-    requires { depth ≤ 1024 }
-    ensures { result ≡ names_found text.now names.now marks.now depth top end (word_of (drop name text.now)) }
+pub fn find(text: &[u8], levels: &[Level; 1024], s: Stage, end: usize, name: usize) -> Found
+    requires { s.depth ≤ 1024 }
+    ensures { result ≡ names_found text.now levels.now s.depth s.top end (word_of (drop name text.now)) }
 {
     let mut f = in_header(text, end, name);
-    let mut i: usize = 0;
-    while i < depth {
-        f = inside(text, level_at(names, marks, i), name, f);
-        i += 1;
+    for level in &levels[..s.depth] {
+        f = inside(text, *level, name, f);
     }
-    inside(text, top, name, f)
+    inside(text, s.top, name, f)
 }

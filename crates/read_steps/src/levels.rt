@@ -1,12 +1,23 @@
-// The levels of open statements in lent arrays, the outermost first: three wide numbers and four narrow ones each.
-ghost use Rattle.std.specs.Prelude.{◌≡◌, ◌<◌};
-ghost use Rattle.read_steps.specs.Levels.{level_in, Roomy, Stored};
+// The levels of open statements, which stand in a lent array, the outermost first.
 
-// A place where statements are open: what closes it and what it declares, in one number; how many brackets opened at it besides; where its
+// What opened a level, by which it is closed and declares: the text; the first part of a present; its second part or a loop, which `end` closes
+// and which declare nothing; a suspend; brackets; a trap; a signal.
+#[derive(Clone, Copy, PartialEq, Eq, Debug)]
+pub enum Scope {
+    Outermost,
+    ThenPart,
+    EndPart,
+    SuspendBody,
+    InBrackets,
+    TrapBody,
+    SignalBody,
+}
+
+// A place where statements are open: what opened it; how many brackets opened at it besides; where its
 // name stands and its signal's number; and where in the block it begins, its last arm begins, and its last basic statement begins.
 #[derive(Clone, Copy)]
 pub struct Level {
-    pub kind: u16,
+    pub kind: Scope,
     pub start: u16,
     pub arm: u16,
     pub link: u16,
@@ -15,37 +26,13 @@ pub struct Level {
     pub brackets: usize,
 }
 
-// The level with a number.
-pub fn level_at(names: &[usize; 3075], marks: &[u16; 4100], i: usize) -> Level
-    requires { i < 1025 }
-    ensures { result ≡ level_in names.now marks.now i }
-{
-    let n = i * 3;
-    let m = i * 4;
-    Level {
-        kind: marks[m],
-        start: marks[m + 1],
-        arm: marks[m + 2],
-        link: marks[m + 3],
-        name: names[n],
-        number: names[n + 1],
-        brackets: names[n + 2],
-    }
-}
-
-// A level stored above those with lower numbers, which stay.
-pub fn put_level(names: &mut [usize; 3075], marks: &mut [u16; 4100], i: usize, l: Level)
-    requires i_bound { i < 1025 }
-    requires roomy { Roomy names.old marks.old }
-    ensures { Stored names.old marks.old i l names.new marks.new }
-{
-    let n = i * 3;
-    let m = i * 4;
-    marks[m] = l.kind;
-    marks[m + 1] = l.start;
-    marks[m + 2] = l.arm;
-    marks[m + 3] = l.link;
-    names[n] = l.name;
-    names[n + 1] = l.number;
-    names[n + 2] = l.brackets;
-}
+// The outermost level, at which nothing stands yet.
+pub const OUTERMOST: Level = Level {
+    kind: Scope::Outermost,
+    start: 0,
+    arm: 0,
+    link: 0,
+    name: 0,
+    number: 0,
+    brackets: 0,
+};

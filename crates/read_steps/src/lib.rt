@@ -5,5 +5,6 @@ pub mod body;
 mod bytes;
 pub mod found;
 pub mod levels;
+pub mod modes;
 mod moves;
 pub mod steps;

@@ -1,19 +1,25 @@
 // What a token does, by tables: in which state it may stand, and the move that it makes.
 ghost use Rattle.std.specs.Prelude.{◌≡◌};
-ghost use Rattle.read_steps.specs.Moves.{due_move, closed_move, after_move, sign_move, signal_move, trap_move, new_move, found_move};
+ghost use Rattle.read_steps.specs.Moves.{due_move, closed_move, after_move, sign_move, signal_move, trap_move, new_move, found_move, expected};
 
 use crate::found::Found;
+use crate::levels::Scope;
+use crate::modes::Mode;
+use text::signs::{
+    BESIDE, BRACKET, CLOSED, ELSE, EMIT, END, EXIT, IN, LOOP, NOTHING, PAUSE, PRESENT, SEMICOLON,
+    SIGNAL, SUSPEND, THEN, TRAP, WHEN,
+};
 
-// A fault; another state; a record at the end; a record and a new level, of a kind, with the next state; one bracket; the innermost level
-// closed; a sequence, a parallel, the second part of a present, and the signal of a suspend.
+// A fault; another state; a record at the end; a record and a new level, by what opened it, with the next state; one bracket; the innermost
+// level closed; a sequence, a parallel, the second part of a present, and the signal of a suspend.
 #[derive(Clone, Copy)]
 pub enum Move {
     Fault,
-    To(u16),
+    To(Mode),
     Put(u16, usize),
-    Open(u16, usize, u16, u16),
+    Open(u16, usize, Scope, Mode),
     Bracket,
-    Close(u16),
+    Close(Mode),
     Sequence,
     Parallel,
     Turn,
@@ -21,130 +27,110 @@ pub enum Move {
 }
 
 // Where a statement is due.
-fn due_move(kind: u16) -> Move
-    ensures { result ≡ due_move kind }
+fn due_move(sign: u16) -> Move
+    ensures { result ≡ due_move sign }
 {
-    match kind {
-        0 => Move::Put(16, 0),
-        1 => Move::Put(17, 0),
-        2 => Move::To(2),
-        12 => Move::To(3),
-        3 => Move::To(4),
-        10 => Move::To(5),
-        13 => Move::To(6),
-        7 => Move::Open(20, 0, 3, 0),
-        9 => Move::Open(22, 0, 2, 0),
-        91 => Move::Bracket,
+    match sign {
+        NOTHING => Move::Put(16, 0),
+        PAUSE => Move::Put(17, 0),
+        EMIT => Move::To(Mode::EmitName),
+        EXIT => Move::To(Mode::ExitName),
+        PRESENT => Move::To(Mode::PresentName),
+        TRAP => Move::To(Mode::TrapName),
+        SIGNAL => Move::To(Mode::SignalName),
+        SUSPEND => Move::Open(20, 0, Scope::SuspendBody, Mode::Due),
+        LOOP => Move::Open(22, 0, Scope::EndPart, Mode::Due),
+        BRACKET => Move::Bracket,
         _ => Move::Fault,
     }
 }
 
-// What closes a level of a kind.
-fn closed_move(closer: u16, kind: u16) -> Move
-    ensures { result ≡ closed_move closer kind }
+// A move where the sign is the one expected, else a fault.
+fn expected(sign: u16, key: u16, m: Move) -> Move
+    ensures { result ≡ expected sign key m }
+{
+    if sign == key {
+        return m;
+    }
+    Move::Fault
+}
+
+// What closes a level.
+fn closed_move(closer: Scope, sign: u16) -> Move
+    ensures { result ≡ closed_move closer sign }
 {
     match closer {
-        0 => Move::Fault,
-        1 => {
-            if kind == 5 {
-                return Move::Turn;
-            }
-            Move::Fault
-        }
-        3 => {
-            if kind == 8 {
-                return Move::Close(7);
-            }
-            Move::Fault
-        }
-        4 => {
-            if kind == 93 {
-                return Move::Close(1);
-            }
-            Move::Fault
-        }
-        _ => {
-            if kind == 6 {
-                return Move::Close(1);
-            }
-            Move::Fault
-        }
+        Scope::Outermost => Move::Fault,
+        Scope::ThenPart => expected(sign, ELSE, Move::Turn),
+        Scope::SuspendBody => expected(sign, WHEN, Move::Close(Mode::WhenName)),
+        Scope::InBrackets => expected(sign, CLOSED, Move::Close(Mode::After)),
+        Scope::EndPart => expected(sign, END, Move::Close(Mode::After)),
+        Scope::TrapBody => expected(sign, END, Move::Close(Mode::After)),
+        Scope::SignalBody => expected(sign, END, Move::Close(Mode::After)),
     }
 }
 
 // After a statement.
-fn after_move(closer: u16, kind: u16) -> Move
-    ensures { result ≡ after_move closer kind }
+fn after_move(closer: Scope, sign: u16) -> Move
+    ensures { result ≡ after_move closer sign }
 {
-    if kind == 59 {
+    if sign == SEMICOLON {
         return Move::Sequence;
     }
-    if kind == 124 {
+    if sign == BESIDE {
         return Move::Parallel;
     }
-    closed_move(closer, kind)
+    closed_move(closer, sign)
 }
 
 // A keyword or a mark.
-pub fn sign_move(mode: u16, closer: u16, kind: u16) -> Move
-    ensures { result ≡ sign_move mode closer kind }
+pub fn sign_move(mode: Mode, closer: Scope, sign: u16) -> Move
+    ensures { result ≡ sign_move mode closer sign }
 {
     match mode {
-        0 => due_move(kind),
-        1 => after_move(closer, kind),
-        8 => {
-            if kind == 4 {
-                return Move::To(0);
-            }
-            Move::Fault
-        }
-        9 => {
-            if kind == 11 {
-                return Move::To(0);
-            }
-            Move::Fault
-        }
+        Mode::Due => due_move(sign),
+        Mode::After => after_move(closer, sign),
+        Mode::ThenDue => expected(sign, THEN, Move::To(Mode::Due)),
+        Mode::InDue => expected(sign, IN, Move::To(Mode::Due)),
         _ => Move::Fault,
     }
 }
 
 // A name of a signal, by its number.
-fn signal_move(mode: u16, n: usize) -> Move
+fn signal_move(mode: Mode, n: usize) -> Move
     ensures { result ≡ signal_move mode n }
 {
     match mode {
-        2 => Move::Put(18, n),
-        4 => Move::Open(19, n, 1, 8),
-        7 => Move::When(n),
+        Mode::EmitName => Move::Put(18, n),
+        Mode::PresentName => Move::Open(19, n, Scope::ThenPart, Mode::ThenDue),
+        Mode::WhenName => Move::When(n),
         _ => Move::Fault,
     }
 }
 
 // A name of a trap, by the depth of an exit of it.
-fn trap_move(mode: u16, d: usize) -> Move
+fn trap_move(mode: Mode, d: usize) -> Move
     ensures { result ≡ trap_move mode d }
 {
-    if mode == 3 {
-        return Move::Put(25, d);
+    match mode {
+        Mode::ExitName => Move::Put(25, d),
+        _ => Move::Fault,
     }
-    Move::Fault
 }
 
 // A name that is not declared.
-fn new_move(mode: u16, next: usize) -> Move
+fn new_move(mode: Mode, next: usize) -> Move
     ensures { result ≡ new_move mode next }
 {
-    if mode == 5 {
-        return Move::Open(24, 0, 5, 9);
+    match mode {
+        Mode::TrapName => Move::Open(24, 0, Scope::TrapBody, Mode::InDue),
+        Mode::SignalName => Move::Open(26, next, Scope::SignalBody, Mode::InDue),
+        _ => Move::Fault,
     }
-    if mode == 6 {
-        return Move::Open(26, next, 6, 9);
-    }
-    Move::Fault
 }
 
 // A name, by what it stands for.
-pub fn name_move(mode: u16, f: Found, next: usize) -> Move
+pub fn name_move(mode: Mode, f: Found, next: usize) -> Move
     ensures { result ≡ found_move mode f next }
 {
     match f {

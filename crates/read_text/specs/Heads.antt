@@ -1,38 +1,57 @@
--- The header's table as the code has it, and what its numbers stand for. Assumes nothing.
+-- The header's table as the code has it, and where it leads. Assumes nothing.
 use Rattle.std.specs.Prelude.{cond, ℕ, eqb}
-use Rattle.std.proofs.Math.Option.{Option, none, some}
+use Rattle.std.proofs.Math.Option.{Option, none}
 use Rattle.text.specs.Tokens.{sign, VERSION, INPUT, OUTPUT, COMMA, SEMICOLON}
 use Rattle.text.specs.Reader.{Due, version_due, number_due, version_closed, inputs_due, outputs_due, input_name, input_named, output_name, output_named, body_due}
 use Rattle.text.specs.Reader.{Heading, Reader, now, inputs_end, body_start, body_step}
+use Rattle.read_text.specs.declared.heading.Awaits.{Awaits}
+use Rattle.read_text.specs.declared.heading.Awaits.TheVariants.{VersionDue, NumberDue, VersionClosed, InputsDue, OutputsDue, InputName, InputNamed, OutputName, OutputNamed, BodyDue, Statement}
+use Rattle.read_text.specs.declared.heading.Lead.{Lead}
+use Rattle.read_text.specs.declared.heading.Lead.TheVariants.{Fault, Next, InputsEnd, Body}
 
-unfoldable pub due_number : Due → ℕ
-due_number version_due = 1
-due_number number_due = 2
-due_number version_closed = 3
-due_number inputs_due = 4
-due_number outputs_due = 5
-due_number input_name = 6
-due_number input_named = 7
-due_number output_name = 8
-due_number output_named = 9
-due_number body_due = 10
+unfoldable pub awaits_of : Due → Awaits
+awaits_of version_due = VersionDue
+awaits_of number_due = NumberDue
+awaits_of version_closed = VersionClosed
+awaits_of inputs_due = InputsDue
+awaits_of outputs_due = OutputsDue
+awaits_of input_name = InputName
+awaits_of input_named = InputNamed
+awaits_of output_name = OutputName
+awaits_of output_named = OutputNamed
+awaits_of body_due = BodyDue
 
-unfoldable pub due_of : ℕ → Due
-due_of n =
-    cond (eqb n 1) version_due (cond (eqb n 2) number_due (cond (eqb n 3) version_closed (cond (eqb n 4) inputs_due (cond (eqb n 5) outputs_due
-    (cond (eqb n 6) input_name (cond (eqb n 7) input_named (cond (eqb n 8) output_name (cond (eqb n 9) output_named body_due))))))))
+-- What is awaited in a header; the statement is past it.
+unfoldable pub due_of : Awaits → Due
+due_of VersionDue = version_due
+due_of NumberDue = number_due
+due_of VersionClosed = version_closed
+due_of InputsDue = inputs_due
+due_of OutputsDue = outputs_due
+due_of InputName = input_name
+due_of InputNamed = input_named
+due_of OutputName = output_name
+due_of OutputNamed = output_named
+due_of BodyDue = body_due
+due_of Statement = body_due
 
-unfoldable pub head_sign : ℕ → ℕ → ℕ
-head_sign a k =
-    cond (eqb a 1) (cond (eqb k VERSION) 2 0)
-    (cond (eqb a 3) (cond (eqb k SEMICOLON) 4 0)
-    (cond (eqb a 4) (cond (eqb k INPUT) 6 (cond (eqb k OUTPUT) 8 11))
-    (cond (eqb a 5) (cond (eqb k OUTPUT) 8 11)
-    (cond (eqb a 7) (cond (eqb k COMMA) 6 (cond (eqb k SEMICOLON) 12 0))
-    (cond (eqb a 9) (cond (eqb k COMMA) 8 (cond (eqb k SEMICOLON) 10 0))
-    (cond (eqb a 10) 11 0))))))
+unfoldable pub head_sign : Awaits → ℕ → Lead
+head_sign VersionDue k = cond (eqb k VERSION) (Next NumberDue) Fault
+head_sign NumberDue k = Fault
+head_sign VersionClosed k = cond (eqb k SEMICOLON) (Next InputsDue) Fault
+head_sign InputsDue k = cond (eqb k INPUT) (Next InputName) (cond (eqb k OUTPUT) (Next OutputName) Body)
+head_sign OutputsDue k = cond (eqb k OUTPUT) (Next OutputName) Body
+head_sign InputName k = Fault
+head_sign InputNamed k = cond (eqb k COMMA) (Next InputName) (cond (eqb k SEMICOLON) InputsEnd Fault)
+head_sign OutputName k = Fault
+head_sign OutputNamed k = cond (eqb k COMMA) (Next OutputName) (cond (eqb k SEMICOLON) (Next BodyDue) Fault)
+head_sign BodyDue k = Body
+head_sign Statement k = Fault
 
--- What a number of the table does to a header: a fault, the statement's first token, all names are inputs, or what is awaited next.
-unfoldable pub headed : Heading → ℕ → ℕ → Option Reader
+-- What a lead does to a header.
+unfoldable pub headed : Heading → ℕ → Lead → Option Reader
 unfolding due_of body_step
-headed g k n = cond (eqb n 0) none (cond (eqb n 11) (body_step g (body_start g) (sign k)) (cond (eqb n 12) (inputs_end g) (now g (due_of n))))
+headed g k Fault = none
+headed g k (Next a) = now g (due_of a)
+headed g k InputsEnd = inputs_end g
+headed g k Body = body_step g (body_start g) (sign k)

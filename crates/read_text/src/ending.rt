@@ -7,38 +7,29 @@ ghost use Rattle.read_steps.specs.Records.{Written};
 ghost use Rattle.read_text.specs.Ending.{Answers, blocked};
 
 use block::Declared;
-use block::whole::{Checked, read_block};
+use block::whole::read_block;
 use records::parts::copy_at;
-use refusals::Why;
+use refusals::{Refused, Why};
+use tables::Table;
 use tables::kinds::wide;
-use writing::{Wrote, in_room, put_header};
+use writing::{in_room, put_header};
 
 // The bytes of a good block copied to the front of the lent ones: 12 where these are fewer.
-fn copied(part: &[u8], block: &mut [u8]) -> Wrote
+fn copied(part: &[u8], block: &mut [u8]) -> Result<usize, Refused>
     ensures { Answers (writes part.now) block.old block.new result }
 {
-    let size = part.len();
-    let lent = block.len();
-    let answer = in_room(size, lent);
-    if lent < size {
-        return answer;
-    }
+    let size = in_room(part.len(), block.len())?;
     copy_at(block, 0, part);
-    answer
+    Ok(size)
 }
 
 // The bytes of a block: 1 to 8 on them, then 12.
-fn checked_copy(part: &[u8], block: &mut [u8]) -> Wrote
+fn checked_copy(part: &[u8], block: &mut [u8]) -> Result<usize, Refused>
     ensures { Answers (checked part.now (reading part.now)) block.old block.new result }
 {
-    let mut kinds = [0u16; 512];
-    let mut operands = [0u16; 512];
-    let mut sizes = [0u16; 512];
-    let answer = read_block(part, &mut kinds, &mut operands, &mut sizes);
-    match answer {
-        Checked::Refused(why, place) => Wrote::Refused(why, place),
-        Checked::Good(_) => copied(part, block),
-    }
+    let mut table = Table::empty();
+    read_block(part, &mut table)?;
+    copied(part, block)
 }
 
 // The block of a text that is in the grammar, by what was counted in its header and body and the records read: 4 where it has over 64
@@ -51,17 +42,17 @@ pub fn finish_block(
     signals: usize,
     next: usize,
     size: u16,
-) -> Wrote
+) -> Result<usize, Refused>
     requires out_len { length out.old ≡ 3092 }
     requires inputs_le_signals { inputs ≤ signals }
     requires signals_le_next { signals ≤ next }
     ensures { (b : List ℕ) → Written out.old size b → Answers (block_of (blocked version inputs signals next b)) block.old block.new result }
 {
     if 64 < next {
-        return Wrote::Refused(Why::Limit, 0);
+        return Err(Why::Limit.at(0));
     }
     if 3072 < size {
-        return Wrote::Refused(Why::Limit, 0);
+        return Err(Why::Limit.at(0));
     }
     put_header(
         out,

@@ -11,24 +11,16 @@ ghost use Rattle.writing.specs.Answers.{roomed, wrote_values, wrote_owed, out_ow
 
 use crate::ending::finish_block;
 use crate::reading::read_tokens;
-use refusals::Why;
-use writing::Wrote;
+use refusals::Refused;
 
 // Reads a text into the block that it stands for: 15 where the text is outside the grammar or a name is at fault, at its place; 4 where it
 // stands for a block over its limits; then 1 to 8 on the block; then 12 where the lent bytes are fewer than the block has.
-pub fn read_text(text: &[u8], block: &mut [u8]) -> Wrote
+pub fn read_text(text: &[u8], block: &mut [u8]) -> Result<usize, Refused>
     ensures result_value { wrote_values result ≡ wrote_owed (roomed (text_read text.now) (length block.old)) }
     ensures block_after { block.new ≡ out_owed (roomed (text_read text.now) (length block.old)) block.old }
 {
     let mut out = [0u8; 3092];
-    let e = read_tokens(text, &mut out);
-    if e.answer == 1 {
-        return Wrote::Refused(Why::Text, e.place);
-    }
-    if e.answer == 2 {
-        return Wrote::Refused(Why::Limit, 0);
-    }
-    let r = e.reader;
+    let r = read_tokens(text, &mut out)?;
     let s = r.stage;
     finish_block(
         &mut out, block, r.version, r.inputs, r.signals, s.next, s.size,

@@ -2,43 +2,27 @@
 ghost use Rattle.std.specs.Prelude.{◌≡◌, ◌≤◌, ◌<◌, length};
 ghost use Rattle.text.specs.Tokens.{tokens_placed};
 ghost use Rattle.text.specs.Reader.{begun, read_placed};
-ghost use Rattle.read_steps.specs.Levels.{Roomy};
-ghost use Rattle.read_text.specs.Reading.{first_stage, first_reader, BodyTakes, TakesAny, Ready, may_end, Scanned};
+ghost use Rattle.read_text.specs.Reading.{first_stage, first_reader, BodyTakes, in_statement, TakesAny, Ready, may_end, refused_as, Scanned};
 
-use crate::heading::{Reader, Taken, head_move, head_name, head_number, head_sign};
+use crate::heading::{Awaits, Lead, Reader, head_name, head_number, head_sign, inputs_ended};
 use read_steps::body::{body_step, closer};
-use read_steps::levels::Level;
-use read_steps::steps::Stage;
-use text::tokens::{Token, token_at};
-
-// A whole text read: 0 for a block, 1 for a fault at a place, 2 for over 1,024 places open; and the reader at its end.
-#[derive(Clone, Copy)]
-pub struct Whole {
-    pub answer: u16,
-    pub place: usize,
-    pub reader: Reader,
-}
+use read_steps::levels::{Level, OUTERMOST, Scope};
+use read_steps::modes::Mode;
+use read_steps::steps::{Fault, Stage};
+use refusals::{Refused, Why};
+use text::tokens::{Kind, Token, token_at};
 
 // The first statement is due at the outermost level.
 fn first_stage(next: usize) -> Stage
     ensures { result ≡ first_stage next }
 {
-    let top = Level {
-        kind: 0,
-        start: 0,
-        arm: 0,
-        link: 0,
-        name: 0,
-        number: 0,
-        brackets: 0,
-    };
     Stage {
-        mode: 0,
+        mode: Mode::Due,
         fresh: true,
         size: 0,
         depth: 0,
         next,
-        top,
+        top: OUTERMOST,
     }
 }
 
@@ -47,7 +31,7 @@ fn first_reader() -> Reader
     ensures { result ≡ first_reader }
 {
     Reader {
-        awaits: 1,
+        awaits: Awaits::VersionDue,
         version: 0,
         inputs: 0,
         signals: 0,
@@ -59,83 +43,91 @@ fn first_reader() -> Reader
 // One token of the statement.
 fn body_token(
     text: &[u8],
-    names: &mut [usize; 3075],
-    marks: &mut [u16; 4100],
+    levels: &mut [Level; 1024],
     out: &mut [u8],
     r: Reader,
     t: Token,
-) -> Taken
-    requires roomy { Roomy names.old marks.old }
+) -> Result<Reader, Fault>
     requires out_len { length out.old ≡ 3092 }
     requires next_bound { r.stage.next < 18446744073709551615 }
     requires brackets_bound { r.stage.top.brackets < 18446744073709551615 }
     requires depth_bound { r.stage.depth ≤ 1024 }
-    ensures { BodyTakes text.now names.old marks.old out.old r t names.new marks.new out.new result }
+    ensures { BodyTakes text.now levels.old out.old r t levels.new out.new result }
 {
-    let s = body_step(text, names, marks, out, r.stage, t, r.end);
-    let stage = s.stage;
-    let mut q = r;
-    q.stage = stage;
-    Taken {
-        answer: s.answer,
-        reader: q,
-    }
+    let stage = body_step(text, levels, out, r.stage, t, r.end)?;
+    Ok(Reader { stage, ..r })
 }
 
 // One token, wherever the reader is.
 fn take(
     text: &[u8],
-    names: &mut [usize; 3075],
-    marks: &mut [u16; 4100],
+    levels: &mut [Level; 1024],
     out: &mut [u8],
     r: Reader,
     t: Token,
-) -> Taken
-    requires { Ready text.now names.old marks.old out.old r t }
-    ensures { TakesAny text.now names.old marks.old out.old r t names.new marks.new out.new result }
+) -> Result<Reader, Fault>
+    requires { Ready text.now levels.old out.old r t }
+    ensures { TakesAny text.now levels.old out.old r t levels.new out.new result }
 {
-    if t.kind == 19 {
-        return Taken {
-            answer: 1,
-            reader: r,
-        };
+    if let Awaits::Statement = r.awaits {
+        return body_token(text, levels, out, r, t);
     }
-    if r.awaits == 0 {
-        return body_token(text, names, marks, out, r, t);
+    match t.kind {
+        Kind::Sign(sign) => match head_sign(r.awaits, sign) {
+            Lead::Fault => Err(Fault::Grammar),
+            Lead::Next(awaits) => Ok(Reader { awaits, ..r }),
+            Lead::InputsEnd => Ok(inputs_ended(r)),
+            Lead::Body => body_token(text, levels, out, begun(r, t.start), t),
+        },
+        Kind::Name => head_name(text, r, t),
+        Kind::Number(version) => head_number(r, version),
+        Kind::Nothing | Kind::End => Err(Fault::Grammar),
     }
-    if t.kind == 17 {
-        return head_name(text, r, t);
+}
+
+// The header's names end before the statement's first token.
+fn begun(r: Reader, end: usize) -> Reader
+    ensures { result ≡ in_statement r end (first_stage r.signals) }
+{
+    Reader {
+        awaits: Awaits::Statement,
+        end,
+        stage: first_stage(r.signals),
+        ..r
     }
-    if t.kind == 18 {
-        return head_number(r, t);
-    }
-    let n = head_sign(r.awaits, t.kind);
-    if n != 11 {
-        return head_move(r, n);
-    }
-    let mut q = r;
-    q.awaits = 0;
-    q.end = t.start;
-    q.stage = first_stage(r.signals);
-    body_token(text, names, marks, out, q, t)
 }
 
 // The text may end here.
 fn may_end(r: Reader) -> bool
     ensures { result ≡ may_end r }
 {
-    if r.awaits != 0 {
+    if r.awaits != Awaits::Statement {
         return false;
     }
-    if r.stage.mode != 1 {
+    if r.stage.mode != Mode::After {
         return false;
     }
-    closer(r.stage.top) == 0
+    closer(r.stage.top) == Scope::Outermost
 }
 
-// All tokens of a text, in lent arrays.
-fn scan(text: &[u8], names: &mut [usize; 3075], marks: &mut [u16; 4100], out: &mut [u8]) -> Whole
-    requires roomy { Roomy names.old marks.old }
+// Why a text is refused: a fault stands at its place, a text with over 1,024 places open is refused as a whole.
+fn refused(fault: Fault, place: usize) -> Refused
+    ensures { result ≡ refused_as fault place }
+{
+    match fault {
+        Fault::Grammar => Refused {
+            why: Why::Text,
+            place,
+        },
+        Fault::Deep => Refused {
+            why: Why::Limit,
+            place: 0,
+        },
+    }
+}
+
+// All tokens of a text, the levels in a lent array.
+fn scan(text: &[u8], levels: &mut [Level; 1024], out: &mut [u8]) -> Result<Reader, Refused>
     requires out_len { length out.old ≡ 3092 }
     ensures { Scanned out.new result (read_placed begun (tokens_placed text.now) (length text.now)) }
 {
@@ -145,39 +137,21 @@ fn scan(text: &[u8], names: &mut [usize; 3075], marks: &mut [u16; 4100], out: &m
         let t = token_at(text, at);
         let place = t.start;
         if text.len() <= place {
-            let end = text.len();
             if may_end(r) {
-                return Whole {
-                    answer: 0,
-                    place: end,
-                    reader: r,
-                };
+                return Ok(r);
             }
-            return Whole {
-                answer: 1,
-                place: end,
-                reader: r,
-            };
+            return Err(refused(Fault::Grammar, text.len()));
         }
-        let q = take(text, names, marks, out, r, t);
-        if q.answer != 0 {
-            return Whole {
-                answer: q.answer,
-                place,
-                reader: r,
-            };
-        }
-        r = q.reader;
+        r = take(text, levels, out, r, t).map_err(|fault| refused(fault, place))?;
         at = t.end;
     }
 }
 
-// All tokens of a text. The levels' arrays are given back before the block is checked, which has arrays of its own.
-pub fn read_tokens(text: &[u8], out: &mut [u8]) -> Whole
+// All tokens of a text. The levels are given back before the block is checked, which has arrays of its own.
+pub fn read_tokens(text: &[u8], out: &mut [u8]) -> Result<Reader, Refused>
     requires { length out.old ≡ 3092 }
     ensures { Scanned out.new result (read_placed begun (tokens_placed text.now) (length text.now)) }
 {
-    let mut names = [0usize; 3075];
-    let mut marks = [0u16; 4100];
-    scan(text, &mut names, &mut marks, out)
+    let mut levels = [OUTERMOST; 1024];
+    scan(text, &mut levels, out)
 }

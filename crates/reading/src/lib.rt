@@ -14,10 +14,10 @@ use std::{fs, io};
 pub fn open<R: Files>(files: &R, name: &[u8]) -> io::Result<R::File>
     ensures { ¬ (IsUtf8 name.now) → IsErrAnd result (λ e. error_kind e ≡ ErrorKind.InvalidInput) }
 {
-    match str::from_utf8(name) {
-        Ok(path) => fs::open(files, path),
-        Err(_) => Err(io::Error::new(ErrorKind::InvalidInput, "the name is not UTF-8")),
-    }
+    let Ok(path) = str::from_utf8(name) else {
+        return Err(io::Error::new(ErrorKind::InvalidInput, "the name is not UTF-8"));
+    };
+    fs::open(files, path)
 }
 
 // Reads until the buffer is full or the input ends, and answers how many bytes then stand at the buffer's start. On an error none

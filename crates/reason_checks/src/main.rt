@@ -3,28 +3,22 @@
 #![tactic(auto)]
 
 use checking::pages::{state_of, tested};
-use checking::{number, say};
-use foldheron::{Asked, Reason};
+use checking::{Outcome, say};
+use foldheron::{Asked, Stopped};
 use std::io;
 
-fn told(out: &impl Print, name: &[u8], answer: Reason, expected: u64, at: usize) -> io::Result<()> {
-    match answer {
-        Reason::Statement(n) => say(out, name, 0, n, expected, at),
-        Reason::Clash(first, second) => clashed(out, name, first, second, expected),
-        Reason::Refused(w, place) => say(out, name, number(w), place, expected, at),
-    }
-}
+// The refusals that come more than once.
+const INPUT: Outcome = Outcome(11, 0);
 
-// The pair of the one clash here.
-fn clashed(
-    out: &impl Print,
-    name: &[u8],
-    first: u16,
-    second: u16,
-    expected: u64,
-) -> io::Result<()> {
-    say(out, name, 10, 0, expected, 0)?;
-    say(out, b"  its pair ", first as u64, second as usize, 0, 1)
+const QUESTION: Outcome = Outcome(16, 0);
+
+// A good answer's place is the statement.
+fn told(answer: Result<usize, Stopped>) -> Outcome {
+    match answer {
+        Ok(n) => Outcome(0, n),
+        Err(Stopped::Clash(..)) => Outcome(10, 0),
+        Err(Stopped::Refused(refused)) => refused.into(),
+    }
 }
 
 // A question about the first instant of present 0 then emit 1 else nothing.
@@ -34,18 +28,12 @@ fn on_fresh(
     present: u64,
     absent: u64,
     asked: Asked,
-    expected: u64,
-    at: usize,
+    expected: Outcome,
 ) -> io::Result<()> {
     let good = tested();
     let state = state_of(5, 3, 0, 0);
-    told(
-        out,
-        name,
-        foldheron::reason(&good, &state, present, absent, asked),
-        expected,
-        at,
-    )
+    let came = told(foldheron::reason(&good, &state, present, absent, asked));
+    say(out, name, came, expected)
 }
 
 // On a state as it is.
@@ -56,13 +44,8 @@ fn on_state(
     state: &[u8],
     expected: u64,
 ) -> io::Result<()> {
-    told(
-        out,
-        name,
-        foldheron::reason(block, state, 1, 1, Asked::Refused),
-        expected,
-        0,
-    )
+    let came = told(foldheron::reason(block, state, 1, 1, Asked::Refused));
+    say(out, name, came, Outcome(expected, 0))
 }
 
 // BROKEN, STATE and OTHER BLOCK, each before INPUT, which comes here too.
@@ -84,27 +67,35 @@ fn before_the_inputs(out: &impl Print) -> io::Result<()> {
 
 // CLASH with its pair, before INPUT: both pauses of pause; pause.
 fn clash(out: &impl Print) -> io::Result<()> {
-    let both = state_of(5, 3, 1, 3);
-    on_state(
+    let state = state_of(5, 3, 1, 3);
+    let block =
+        b"\x0e\x00\x01\x00\x01\x00\x05\x00\x00\x00\x00\x00\x00\x00\x04\x00\x15\x00\x04\x00\x11\x00\x04\x00\x11\x00";
+    let answer = foldheron::reason(block, &state, 1, 1, Asked::Refused);
+    say(
         out,
         b"two pauses of a sequence ",
-        b"\x0e\x00\x01\x00\x01\x00\x05\x00\x00\x00\x00\x00\x00\x00\x04\x00\x15\x00\x04\x00\x11\x00\x04\x00\x11\x00",
-        &both,
-        10,
-    )
+        told(answer),
+        Outcome(10, 0),
+    )?;
+    match answer {
+        Err(Stopped::Clash(first, second)) => {
+            let pair = Outcome(first.into(), second.into());
+            say(out, b"  its pair ", pair, Outcome(0, 1))
+        }
+        _ => Ok(()),
+    }
 }
 
 // INPUT, before QUESTION.
 fn inputs(out: &impl Print) -> io::Result<()> {
-    on_fresh(out, b"no such input present ", 2, 0, Asked::Refused, 11, 0)?;
+    on_fresh(out, b"no such input present ", 2, 0, Asked::Refused, INPUT)?;
     on_fresh(
         out,
         b"no such input absent ",
         0,
         2,
         Asked::Present(9),
-        11,
-        0,
+        INPUT,
     )
 }
 
@@ -116,8 +107,7 @@ fn refused(out: &impl Print) -> io::Result<()> {
         0,
         0,
         Asked::Refused,
-        0,
-        0,
+        Outcome(0, 0),
     )?;
     on_fresh(
         out,
@@ -125,8 +115,7 @@ fn refused(out: &impl Print) -> io::Result<()> {
         1,
         0,
         Asked::Refused,
-        16,
-        0,
+        QUESTION,
     )
 }
 
@@ -137,19 +126,17 @@ fn present(out: &impl Print) -> io::Result<()> {
         1,
         0,
         Asked::Present(1),
-        0,
-        1,
+        Outcome(0, 1),
     )?;
-    on_fresh(out, b"  an input ", 1, 0, Asked::Present(0), 16, 0)?;
-    on_fresh(out, b"  no signal ", 1, 0, Asked::Present(2), 16, 0)?;
+    on_fresh(out, b"  an input ", 1, 0, Asked::Present(0), QUESTION)?;
+    on_fresh(out, b"  no signal ", 1, 0, Asked::Present(2), QUESTION)?;
     on_fresh(
         out,
         b"  an output that is absent ",
         0,
         1,
         Asked::Present(1),
-        16,
-        0,
+        QUESTION,
     )?;
     on_fresh(
         out,
@@ -157,8 +144,7 @@ fn present(out: &impl Print) -> io::Result<()> {
         0,
         0,
         Asked::Present(1),
-        16,
-        0,
+        QUESTION,
     )
 }
 
@@ -167,13 +153,8 @@ fn of_a_local(out: &impl Print) -> io::Result<()> {
     let state = state_of(5, 2, 0, 0);
     let block =
         b"\x0e\x00\x01\x00\x01\x00\x05\x00\x00\x00\x00\x00\x01\x00\x06\x00\x1a\x00\x00\x00\x06\x00\x12\x00\x00\x00";
-    told(
-        out,
-        b"  a local ",
-        foldheron::reason(block, &state, 0, 0, Asked::Present(0)),
-        16,
-        0,
-    )
+    let came = told(foldheron::reason(block, &state, 0, 0, Asked::Present(0)));
+    say(out, b"  a local ", came, QUESTION)
 }
 
 fn not_executed(out: &impl Print) -> io::Result<()> {
@@ -183,19 +164,24 @@ fn not_executed(out: &impl Print) -> io::Result<()> {
         0,
         1,
         Asked::NotExecuted(1),
+        Outcome(0, 1),
+    )?;
+    on_fresh(out, b"  no emit ", 0, 1, Asked::NotExecuted(2), QUESTION)?;
+    on_fresh(
+        out,
+        b"  no statement ",
         0,
         1,
+        Asked::NotExecuted(3),
+        QUESTION,
     )?;
-    on_fresh(out, b"  no emit ", 0, 1, Asked::NotExecuted(2), 16, 0)?;
-    on_fresh(out, b"  no statement ", 0, 1, Asked::NotExecuted(3), 16, 0)?;
     on_fresh(
         out,
         b"  one that was executed ",
         1,
         0,
         Asked::NotExecuted(1),
-        16,
-        0,
+        QUESTION,
     )?;
     on_fresh(
         out,
@@ -203,8 +189,7 @@ fn not_executed(out: &impl Print) -> io::Result<()> {
         0,
         0,
         Asked::NotExecuted(1),
-        16,
-        0,
+        QUESTION,
     )
 }
 

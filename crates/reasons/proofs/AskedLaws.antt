@@ -9,6 +9,7 @@ use native.Mathlib.Nat.{zero-add}
 use native.Mathlib.Decide.{dec_lt}
 use native.Mathlib.Omega.{arith}
 use lib.Dec.{T, eqb, leb, ltb}
+use Rattle.std.specs.Option.{is_some}
 use lib.ListN.{get_or, replicate, length-replicate, get_or-replicate, get_or-eq_default}
 use borrow.Author.Tests.{lt-ltb, le-ltb}
 use Rattle.sets.specs.Numbers.{Numbers, union, lowest}
@@ -22,17 +23,18 @@ use Rattle.rules.specs.Rounds.{Answer, answered, not_constructive, outputs_with,
 use Rattle.rules.specs.Taken.{Wanted, every, emit_of, undecided_test, taken}
 use Rattle.rules.specs.Reasons.{Asked, refused, is_present, not_executed, is_emit, on_path, cut_off, where_so, reason_from, reason_of}
 use Rattle.rules.proofs.Preorder.{all_counted}
-use Rattle.tables.specs.Table.{Table, Has, kind_of}
+use Rattle.tables.specs.Table.{Has, kind_of}
+use Rattle.tables.specs.declared.Table.{Table}
 use Rattle.tables.proofs.Places.{has_row, at_number}
 use Rattle.words.specs.declared.events.Heard.{Heard}
 use Rattle.words.specs.Words.{event_of}
 use Rattle.forms.specs.declared.form.Task.{Task}
 use Rattle.forms.specs.Forms.{At, Placed, Live, task}
-use Rattle.evaluate.specs.declared.rounds.Phase.{Phase}
-use Rattle.evaluate.specs.declared.rounds.Phase.TheVariants.{Fresh, Running, Finished}
+use Rattle.records.specs.declared.state.Phase.{Phase}
+use Rattle.records.specs.declared.state.Phase.TheVariants.{Fresh, Running, Finished}
 use Rattle.evaluate.specs.declared.rounds.Reacted.{Reacted}
-use Rattle.evaluate.specs.Reacts.{state_of, IsAnswer}
-use Rattle.reasons.specs.Taking.{going_by, taken_of, marked_in, Taking, cut_rows, open_emit}
+use Rattle.evaluate.specs.Reacts.{state_of, going_by, IsAnswer, Reacts}
+use Rattle.reasons.specs.Taking.{taken_of, marked_in, Taking, cut_rows, open_emit}
 
 -- The root.
 pub root_placed : {tab : Table} {c d : Task} → c ≡ d → Placed tab d.at → Placed tab c.at
@@ -135,53 +137,66 @@ cut_not p t e = ap (λ (u : Bool). where_so u p) (sym t ∙ e)
 
 -- The final event.
 abbrev pub Final : Block → Hearing → Reacted → Heard → Type 0
-Final b heard r e = (outs : List Status) → bits r.present ≡ outputs_with present b outs → bits r.absent ≡ outputs_with absent b outs → event_of e ≡ event b heard outs
+Final b heard r e = (outs : List Status) → bits r.marks.present ≡ outputs_with present b outs → bits r.marks.absent ≡ outputs_with absent b outs → event_of e ≡ event b heard outs
 
-module _ (b : Block) (st : State) (heard : Hearing) (r : Reacted) where
-  pub refused_known : (a : Answer) → IsAnswer b a r → r.known ≡ true → none ≡ reason_from refused b st heard a
-  unfolding IsAnswer reason_from
-  refused_known (answered vs c st' n) x k = refl
-  refused_known (not_constructive vs n) x k = absurd (true≢false (sym k ∙ x.known_is))
+-- What is named of an emit that was not executed.
+abbrev cut_at : Block → State → ℕ → Event → Option ℕ
+cut_at b st n E =
+    where_so (is_emit (numbered b.body n) && not (taken every b.body st E n)) (lowest (statements b.body) (cut_off b.body n (taken every b.body st E)))
 
-  pub refused_unknown : (a : Answer) → IsAnswer b a r → r.known ≡ false → (e : Heard) → Final b heard r e → {o : Option ℕ}
-      → o ≡ lowest (statements b.body) (taken undecided_test b.body st (event_of e)) → o ≡ reason_from refused b st heard a
-  unfolding IsAnswer reason_from
-  refused_unknown (answered vs c st' n) x k e f q = absurd (true≢false (sym x.known_is ∙ k))
-  refused_unknown (not_constructive vs n) x k e f q =
-      q ∙ ap (λ (E : Event). lowest (statements b.body) (taken undecided_test b.body st E)) (f vs x.outputs_are.present_is x.outputs_are.absent_is)
+-- The reason, by the question and by whether the instant is answered.
+module _ (b : Block) (ph : Phase) (A : Numbers) (heard : Hearing) (r : Reacted) (x : Reacts b ph A heard r) {q : Asked} where
+  pub refused_known : q ≡ refused → is_some r.done ≡ true → none ≡ reason_of b (state_of ph A) heard q
+  unfolding IsAnswer Reacts reason_from reason_of
+  refused_known p k = go (react b (state_of ph A) heard) x ∙ ap (reason_of b (state_of ph A) heard) (sym p)
+    where
+      go : (a : Answer) → IsAnswer b a r → none ≡ reason_from refused b (state_of ph A) heard a
+      go (answered vs c st' n) y = refl
+      go (not_constructive vs n) y = absurd (true≢false (sym k ∙ ap is_some y.done_is))
 
-  pub present_so : (s : ℕ) (a : Answer) → IsAnswer b a r → (r.known && bits r.present s) ≡ true → (e : Heard) → Final b heard r e → {o : Option ℕ}
-      → o ≡ lowest (statements b.body) (taken (emit_of s) b.body st (event_of e)) → o ≡ reason_from (is_present s) b st heard a
-  unfolding IsAnswer reason_from
-  present_so s (answered vs c st' n) x k e f q =
-      let shown : outputs_with present b vs s ≡ true = ap (λ (X : Numbers). X s) (sym x.outputs_are.present_is) ∙ ap (λ (z : Bool). z && bits r.present s) (sym x.known_is) ∙ k in
-      q ∙ ap (λ (E : Event). lowest (statements b.body) (taken (emit_of s) b.body st E)) (f vs x.outputs_are.present_is x.outputs_are.absent_is)
-      ∙ ap (λ (z : Bool). where_so z (lowest (statements b.body) (taken (emit_of s) b.body st (event b heard vs)))) (sym shown)
-  present_so s (not_constructive vs n) x k e f q = absurd (true≢false (sym k ∙ ap (λ (z : Bool). z && bits r.present s) x.known_is))
+  pub refused_unknown : q ≡ refused → is_some r.done ≡ false → (e : Heard) → Final b heard r e → {o : Option ℕ}
+      → o ≡ lowest (statements b.body) (taken undecided_test b.body (state_of ph A) (event_of e)) → o ≡ reason_of b (state_of ph A) heard q
+  unfolding IsAnswer Reacts reason_from reason_of
+  refused_unknown p k e f {o} l = go (react b (state_of ph A) heard) x ∙ ap (reason_of b (state_of ph A) heard) (sym p)
+    where
+      go : (a : Answer) → IsAnswer b a r → o ≡ reason_from refused b (state_of ph A) heard a
+      go (answered vs c st' n) y = absurd (true≢false (sym (ap is_some y.done_is) ∙ k))
+      go (not_constructive vs n) y =
+          l ∙ ap (λ (E : Event). lowest (statements b.body) (taken undecided_test b.body (state_of ph A) E)) (f vs y.outputs_are.present_is y.outputs_are.absent_is)
 
-  pub present_not : (s : ℕ) (a : Answer) → IsAnswer b a r → (r.known && bits r.present s) ≡ false → none ≡ reason_from (is_present s) b st heard a
-  unfolding IsAnswer reason_from
-  present_not s (answered vs c st' n) x k =
-      let gone : outputs_with present b vs s ≡ false = ap (λ (X : Numbers). X s) (sym x.outputs_are.present_is) ∙ ap (λ (z : Bool). z && bits r.present s) (sym x.known_is) ∙ k in
-      ap (λ (z : Bool). where_so z (lowest (statements b.body) (taken (emit_of s) b.body st (event b heard vs)))) (sym gone)
-  present_not s (not_constructive vs n) x k = refl
+  pub present_so : {s : ℕ} → q ≡ is_present s → is_some r.done ≡ true → true ≡ bits r.marks.present s → (e : Heard) → Final b heard r e → {o : Option ℕ}
+      → o ≡ lowest (statements b.body) (taken (emit_of s) b.body (state_of ph A) (event_of e)) → o ≡ reason_of b (state_of ph A) heard q
+  unfolding IsAnswer Reacts reason_from reason_of
+  present_so {s} p k t e f {o} l = go (react b (state_of ph A) heard) x ∙ ap (reason_of b (state_of ph A) heard) (sym p)
+    where
+      go : (a : Answer) → IsAnswer b a r → o ≡ reason_from (is_present s) b (state_of ph A) heard a
+      go (answered vs c st' n) y =
+          l ∙ ap (λ (E : Event). lowest (statements b.body) (taken (emit_of s) b.body (state_of ph A) E)) (f vs y.outputs_are.present_is y.outputs_are.absent_is)
+          ∙ ap (λ (z : Bool). where_so z (lowest (statements b.body) (taken (emit_of s) b.body (state_of ph A) (event b heard vs)))) (t ∙ ap (λ (X : Numbers). X s) y.outputs_are.present_is)
+      go (not_constructive vs n) y = absurd (true≢false (sym k ∙ ap is_some y.done_is))
 
-  abbrev cut_at : ℕ → Event → Option ℕ
-  cut_at n E =
-      where_so (is_emit (numbered b.body n) && not (taken every b.body st E n)) (lowest (statements b.body) (cut_off b.body n (taken every b.body st E)))
+  pub present_not : {s : ℕ} → q ≡ is_present s → (is_some r.done ≡ true → false ≡ bits r.marks.present s) → none ≡ reason_of b (state_of ph A) heard q
+  unfolding IsAnswer Reacts reason_from reason_of
+  present_not {s} p f = go (react b (state_of ph A) heard) x ∙ ap (reason_of b (state_of ph A) heard) (sym p)
+    where
+      go : (a : Answer) → IsAnswer b a r → none ≡ reason_from (is_present s) b (state_of ph A) heard a
+      go (answered vs c st' n) y =
+          ap (λ (z : Bool). where_so z (lowest (statements b.body) (taken (emit_of s) b.body (state_of ph A) (event b heard vs)))) (f (ap is_some y.done_is) ∙ ap (λ (X : Numbers). X s) y.outputs_are.present_is)
+      go (not_constructive vs n) y = refl
 
-  pub executed_known : (n : ℕ) (a : Answer) → IsAnswer b a r → r.known ≡ true → (e : Heard) → Final b heard r e → {o : Option ℕ}
-      → o ≡ cut_at n (event_of e) → o ≡ reason_from (not_executed n) b st heard a
-  unfolding IsAnswer reason_from
-  executed_known n (answered vs c st' m) x k e f q = q ∙ ap (cut_at n) (f vs x.outputs_are.present_is x.outputs_are.absent_is)
-  executed_known n (not_constructive vs m) x k e f q = absurd (true≢false (sym k ∙ x.known_is))
+  pub executed_known : {n : ℕ} → q ≡ not_executed n → is_some r.done ≡ true → (e : Heard) → Final b heard r e → {o : Option ℕ}
+      → o ≡ cut_at b (state_of ph A) n (event_of e) → o ≡ reason_of b (state_of ph A) heard q
+  unfolding IsAnswer Reacts reason_from reason_of
+  executed_known {n} p k e f {o} l = go (react b (state_of ph A) heard) x ∙ ap (reason_of b (state_of ph A) heard) (sym p)
+    where
+      go : (a : Answer) → IsAnswer b a r → o ≡ reason_from (not_executed n) b (state_of ph A) heard a
+      go (answered vs c st' m) y = l ∙ ap (cut_at b (state_of ph A) n) (f vs y.outputs_are.present_is y.outputs_are.absent_is)
+      go (not_constructive vs m) y = absurd (true≢false (sym k ∙ ap is_some y.done_is))
 
-  pub executed_unknown : (n : ℕ) (a : Answer) → IsAnswer b a r → r.known ≡ false → none ≡ reason_from (not_executed n) b st heard a
-  unfolding IsAnswer reason_from
-  executed_unknown n (answered vs c st' m) x k = absurd (true≢false (sym x.known_is ∙ k))
-  executed_unknown n (not_constructive vs m) x k = refl
-
--- The question that the code was asked.
-pub asked_for : (b : Block) (st : State) (heard : Hearing) {q p : Asked} {o : Option ℕ} → q ≡ p → o ≡ reason_from p b st heard (react b st heard) → o ≡ reason_of b st heard q
-unfolding reason_of
-asked_for b st heard e x = x ∙ ap (λ (z : Asked). reason_from z b st heard (react b st heard)) (sym e)
+  pub executed_unknown : {n : ℕ} → q ≡ not_executed n → is_some r.done ≡ false → none ≡ reason_of b (state_of ph A) heard q
+  unfolding IsAnswer Reacts reason_from reason_of
+  executed_unknown {n} p k = go (react b (state_of ph A) heard) x ∙ ap (reason_of b (state_of ph A) heard) (sym p)
+    where
+      go : (a : Answer) → IsAnswer b a r → none ≡ reason_from (not_executed n) b (state_of ph A) heard a
+      go (answered vs c st' m) y = absurd (true≢false (sym (ap is_some y.done_is) ∙ k))
+      go (not_constructive vs m) y = refl

@@ -3,14 +3,17 @@ use mathlib.Core.Path.{◌≡◌, refl, sym, ap, ap₂, ◌∙◌, subst, fun_ex
 use mathlib.Core.Logic.{◌⊎◌, inl, inr}
 use mathlib.Core.Bool.{Bool, true, false, not, cond, ◌&&◌, ◌||◌, or-false}
 use mathlib.Core.List.{List}
-use mathlib.Core.Option.{none, some}
-use Prim.Native.Nat.{ℕ, ◌+◌, ◌-◌, ◌≤◌, ◌<◌}
-use native.Mathlib.Decide.{dec_lt}
+use Prim.Native.Nat.{ℕ, ◌-◌, ◌≤◌, ◌<◌}
 use native.Mathlib.Omega.{arith}
 use lib.Dec.{T, eqb, eqb→eq, leb, ltb, eqb_refl, nltb→le, le→leb, leb→le, ltb→lt}
 use lib.Bits.{bit_and, bit_or}
-use lib.ListN.{length, get_or, set, length-set}
+use lib.ListN.{length, get_or, set, length-set, take, length-take}
 use lib.Seq.{get_or-set_same, get_or-set_other}
+use Rattle.std.specs.Prelude as prelude
+use Rattle.std.specs.Prelude.{Some, None}
+use Rattle.std.specs.Option.{MatchOption}
+use Rattle.std.specs.List.{AllWithin, HoldsAt}
+use Rattle.std.proofs.lemmas.List.{get_or-take}
 use Rattle.sets.specs.Numbers.{Numbers, lowest}
 use Rattle.sets.specs.Words.{bits}
 use Rattle.sets.proofs.Members.{of_true, of_false, is_true, is_false, eqb_not, ext}
@@ -25,7 +28,7 @@ use Rattle.words.specs.Words.{event_of, hearing_of}
 use Rattle.forms.specs.declared.form.Task.{Task}
 use Rattle.forms.specs.declared.form.Form.{Form}
 use Rattle.forms.specs.declared.form.Form.TheVariants.{Done, Stay, Keep, Say, Leave, Test, Catch, Scope, Chain, Beside, Same}
-use Rattle.reasons.specs.Taking.{hit, Narrow, Marked}
+use Rattle.reasons.specs.Taking.{hit, Narrow, Marked, named_of, marked_in}
 
 -- A form's own mark, by the variant that the form is.
 pub by_form : (w : Wanted) (E : Event) {f g : Form} {z : Bool} → f ≡ g → z ≡ hit w g E → z ≡ hit w f E
@@ -36,49 +39,23 @@ unfolding hit Narrow
 by_test w E e a b n = by_form w E e (a ∙ ap (wants_test w) (b (subst Narrow e n)))
 
 -- All but an emit and a test are asked for alike.
-abbrev pub plain : Form → Bool
-plain Done = true
-plain (Stay n) = true
-plain (Keep i) = true
-plain (Say s) = false
-plain (Leave d) = true
-plain (Test s c d) = false
-plain (Catch c) = true
-plain (Scope s c) = true
-plain (Chain c d) = true
-plain (Beside c d) = true
-plain (Same c) = true
-
-plain_hit : (w : Wanted) (E : Event) (g : Form) → plain g ≡ true → wants w ≡ hit w g E
+pub by_other : (w : Wanted) (E : Event) (f : Form) {z : Bool} → ((s : ℕ) → f ≡ Say s → ⊥) → ((s : ℕ) (p q : Task) → f ≡ Test s p q → ⊥) → z ≡ wants w → z ≡ hit w f E
 unfolding hit
-plain_hit w E Done p = refl
-plain_hit w E (Stay n) p = refl
-plain_hit w E (Keep i) p = refl
-plain_hit w E (Say s) p = absurd (of_true p)
-plain_hit w E (Leave d) p = refl
-plain_hit w E (Test s c d) p = absurd (of_true p)
-plain_hit w E (Catch c) p = refl
-plain_hit w E (Scope s c) p = refl
-plain_hit w E (Chain c d) p = refl
-plain_hit w E (Beside c d) p = refl
-plain_hit w E (Same c) p = refl
-
-pub by_plain : (w : Wanted) (E : Event) {f g : Form} {z : Bool} → f ≡ g → plain g ≡ true → z ≡ wants w → z ≡ hit w f E
-by_plain w E {g = g} e p q = by_form w E e (q ∙ plain_hit w E g p)
-
-pub when_so : {b x z : Bool} → b ≡ true → z ≡ x → z ≡ (b && x)
-when_so {x = x} e q = q ∙ ap (λ (y : Bool). y && x) (sym e)
-
-pub when_not : {b : Bool} (x : Bool) → b ≡ false → false ≡ (b && x)
-when_not x e = ap (λ (y : Bool). y && x) (sym e)
+by_other w E Done m n e = e
+by_other w E (Stay i) m n e = e
+by_other w E (Keep i) m n e = e
+by_other w E (Say s) m n e = absurd (m s refl)
+by_other w E (Leave d) m n e = e
+by_other w E (Test s p q) m n e = absurd (n s p q refl)
+by_other w E (Catch p) m n e = e
+by_other w E (Scope s p) m n e = e
+by_other w E (Chain p q) m n e = e
+by_other w E (Beside p q) m n e = e
+by_other w E (Same p) m n e = e
 
 or_true : (b : Bool) → (b || true) ≡ true
 or_true true = refl
 or_true false = refl
-
--- A test made of two.
-pub cut_is : {path on cut z : Bool} (executed : Bool) → path ≡ on → cut ≡ (path && not executed) → cut ≡ z → (on && not executed) ≡ z
-cut_is executed p q r = ap (λ (x : Bool). x && not executed) (sym p) ∙ sym q ∙ r
 
 -- A mark stored, and none.
 pub mark_stored : (before : List Bool) (i : ℕ) (z : Bool) → i < 512 → z ≡ true → Marked before (itself_if z i) (set before i true)
@@ -105,20 +82,21 @@ mark_left before i z e = record {
   adds = λ n. ext (λ k. sym (ap (λ (y : Bool). get_or before k false || (y && eqb k i)) e ∙ or-false (get_or before k false)));
 }
 
--- Going up from 0: the first that is a member, none, or on to the next.
-module _ (n : ℕ) (a : Numbers) (i : ℕ) (f : (j : ℕ) → j < i → T (a j) → ⊥) where
-  pub found_here : i < n → a i ≡ true → some i ≡ lowest n a
-  found_here l e = sym (lowest_in n a l (of_true e) f)
+-- The first place found, or none, is the lowest member.
+pub first_lowest : (n : ℕ) (a : Numbers) (r : prelude.Option ℕ)
+    → MatchOption r ((k : ℕ) → 0 ≤ k → k < n → a k ≡ false) (λ i. (0 ≤ i) × (i < n) × (a i ≡ true) × ((k : ℕ) → 0 ≤ k → k < i → a k ≡ false)) → named_of r ≡ lowest n a
+first_lowest n a None h = sym (lowest_empty n a (λ j l t. of_false (h j (omega arith) l) t))
+first_lowest n a (Some i) h = sym (lowest_in n a h.1 (of_true h.2) (λ j l t. of_false (h.3 j (omega arith) l) t))
 
-  pub found_none : n ≤ i → none ≡ lowest n a
-  found_none l = sym (lowest_empty n a (λ j h t. f j (omega arith) t))
-
-  pub not_here : a i ≡ false → (j : ℕ) → j < i + 1 → T (a j) → ⊥
-  not_here e j h t = go (dec_lt j i)
-    where
-      go : Dec (j < i) → ⊥
-      go (yes l) = f j l t
-      go (no l) = let q : j ≡ i = omega arith in of_false e (subst (λ (x : ℕ). T (a x)) q t)
+-- The same of the marks of a list's front.
+pub first_marked : (ms : List Bool) (n : ℕ) → n ≤ length ms → (r : prelude.Option ℕ)
+    → MatchOption r (AllWithin (λ b. b ≡ false) (take n ms) 0 (length (take n ms)))
+    (λ i. (i < length (take n ms)) × HoldsAt (λ b. b ≡ true) (take n ms) i × AllWithin (λ b. b ≡ false) (take n ms) 0 i) → named_of r ≡ lowest n (marked_in ms)
+first_marked ms n l None h =
+    first_lowest n (marked_in ms) None (λ k z b. sym (get_or-take n ms k false b) ∙ h k false z (omega (arith, length-take {A = Bool})))
+first_marked ms n l (Some i) h =
+    let b : i < n = omega (arith, length-take {A = Bool}, h.0) in
+    first_lowest n (marked_in ms) (Some i) (omega arith, b, sym (get_or-take n ms i false b) ∙ h.1 false, λ k z e. sym (get_or-take n ms k false (omega arith)) ∙ h.2 k false z e)
 
 -- The event of the final round, signal by signal: an input as it is heard, an output as it is marked.
 by_status : (v : Status) → status_of (same v present) (same v absent) ≡ v

@@ -12,7 +12,8 @@ use Rattle.rules.specs.Instant.{Step, done, stay, say, leave, test, catch, scope
 use Rattle.rules.specs.MustCan.{must, gives}
 use Rattle.rules.specs.States.{executed_as, kept_by}
 use Rattle.rules.specs.Taken.{Wanted, wants, itself_if, taken_started, taken_resumed}
-use Rattle.tables.specs.Table.{Table, Has, Small}
+use Rattle.tables.specs.Table.{Has, Small}
+use Rattle.tables.specs.declared.Table.{Table}
 use Rattle.forms.specs.declared.form.Going.{Going}
 use Rattle.forms.specs.declared.form.Going.TheVariants.{Started, Resumed, Held, Idle}
 use Rattle.forms.specs.declared.form.Task.{Task}

@@ -15,7 +15,7 @@ use Rattle.rules.specs.Instant.{Step, test}
 use Rattle.rules.specs.MustCan.{plus, must, can, local_status, gives}
 use Rattle.rules.specs.States.{executed_as, kept_by}
 use Rattle.rules.specs.Taken.{Wanted, itself_if}
-use Rattle.tables.specs.Table.{Table}
+use Rattle.tables.specs.declared.Table.{Table}
 use Rattle.tables.specs.declared.kinds.Depth.{Depth}
 use Rattle.words.specs.declared.events.Heard.{Heard}
 use Rattle.words.specs.declared.given.MustCan.{MustCan}

@@ -1,5 +1,6 @@
 -- What the walk of the reasons marks, and what its words stand for. Assumes nothing.
-use Rattle.std.specs.Prelude.{◌≡◌, Bool, true, false, not, ◌&&◌, List, ℕ, ◌+◌, ◌<◌, eqb, leb, ltb, length, get_or}
+use Rattle.std.specs.Prelude as prelude
+use Rattle.std.specs.Prelude.{◌≡◌, Bool, Some, None, true, false, not, ◌&&◌, List, ℕ, ◌+◌, ◌<◌, eqb, leb, ltb, length, get_or}
 use Rattle.std.proofs.Math.Option.{Option, none, some}
 use Rattle.sets.specs.Numbers.{Numbers, empty, union}
 use Rattle.sets.specs.Words.{bits}
@@ -8,7 +9,7 @@ use Rattle.rules.specs.Events.{Event}
 use Rattle.rules.specs.MustCan.{must, gives}
 use Rattle.rules.specs.Taken.{Wanted, every, emit_of, undecided_test, wants, wants_emit, wants_test, taken_started, taken_resumed}
 use Rattle.rules.specs.Reasons.{Asked, refused, is_present, not_executed}
-use Rattle.tables.specs.Table.{Table}
+use Rattle.tables.specs.declared.Table.{Table}
 use Rattle.words.specs.declared.events.Heard.{Heard}
 use Rattle.words.specs.Words.{event_of}
 use Rattle.forms.specs.declared.form.Going.{Going}
@@ -17,12 +18,8 @@ use Rattle.forms.specs.declared.form.Task.{Task}
 use Rattle.forms.specs.declared.form.Form.{Form}
 use Rattle.forms.specs.declared.form.Form.TheVariants.{Done, Stay, Keep, Say, Leave, Test, Catch, Scope, Chain, Beside, Same}
 use Rattle.forms.specs.Forms.{At, Live, step_of}
-use Rattle.evaluate.specs.declared.rounds.Phase.{Phase}
-use Rattle.evaluate.specs.declared.rounds.Phase.TheVariants.{Fresh, Running, Finished}
 use Rattle.reasons.specs.declared.wanted.Wanted as code
 use Rattle.reasons.specs.declared.wanted.Wanted.TheVariants.{Every, EmitOf, UndecidedTest}
-use Rattle.reasons.specs.declared.lowest.Named.{Named}
-use Rattle.reasons.specs.declared.lowest.Named.TheVariants.{Statement, Nothing}
 use Rattle.reasons.specs.declared.asked.Asked as question
 use Rattle.reasons.specs.declared.asked.Asked.TheVariants.{Refused, Present, NotExecuted}
 
@@ -37,9 +34,9 @@ asked_of Refused = refused
 asked_of (Present s) = is_present s
 asked_of (NotExecuted n) = not_executed n
 
-abbrev pub named_of : Named → Option ℕ
-named_of (Statement n) = some n
-named_of Nothing = none
+abbrev pub named_of : prelude.Option ℕ → Option ℕ
+named_of (Some n) = some n
+named_of None = none
 
 -- Started or resumed: the statement is reached.
 abbrev pub goes : Going → Bool
@@ -47,12 +44,6 @@ goes Started = true
 goes Resumed = true
 goes Held = false
 goes Idle = false
-
--- How the root is taken in a phase.
-abbrev pub going_by : Phase → Going
-going_by Fresh = Started
-going_by Running = Resumed
-going_by Finished = Idle
 
 -- A statement that is reached is asked for, by its form.
 unfoldable pub hit : Wanted → Form → Event → Bool

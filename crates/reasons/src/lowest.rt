@@ -1,63 +1,33 @@
 // The lowest statement of those that are marked, and of those on a path that are not.
-ghost use Rattle.std.specs.Prelude.{◌≡◌, not, ◌&&◌, ◌≤◌, ◌<◌};
+ghost use Rattle.std.specs.Prelude.{◌≡◌, ◌≤◌, ◌<◌};
 ghost use Rattle.sets.specs.Numbers.{lowest};
-ghost use Rattle.reasons.specs.Taking.{named_of, marked_in, passes, cut_rows};
+ghost use Rattle.reasons.specs.Taking.{named_of, marked_in, cut_rows};
 
-// A statement's number, or none.
-#[derive(Clone, Copy)]
-pub enum Named {
-    Statement(usize),
-    Nothing,
-}
+use tables::Table;
 
-pub(crate) fn lowest_marked(marks: &[bool; 512], count: usize) -> Named
+pub(crate) fn lowest_marked(marks: &[bool; 512], count: usize) -> Option<usize>
     requires { count ≤ 512 }
     ensures { named_of result ≡ lowest count (marked_in marks.now) }
 {
-    let mut i = 0;
-    while i < count {
-        if marks[i] {
-            return Named::Statement(i);
-        }
-        i += 1;
-    }
-    Named::Nothing
+    marks[..count].iter().position(|&m| m)
 }
 
-// Whether statement n is the one in this row or stands below it.
-fn passed_by(n: usize, row: usize, size: u16) -> bool
+// Whether statement n is the one in this row or stands below it, and the row was not executed.
+fn is_cut(table: &Table, executed: &[bool; 512], n: usize, row: usize) -> bool
     requires { row < 512 }
-    ensures { result ≡ passes n row size }
+    ensures { result ≡ cut_rows table.now.sizes n (marked_in executed.now) row }
 {
-    if row <= n {
-        n < row + size as usize
-    } else {
-        false
-    }
-}
-
-fn cut_here(path: bool, executed: bool) -> bool
-    ensures { result ≡ (path && not executed) }
-{
-    if path { !executed } else { false }
+    row <= n && n < row + table.sizes[row] as usize && !executed[row]
 }
 
 pub(crate) fn lowest_cut(
-    sizes: &[u16; 512],
+    table: &Table,
     executed: &[bool; 512],
     n: usize,
     count: usize,
-) -> Named
+) -> Option<usize>
     requires { count ≤ 512 }
-    ensures { named_of result ≡ lowest count (cut_rows sizes.now n (marked_in executed.now)) }
+    ensures { named_of result ≡ lowest count (cut_rows table.now.sizes n (marked_in executed.now)) }
 {
-    let mut i = 0;
-    while i < count {
-        let path = passed_by(n, i, sizes[i]);
-        if cut_here(path, executed[i]) {
-            return Named::Statement(i);
-        }
-        i += 1;
-    }
-    Named::Nothing
+    (0..count).find(|&row| is_cut(table, executed, n, row))
 }

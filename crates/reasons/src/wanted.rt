@@ -18,11 +18,7 @@ pub enum Wanted {
 fn wants(w: Wanted) -> bool
     ensures { result ≡ wants (wanted_of w) }
 {
-    match w {
-        Wanted::Every => true,
-        Wanted::EmitOf(_) => false,
-        Wanted::UndecidedTest => false,
-    }
+    matches!(w, Wanted::Every)
 }
 
 fn wants_emit(w: Wanted, s: u16) -> bool
@@ -35,23 +31,13 @@ fn wants_emit(w: Wanted, s: u16) -> bool
     }
 }
 
-fn is_undecided(v: Seen) -> bool
-    ensures { result ≡ wants_test (wanted_of Wanted.UndecidedTest) (seen_as v) }
-{
-    match v {
-        Seen::Present => false,
-        Seen::Absent => false,
-        Seen::Unknown => true,
-    }
-}
-
 fn wants_test(w: Wanted, v: Seen) -> bool
     ensures { result ≡ wants_test (wanted_of w) (seen_as v) }
 {
     match w {
         Wanted::Every => true,
         Wanted::EmitOf(_) => false,
-        Wanted::UndecidedTest => is_undecided(v),
+        Wanted::UndecidedTest => matches!(v, Seen::Unknown),
     }
 }
 
@@ -62,15 +48,7 @@ fn wanted_in(w: Wanted, form: Form, e: Heard) -> bool
     match form {
         Form::Say(s) => wants_emit(w, s),
         Form::Test(s, _, _) => wants_test(w, status_at(e, s)),
-        Form::Done => wants(w),
-        Form::Stay(_) => wants(w),
-        Form::Keep(_) => wants(w),
-        Form::Leave(_) => wants(w),
-        Form::Catch(_) => wants(w),
-        Form::Scope(_, _) => wants(w),
-        Form::Chain(_, _) => wants(w),
-        Form::Beside(_, _) => wants(w),
-        Form::Same(_) => wants(w),
+        _ => wants(w),
     }
 }
 
@@ -78,22 +56,13 @@ fn wanted_in(w: Wanted, form: Form, e: Heard) -> bool
 fn reached(going: Going) -> bool
     ensures { result ≡ goes going }
 {
-    match going {
-        Going::Started => true,
-        Going::Resumed => true,
-        Going::Held => false,
-        Going::Idle => false,
-    }
+    matches!(going, Going::Started | Going::Resumed)
 }
 
 pub(crate) fn wanted_here(w: Wanted, going: Going, form: Form, e: Heard) -> bool
     ensures { Narrow form → result ≡ (goes going && hit (wanted_of w) form (event_of e)) }
 {
-    if reached(going) {
-        wanted_in(w, form, e)
-    } else {
-        false
-    }
+    reached(going) && wanted_in(w, form, e)
 }
 
 // A statement's own mark.

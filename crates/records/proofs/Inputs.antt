@@ -1,14 +1,14 @@
 -- The two input sets: a signal in both shows in the words' common bits, and the inputs that a set leaves out, taken as absent, bring no INPUT
 -- of their own. Assumes nothing.
-use mathlib.Core.Path.{◌≡◌, refl, sym, ap, ap₂, ◌∙◌, subst, subst⁻¹}
+use mathlib.Core.Path.{◌≡◌, refl, sym, ap, ap₂, ◌∙◌, subst}
 use mathlib.Core.Bool.{Bool, true, false, not, ◌&&◌, ◌||◌}
-use Prim.Native.Nat.{ℕ, ◌+◌, ◌/◌, ◌^◌, ◌≤◌, ◌<◌}
+use Prim.Native.Nat.{ℕ, ◌+◌, ◌/◌, ◌^◌, ◌<◌}
 use native.Mathlib.Omega.{arith}
 use lib.Dec.{T, eqb, ltb, T_not, not_T, eqb→eq}
 use lib.Bits.{bit_and, and_lt}
 use borrow.Author.Tests.{le-ltb, eq-eqb}
 use Rattle.sets.specs.Words.{bits}
-use Rattle.sets.proofs.Members.{same, is_false, of_false, and_in, and_left, and_right, eqb_in}
+use Rattle.sets.proofs.Members.{same, is_false, of_false, and_left, and_right, eqb_in}
 use Rattle.sets.proofs.Maxima.{some_to_in, some_to_out}
 use Rattle.sets.proofs.Words.{bits_and, bits_ext, bits_shift, bits_zero}
 use Rattle.records.specs.StateRecord.{undeclared_input, in_both, bad_inputs}

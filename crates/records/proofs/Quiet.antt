@@ -1,6 +1,6 @@
 -- The flags of the rows, from the last to the first: a statement's flag and the compatibility of its active pauses come from its parts, by its shape. Two of them are parted
 -- by a statement that has both parts flagged, so where only parallels have no two clash. Assumes nothing.
-use mathlib.Core.Path.{◌≡◌, refl, sym, ap, ◌∙◌, subst, subst⁻¹}
+use mathlib.Core.Path.{◌≡◌, sym, ap, ◌∙◌, subst, subst⁻¹}
 use mathlib.Core.Bool.{Bool, true, false, cond}
 use mathlib.Core.List.{List}
 use mathlib.Core.Option.{none}

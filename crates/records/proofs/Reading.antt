@@ -4,18 +4,20 @@ use mathlib.Core.Logic.{◌⊎◌, inl, inr, ◌≢◌}
 use mathlib.Core.Bool.{Bool, true, false, not, cond, ◌&&◌, true≢false}
 use mathlib.Core.List.{List, [], ◌∷◌}
 use Prim.Native.Nat.{ℕ, ◌<◌, ◌^◌}
+use Rattle.std.specs.Prelude.{Some}
 use native.Mathlib.Omega.{arith}
 use native.Mathlib.Decide.{ℕ_discrete}
-use lib.Dec.{eqb, eqb→eq}
+use lib.Dec.{T, eqb, eqb→eq}
 use lib.ListN.{length, get_or}
 use borrow.Author.Tests.{eq-eqb, ne_eqb, eqb-false}
 use Rattle.sets.specs.Numbers.{Numbers}
-use Rattle.sets.specs.Words.{two_words}
+use Rattle.sets.specs.Words.{word, two_words}
 use Rattle.sets.proofs.Members.{of_true, and_left, and_right}
 use Rattle.sets.proofs.Words.{word_empty}
-use Rattle.rules.specs.States.{State, fresh, running, finished}
+use Rattle.rules.specs.States.{State, fresh, running, finished, active_of}
 use Rattle.records.specs.StateRecord.{state_size, length_in, kind_in, version_in, statements_in, phase_in, low_in, high_in, Found, not_a_state, state, beyond, in_phase, read_state, names_block}
-use Rattle.records.specs.Held.{words_in, held_of}
+use Rattle.records.specs.Held.{words_in, phase_held, held_of}
+use Rattle.records.specs.declared.state.Phase.TheVariants.{Fresh, Running, Finished}
 use Rattle.records.proofs.TwoWords.{words_low, words_high}
 
 -- The definition's choice, with the tests of the bits as Booleans.
@@ -43,23 +45,30 @@ set_other true b false far A e = ap (λ (x : Bool). cond {A = Found} x (state (r
 set_other false b true far A e = ap (λ (x : Bool). cond {A = Found} x (state (running A)) not_a_state) e
 set_other false b false far A e = ap (λ (x : Bool). cond {A = Found} x (state (running A)) not_a_state) e
 
+outside : (a b c clear far : Bool) (A : Numbers) → a ≡ false → b ≡ false → c ≡ false
+    → cond {A = Found} (a && clear) (state fresh) (cond (b && not clear && not far) (state (running A)) (cond (c && clear) (state finished) not_a_state)) ≡ not_a_state
+outside a b c clear far A p q r =
+    ap (λ (x : Bool). cond {A = Found} (x && clear) (state fresh) (cond (b && not clear && not far) (state (running A)) (cond (c && clear) (state finished) not_a_state))) p
+    ∙ ap₂ (λ (y z : Bool). cond {A = Found} (y && not clear && not far) (state (running A)) (cond (z && clear) (state finished) not_a_state)) q r
+
 far_refused : (b : Bool) {far : Bool} → far ≡ true → (b && not false && not far) ≡ false
 far_refused true e = ap not e
 far_refused false e = refl
 
 -- What each thing found is as words.
-held_fresh : held_of (state fresh) ≡ record { phase = 0; active = 0 ∷ 0 ∷ [] }
-unfolding held_of
-held_fresh = ap (λ (x : ℕ). record { phase = 0; active = x ∷ x ∷ [] }) (word_empty 64)
+held_fresh : held_of (state fresh) ≡ Some (record { phase = Fresh; active = 0 ∷ 0 ∷ [] })
+unfolding held_of phase_held active_of word
+held_fresh = ap (λ (x : ℕ). Some (record { phase = Fresh; active = x ∷ x ∷ [] })) (word_empty 64)
 
-held_finished : held_of (state finished) ≡ record { phase = 2; active = 0 ∷ 0 ∷ [] }
-unfolding held_of
-held_finished = ap (λ (x : ℕ). record { phase = 2; active = x ∷ x ∷ [] }) (word_empty 64)
+held_finished : held_of (state finished) ≡ Some (record { phase = Finished; active = 0 ∷ 0 ∷ [] })
+unfolding held_of phase_held active_of word
+held_finished = ap (λ (x : ℕ). Some (record { phase = Finished; active = x ∷ x ∷ [] })) (word_empty 64)
 
-held_running : (low high : ℕ) → low < 2 ^ 64 → high < 2 ^ 64 → held_of (state (running (two_words 64 low high))) ≡ record { phase = 1; active = low ∷ high ∷ [] }
-unfolding held_of
+held_running : (low high : ℕ) → low < 2 ^ 64 → high < 2 ^ 64
+    → held_of (state (running (two_words 64 low high))) ≡ Some (record { phase = Running; active = low ∷ high ∷ [] })
+unfolding held_of phase_held active_of
 held_running low high l h =
-    ap₂ (λ (x y : ℕ). record { phase = 1; active = x ∷ y ∷ [] }) (words_low low high l h) (words_high low high l h)
+    ap₂ (λ (x y : ℕ). Some (record { phase = Running; active = x ∷ y ∷ [] })) (words_low low high l h) (words_high low high l h)
 
 -- The ways through the phases, with the two words of a record.
 module _ (phase pauses : ℕ) (ws bs : List ℕ) (q : ws ≡ words_in bs) where
@@ -84,18 +93,30 @@ module _ (phase pauses : ℕ) (ws bs : List ℕ) (q : ws ≡ words_in bs) where
         in_phase_of phase pauses bs e f
         ∙ ap (λ (b : Bool). choose phase b (beyond pauses (two_words 64 low high)) (two_words 64 low high)) (sym n)
 
-    pub by_fresh : clear ≡ true → phase ≡ 0 → record { phase = 0; active = 0 ∷ 0 ∷ [] } ≡ held_of (in_phase phase pauses bs)
-    by_fresh t z =
-        sym (ap held_of (so ∙ ap₂ (λ (b : Bool) (p : ℕ). choose p b (beyond pauses (two_words 64 low high)) (two_words 64 low high)) t z) ∙ held_fresh)
+    -- no bit is set in a word that the test finds clear
+    no_bits : clear ≡ true → ws ≡ 0 ∷ 0 ∷ []
+    no_bits t =
+        let h : T (eqb low 0 && eqb high 0) = of_true (sym n ∙ t) in
+        both ∙ ap₂ (λ (x y : ℕ). x ∷ y ∷ []) (eqb→eq low 0 (and_left (eqb low 0) (eqb high 0) h)) (eqb→eq high 0 (and_right (eqb low 0) (eqb high 0) h))
 
-    pub by_finished : clear ≡ true → phase ≡ 2 → record { phase = 2; active = 0 ∷ 0 ∷ [] } ≡ held_of (in_phase phase pauses bs)
+    pub by_fresh : clear ≡ true → phase ≡ 0 → Some (record { phase = Fresh; active = ws }) ≡ held_of (in_phase phase pauses bs)
+    by_fresh t z =
+        ap (λ (l : List ℕ). Some (record { phase = Fresh; active = l })) (no_bits t)
+        ∙ sym (ap held_of (so ∙ ap₂ (λ (b : Bool) (p : ℕ). choose p b (beyond pauses (two_words 64 low high)) (two_words 64 low high)) t z) ∙ held_fresh)
+
+    pub by_finished : clear ≡ true → phase ≡ 2 → Some (record { phase = Finished; active = ws }) ≡ held_of (in_phase phase pauses bs)
     by_finished t z =
-        sym (ap held_of (so ∙ ap₂ (λ (b : Bool) (p : ℕ). choose p b (beyond pauses (two_words 64 low high)) (two_words 64 low high)) t z) ∙ held_finished)
+        ap (λ (l : List ℕ). Some (record { phase = Finished; active = l })) (no_bits t)
+        ∙ sym (ap held_of (so ∙ ap₂ (λ (b : Bool) (p : ℕ). choose p b (beyond pauses (two_words 64 low high)) (two_words 64 low high)) t z) ∙ held_finished)
 
     pub by_neither : clear ≡ true → (phase ≡ 0 → ⊥) → (phase ≡ 2 → ⊥) → not_a_state ≡ in_phase phase pauses bs
     by_neither t p q =
         sym (so ∙ ap (λ (b : Bool). choose phase b (beyond pauses (two_words 64 low high)) (two_words 64 low high)) t
         ∙ clear_other (eqb phase 0) (eqb phase 1) (eqb phase 2) (beyond pauses (two_words 64 low high)) (two_words 64 low high) (ne_eqb phase 0 p) (ne_eqb phase 2 q))
+
+    -- no phase has the number
+    pub by_outside : (phase ≡ 0 → ⊥) → (phase ≡ 1 → ⊥) → (phase ≡ 2 → ⊥) → not_a_state ≡ in_phase phase pauses bs
+    by_outside f g h = sym (so ∙ outside (eqb phase 0) (eqb phase 1) (eqb phase 2) clear (beyond pauses (two_words 64 low high)) (two_words 64 low high) (ne_eqb phase 0 f) (ne_eqb phase 1 g) (ne_eqb phase 2 h))
 
     module _ {far : Bool} (b : far ≡ beyond pauses (two_words 64 low high)) where
       pub by_far : clear ≡ false → far ≡ true → not_a_state ≡ in_phase phase pauses bs
@@ -104,9 +125,9 @@ module _ (phase pauses : ℕ) (ws bs : List ℕ) (q : ws ≡ words_in bs) where
           ∙ set_other (eqb phase 0) (eqb phase 1) (eqb phase 2) (beyond pauses (two_words 64 low high)) (two_words 64 low high) (far_refused (eqb phase 1) (sym b ∙ p)))
 
       pub by_running : low < 2 ^ 64 → high < 2 ^ 64 → clear ≡ false → far ≡ false → phase ≡ 1
-          → record { phase = 1; active = ws } ≡ held_of (in_phase phase pauses bs)
+          → Some (record { phase = Running; active = ws }) ≡ held_of (in_phase phase pauses bs)
       by_running l h t p z =
-          ap (λ (l : List ℕ). record { phase = 1; active = l }) both
+          ap (λ (l : List ℕ). Some (record { phase = Running; active = l })) both
           ∙ sym (ap held_of (so ∙ ap₂ (λ (x : Bool) (k : ℕ). choose k x (beyond pauses (two_words 64 low high)) (two_words 64 low high)) t z
           ∙ ap (λ (x : Bool). choose 1 false x (two_words 64 low high)) (sym b ∙ p)) ∙ held_running low high l h)
 

@@ -9,7 +9,8 @@ use lib.Dec.{eqb}
 use lib.ListN.{length, get_or, length-append}
 use Rattle.rules.specs.Statements.{Stmt, pauses, Numbered}
 use Rattle.rules.specs.States.{holds_both, lowest_above, is_parallel, compatible}
-use Rattle.tables.specs.Table.{Table, kind_of, statements}
+use Rattle.tables.specs.Table.{kind_of, statements}
+use Rattle.tables.specs.declared.Table.{Table}
 use Rattle.records.specs.Clashing.{before, Standing}
 use Rattle.tables.proofs.Rows.{has_row, some_statement}
 use Rattle.records.proofs.Walk.{One, Two, Shape, shape, before_part, before_next, numbered_one}

@@ -3,7 +3,7 @@ use mathlib.Core.Path.{◌≡◌, refl, sym, ap, ap₂, ◌∙◌, subst}
 use mathlib.Core.Logic.{◌⊎◌, inl, inr}
 use mathlib.Core.Bool.{Bool, true, false, cond, ◌||◌}
 use mathlib.Core.List.{List, [], ◌∷◌}
-use mathlib.Core.Option.{none}
+use Rattle.std.specs.Prelude.{None}
 use Prim.Native.Nat.{ℕ, ◌+◌, ◌≤◌, ◌<◌}
 use native.Mathlib.Omega.{arith}
 use lib.Dec.{eqb}
@@ -134,7 +134,7 @@ two_yes k (inr (inl e)) = sym (ap two_parts e)
 two_yes k (inr (inr e)) = sym (ap two_parts e)
 
 none_two : (a b d e : Bool)
-    → eqb (of_shape (λ s. s.children) (cond a (short 0) (cond b (short 1) (cond false (short 2) (cond d (long 0) (cond e (long 1) (cond false (long 2) none))))))) 2 ≡ false
+    → eqb (of_shape (λ s. s.children) (cond a (short 0) (cond b (short 1) (cond false (short 2) (cond d (long 0) (cond e (long 1) (cond false (long 2) None))))))) 2 ≡ false
 none_two true b d e = refl
 none_two false true d e = refl
 none_two false false true e = refl
@@ -148,7 +148,7 @@ two_no k f =
     let test : listed (19 ∷ []) k ≡ false = ap (λ (x : Bool). x || false) (ne_eqb k 19 (λ e. f (inl e))) in
     sym (ap₂ (λ (x y : Bool). eqb (of_shape (λ s. s.children)
     (cond (listed (16 ∷ 17 ∷ []) k) (short 0) (cond (listed (22 ∷ 24 ∷ []) k) (short 1) (cond x (short 2)
-    (cond (listed (18 ∷ 25 ∷ []) k) (long 0) (cond (listed (20 ∷ 26 ∷ []) k) (long 1) (cond y (long 2) none))))))) 2) plain test
+    (cond (listed (18 ∷ 25 ∷ []) k) (long 0) (cond (listed (20 ∷ 26 ∷ []) k) (long 1) (cond y (long 2) None))))))) 2) plain test
     ∙ none_two (listed (16 ∷ 17 ∷ []) k) (listed (22 ∷ 24 ∷ []) k) (listed (18 ∷ 25 ∷ []) k) (listed (20 ∷ 26 ∷ []) k))
 
 -- The pass that counts the pauses before each statement.

@@ -16,7 +16,8 @@ use Rattle.sets.specs.Numbers.{listed}
 use Rattle.sets.proofs.Members.{is_true, is_false, of_true, or_left, or_right, or_out, and_in, and_left, and_right}
 use Rattle.rules.specs.Statements.{Stmt, nothing, pause, emit, present?◌then◌else◌, suspend◌on◌, ◌⨾◌, loop, ◌parallel◌, trap, exit, local, pauses, from, Numbered}
 use Rattle.rules.specs.States.{holds_both, lowest_above, is_parallel, compatible}
-use Rattle.tables.specs.Table.{Table, kind_of, statements, Has}
+use Rattle.tables.specs.Table.{kind_of, statements, Has}
+use Rattle.tables.specs.declared.Table.{Table}
 use Rattle.tables.proofs.Rows.{has_row, some_statement}
 use Rattle.records.specs.Clashing.{before, two_parts}
 

@@ -1,5 +1,5 @@
 -- What the search for the first clash asks of its table, and what its steps say. Assumes nothing.
-use Rattle.std.specs.Prelude.{◌≡◌, ◌⊎◌, Bool, false, cond, List, ℕ, zero, suc, ◌+◌, ◌≤◌, ◌<◌, T, eqb, length, get_or}
+use Rattle.std.specs.Prelude.{◌≡◌, ◌⊎◌, Option as Perhaps, Some, None, Bool, false, cond, List, ℕ, zero, suc, ◌+◌, ◌≤◌, ◌<◌, T, eqb, length, get_or}
 use Rattle.std.proofs.Math.Option.{Option, none, some}
 use Rattle.sets.specs.Words.{set_of}
 use Rattle.rules.specs.Statements.{Stmt, pauses, Numbered}
@@ -7,13 +7,11 @@ use Rattle.rules.specs.States.{compatible}
 use Rattle.tables.specs.Table.{Has, statements}
 use Rattle.tables.specs.Kinds.{children_of}
 use Rattle.records.specs.StateRecord.{Pair}
-use Rattle.records.specs.declared.clash.Clash.{Clash}
-use Rattle.records.specs.declared.clash.Clash.TheVariants as clash
 
 -- The answer's pair: the lowest first pause, then the lowest second.
-unfoldable pub pair_of : Clash → Option Pair
-pair_of clash.None = none
-pair_of (clash.Pair m n) = some (record { first = m; second = n })
+unfoldable pub pair_of : Perhaps (ℕ × ℕ) → Option Pair
+pair_of None = none
+pair_of (Some p) = some (record { first = p.0; second = p.1 })
 
 -- The table has the whole tree, with pauses numbered from 0, and each active pause is one of the tree's.
 pub record Searchable (kinds sizes : List ℕ) (count : ℕ) (active : List ℕ) (t : Stmt) : Type 0 where

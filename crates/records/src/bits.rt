@@ -7,11 +7,7 @@ ghost use Rattle.records.specs.StateRecord.{beyond, undeclared_input, bad_inputs
 pub(crate) fn bit_from(word: u64, from: u16) -> bool
     ensures { result ≡ not (eqb (word / 2 ^ from) 0) }
 {
-    if from < 64 {
-        (word >> from) != 0
-    } else {
-        false
-    }
+    from < 64 && (word >> from) != 0
 }
 
 // INPUT: a bit set at or above the number of inputs.
@@ -25,13 +21,7 @@ pub fn input_over(inputs: u16, given: u64) -> bool
 pub fn inputs_wrong(inputs: u16, present: u64, absent: u64) -> bool
     ensures { result ≡ bad_inputs inputs present absent }
 {
-    if input_over(inputs, present) {
-        return true;
-    }
-    if input_over(inputs, absent) {
-        return true;
-    }
-    (present & absent) != 0
+    input_over(inputs, present) || input_over(inputs, absent) || (present & absent) != 0
 }
 
 // A bit of the 128 is set at or above the pause count.
@@ -39,10 +29,7 @@ pub(crate) fn bit_beyond(pauses: u16, active: [u64; 2]) -> bool
     ensures { result ≡ beyond pauses (set_of active) }
 {
     if pauses < 64 {
-        if bit_from(active[0], pauses) {
-            return true;
-        }
-        active[1] != 0
+        bit_from(active[0], pauses) || active[1] != 0
     } else {
         bit_from(active[1], pauses - 64)
     }

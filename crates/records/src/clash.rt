@@ -9,29 +9,21 @@ ghost use Rattle.records.specs.Clashing.{pair_of, Searchable, Bounded, Filled, P
 ghost use Rattle.records.specs.Clashing.{Flagged, Agreed, Quiet};
 
 use crate::bits::{bit_beyond, has};
+use tables::Table;
 use tables::loops::second_at;
 
-// The first bad pair, or none.
-#[derive(Clone, Copy)]
-pub enum Clash {
-    None,
-    Pair(u16, u16),
-}
-
 // How many pauses stand before each statement of the table.
-fn pauses_before(kinds: &[u16; 512], count: usize) -> [u16; 512]
+fn pauses_before(table: &Table, count: usize) -> [u16; 512]
     requires { count ≤ 512 }
-    ensures { Filled kinds.now count result }
+    ensures { Filled table.now.kinds count result }
 {
     let mut firsts = [0u16; 512];
     let mut n: u16 = 0;
-    let mut i = 0;
-    while i < count {
+    for i in 0..count {
         firsts[i] = n;
-        if kinds[i] == 17 {
+        if table.kinds[i] == 17 {
             n += 1;
         }
-        i += 1;
     }
     firsts
 }
@@ -41,26 +33,16 @@ fn pauses_before(kinds: &[u16; 512], count: usize) -> [u16; 512]
 fn has_two_parts(kind: u16) -> bool
     ensures { result ≡ two_parts kind }
 {
-    match kind {
-        19 | 21 | 23 => true,
-        _ => false,
-    }
+    matches!(kind, 19 | 21 | 23)
 }
 
 // The part that holds both pauses, or the statement itself where none does: it is then the lowest above both.
-fn toward(
-    kinds: &[u16; 512],
-    sizes: &[u16; 512],
-    firsts: &[u16; 512],
-    i: usize,
-    m: u16,
-    n: u16,
-) -> usize
-    requires { (p : Stmt) × Place kinds.now sizes.now firsts.now m n i p }
-    ensures { (p : Stmt) → Place kinds.now sizes.now firsts.now m n i p → Goes kinds.now sizes.now firsts.now m n i result p }
+fn toward(table: &Table, firsts: &[u16; 512], i: usize, m: u16, n: u16) -> usize
+    requires { (p : Stmt) × Place table.now.kinds table.now.sizes firsts.now m n i p }
+    ensures { (p : Stmt) → Place table.now.kinds table.now.sizes firsts.now m n i p → Goes table.now.kinds table.now.sizes firsts.now m n i result p }
 {
-    if has_two_parts(kinds[i]) {
-        let second = i + 1 + sizes[i + 1] as usize;
+    if has_two_parts(table.kinds[i]) {
+        let second = i + 1 + table.sizes[i + 1] as usize;
         let split = firsts[second];
         if n < split {
             return i + 1;
@@ -74,46 +56,35 @@ fn toward(
 }
 
 // The lowest statement above both pauses is a parallel.
-fn in_parallel(kinds: &[u16; 512], sizes: &[u16; 512], firsts: &[u16; 512], m: u16, n: u16) -> bool
-    requires { (t : Stmt) × Place kinds.now sizes.now firsts.now m n 0 t }
-    ensures { (t : Stmt) → Place kinds.now sizes.now firsts.now m n 0 t → result ≡ compatible t m n }
+fn in_parallel(table: &Table, firsts: &[u16; 512], m: u16, n: u16) -> bool
+    requires { (t : Stmt) × Place table.now.kinds table.now.sizes firsts.now m n 0 t }
+    ensures { (t : Stmt) → Place table.now.kinds table.now.sizes firsts.now m n 0 t → result ≡ compatible t m n }
 {
     let mut at: usize = 0;
     loop {
-        let next = toward(kinds, sizes, firsts, at, m, n);
+        let next = toward(table, firsts, at, m, n);
         if next == at {
             break;
         }
         at = next;
     }
-    kinds[at] == 23
+    table.kinds[at] == 23
 }
 
 // An active first pause clashes with the second: it is active too, and the two are not compatible.
-fn clashing(
-    kinds: &[u16; 512],
-    sizes: &[u16; 512],
-    firsts: &[u16; 512],
-    active: [u64; 2],
-    m: u16,
-    n: u16,
-) -> bool
-    requires { Pairable kinds.now sizes.now firsts.now active m n }
-    ensures { (count : ℕ) (t : Stmt) → Searchable kinds.now sizes.now count active t
-        → Filled kinds.now count firsts.now → result ≡ clashes t (set_of active) m n }
+fn clashing(table: &Table, firsts: &[u16; 512], active: [u64; 2], m: u16, n: u16) -> bool
+    requires { Pairable table.now.kinds table.now.sizes firsts.now active m n }
+    ensures { (count : ℕ) (t : Stmt) → Searchable table.now.kinds table.now.sizes count active t
+        → Filled table.now.kinds count firsts.now → result ≡ clashes t (set_of active) m n }
 {
-    if has(active, n) {
-        !in_parallel(kinds, sizes, firsts, m, n)
-    } else {
-        false
-    }
+    has(active, n) && !in_parallel(table, firsts, m, n)
 }
 
 // A row's flag; past the table there is none.
 fn flag_at(live: &[bool; 512], at: usize) -> bool
     ensures { at < 512 → result ≡ get_or live.now at false }
 {
-    if at < 512 { live[at] } else { false }
+    at < 512 && live[at]
 }
 
 // The pause is active; from the bound on none is.
@@ -121,13 +92,12 @@ fn is_active(active: [u64; 2], pauses: u16, n: u16) -> bool
     requires { Bounded pauses active }
     ensures { result ≡ set_of active n }
 {
-    if n < pauses { has(active, n) } else { false }
+    n < pauses && has(active, n)
 }
 
 // Whether the statement at a place holds an active pause, where the later ones have their flags.
 fn flag_of(
-    kinds: &[u16; 512],
-    sizes: &[u16; 512],
+    table: &Table,
     firsts: &[u16; 512],
     live: &[bool; 512],
     pauses: u16,
@@ -135,62 +105,54 @@ fn flag_of(
     i: usize,
 ) -> bool
     requires { (i < 512) × Bounded pauses active }
-    ensures { (count : ℕ) → Filled kinds.now count firsts.now
-        → Quiet kinds.now sizes.now count active live.now (i + 1) → Flagged kinds.now sizes.now count active i result }
+    ensures { (count : ℕ) → Filled table.now.kinds count firsts.now
+        → Quiet table.now.kinds table.now.sizes count active live.now (i + 1) → Flagged table.now.kinds table.now.sizes count active i result }
 {
-    if kinds[i] == 17 {
+    if table.kinds[i] == 17 {
         return is_active(active, pauses, firsts[i]);
     }
-    if sizes[i] < 2 {
+    if table.sizes[i] < 2 {
         return false;
     }
     if flag_at(live, i + 1) {
         return true;
     }
-    if has_two_parts(kinds[i]) {
-        return flag_at(live, second_at(sizes, i));
+    if has_two_parts(table.kinds[i]) {
+        return flag_at(live, second_at(table, i));
     }
     false
 }
 
 // Both parts of the statement at a place hold an active pause, and it is no parallel.
-fn parts_clash(kinds: &[u16; 512], sizes: &[u16; 512], live: &[bool; 512], i: usize) -> bool
+fn parts_clash(table: &Table, live: &[bool; 512], i: usize) -> bool
     requires { i < 512 }
-    ensures { (count : ℕ) (active : List ℕ) → Quiet kinds.now sizes.now count active live.now (i + 1) → result ≡ false
-        → Agreed kinds.now sizes.now count active i }
+    ensures { (count : ℕ) (active : List ℕ) → Quiet table.now.kinds table.now.sizes count active live.now (i + 1) → result ≡ false
+        → Agreed table.now.kinds table.now.sizes count active i }
 {
-    if kinds[i] == 23 {
-        return false;
-    }
-    if has_two_parts(kinds[i]) {
-        if flag_at(live, i + 1) {
-            return flag_at(live, second_at(sizes, i));
-        }
-    }
-    false
+    table.kinds[i] != 23
+        && has_two_parts(table.kinds[i])
+        && flag_at(live, i + 1)
+        && flag_at(live, second_at(table, i))
 }
 
 // Both parts of some present or of some sequence hold an active pause. Where that is so of none no two active pauses clash, and the pairs
 // need not be gone through.
 fn some_clash(
-    kinds: &[u16; 512],
-    sizes: &[u16; 512],
+    table: &Table,
     firsts: &[u16; 512],
     count: usize,
     pauses: u16,
     active: [u64; 2],
 ) -> bool
-    requires { (count ≤ 512) × Filled kinds.now count firsts.now × Bounded pauses active }
-    ensures { result ≡ false → (t : Stmt) → Searchable kinds.now sizes.now count active t → none ≡ first_clash t (set_of active) }
+    requires { (count ≤ 512) × Filled table.now.kinds count firsts.now × Bounded pauses active }
+    ensures { result ≡ false → (t : Stmt) → Searchable table.now.kinds table.now.sizes count active t → none ≡ first_clash t (set_of active) }
 {
     let mut live = [false; 512];
-    let mut i = count;
-    while 0 < i {
-        i -= 1;
-        if parts_clash(kinds, sizes, &live, i) {
+    for i in (0..count).rev() {
+        if parts_clash(table, &live, i) {
             return true;
         }
-        let flag = flag_of(kinds, sizes, firsts, &live, pauses, active, i);
+        let flag = flag_of(table, firsts, &live, pauses, active, i);
         live[i] = flag;
     }
     false
@@ -198,28 +160,25 @@ fn some_clash(
 
 // The lowest first pause, then the lowest second, of a pair that clashes: pair by pair.
 fn named_clash(
-    kinds: &[u16; 512],
-    sizes: &[u16; 512],
+    table: &Table,
     firsts: &[u16; 512],
     count: usize,
     pauses: u16,
     active: [u64; 2],
-) -> Clash
-    requires { ((t : Stmt) × Searchable kinds.now sizes.now count active t) × Bounded pauses active × Filled kinds.now count firsts.now }
-    ensures { (t : Stmt) → Searchable kinds.now sizes.now count active t → pair_of result ≡ first_clash t (set_of active) }
+) -> Option<(u16, u16)>
+    requires { ((t : Stmt) × Searchable table.now.kinds table.now.sizes count active t) × Bounded pauses active × Filled table.now.kinds count firsts.now }
+    ensures { (t : Stmt) → Searchable table.now.kinds table.now.sizes count active t → pair_of result ≡ first_clash t (set_of active) }
 {
-    let mut found = Clash::None;
-    'pairs: for m in 0u16..pauses {
+    for m in 0u16..pauses {
         if has(active, m) {
             for n in m + 1..pauses {
-                if clashing(kinds, sizes, firsts, active, m, n) {
-                    found = Clash::Pair(m, n);
-                    break 'pairs;
+                if clashing(table, firsts, active, m, n) {
+                    return Some((m, n));
                 }
             }
         }
     }
-    found
+    None
 }
 
 // At most one pause is active: nothing is active behind the first that is.
@@ -236,22 +195,16 @@ fn at_most_one(active: [u64; 2], pauses: u16) -> bool
 }
 
 // The first pair that clashes. The rows are gone through where two pauses are active, the pairs only where there is one.
-pub fn first_clash(
-    kinds: &[u16; 512],
-    sizes: &[u16; 512],
-    count: usize,
-    pauses: u16,
-    active: [u64; 2],
-) -> Clash
-    requires { ((t : Stmt) × Searchable kinds.now sizes.now count active t) × Bounded pauses active }
-    ensures { (t : Stmt) → Searchable kinds.now sizes.now count active t → pair_of result ≡ first_clash t (set_of active) }
+pub fn first_clash(table: &Table, count: usize, pauses: u16, active: [u64; 2]) -> Option<(u16, u16)>
+    requires { ((t : Stmt) × Searchable table.now.kinds table.now.sizes count active t) × Bounded pauses active }
+    ensures { (t : Stmt) → Searchable table.now.kinds table.now.sizes count active t → pair_of result ≡ first_clash t (set_of active) }
 {
     if at_most_one(active, pauses) {
-        return Clash::None;
+        return None;
     }
-    let firsts = pauses_before(kinds, count);
-    if some_clash(kinds, sizes, &firsts, count, pauses, active) {
-        return named_clash(kinds, sizes, &firsts, count, pauses, active);
+    let firsts = pauses_before(table, count);
+    if some_clash(table, &firsts, count, pauses, active) {
+        return named_clash(table, &firsts, count, pauses, active);
     }
-    Clash::None
+    None
 }

@@ -11,12 +11,10 @@ pub fn put_fields(s: &mut [u8], at: usize, widths: &[usize], values: &[u64])
     ensures { s.new ≡ sets s.old at (laid widths.now values.now) }
 {
     let mut to = at;
-    let mut i = 0;
-    while i < widths.len() {
+    for i in 0..widths.len() {
         let n = widths[i];
         put_number(s, to, n, values[i]);
         to += n;
-        i += 1;
     }
 }
 
@@ -26,10 +24,8 @@ pub fn field_at(s: &[u8], widths: &[usize], i: usize) -> u64
     ensures { result ≡ value widths.now i s.now }
 {
     let mut at = 0;
-    let mut k = 0;
-    while k < i {
-        at += widths[k];
-        k += 1;
+    for width in &widths[..i] {
+        at += *width;
     }
     number_at(s, at, widths[i])
 }

@@ -16,7 +16,7 @@ const KIND: u64 = 3;
 pub fn no_room(len: usize, end: usize) -> bool
     ensures { (log : List ℕ) → length log ≡ len → result ≡ no_room log end }
 {
-    if len < end { true } else { len - end < SIZE }
+    len < end || len - end < SIZE
 }
 
 // A record at the front of the lent part; what lies behind it stays. Here the code becomes a number.

@@ -9,9 +9,7 @@ pub fn number_at(s: &[u8], at: usize, n: usize) -> u64
     ensures { result ≡ field s.now at n }
 {
     let mut x: u64 = 0;
-    let mut k = n;
-    while 0 < k {
-        k -= 1;
+    for k in (0..n).rev() {
         x = x * 256 + s[at + k] as u64;
     }
     x
@@ -23,10 +21,8 @@ pub fn put_number(s: &mut [u8], at: usize, n: usize, x: u64)
     ensures { s.new ≡ sets s.old at (in_bytes n x) }
 {
     let mut rest = x;
-    let mut i = 0;
-    while i < n {
+    for i in 0..n {
         s[at + i] = (rest % 256) as u8;
         rest /= 256;
-        i += 1;
     }
 }

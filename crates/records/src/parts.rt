@@ -16,9 +16,5 @@ pub fn copy_at(to: &mut [u8], at: usize, from: &[u8])
     requires { at + length from.now ≤ length to.old }
     ensures { to.new ≡ sets to.old at from.now }
 {
-    let mut i: usize = 0;
-    while i < from.len() {
-        to[at + i] = from[i];
-        i += 1;
-    }
+    to[at..at + from.len()].copy_from_slice(from);
 }

@@ -26,17 +26,20 @@ number_in (w ∷ ws) n h = go (ℕ_discrete n (number w)) (λ t. number_in ws n 
 pub number_back : (n : ℕ) → T (has_refusal n) → number (why_of n) ≡ n
 number_back n h = number_in refusals n h
 
--- A number of which a match knows, one after the other, that it is none of the list's.
-unfoldable pub NoneOf : Type 0 → List Why → ℕ → Type 0
-NoneOf known [] n = known
-NoneOf known (w ∷ ws) n = NoneOf (known × (n ≡ number w → ⊥)) ws n
+-- A number of none of the list has INDEX.
+none_in : (ws : List Why) (n : ℕ) → has_number ws n ≡ false → first_with ws n ≡ Index
+unfolding has_number first_with
+none_in [] n h = refl
+none_in (w ∷ ws) n h = go (ℕ_discrete n (number w)) (none_in ws n)
+  where
+    go : Dec (n ≡ number w) → (has_number ws n ≡ false → first_with ws n ≡ Index) → cond (eqb n (number w)) w (first_with ws n) ≡ Index
+    go (yes e) rest = absurd (subst T (sym (ap (λ (b : Bool). cond b true (has_number ws n)) (eq-eqb n (number w) e)) ∙ h) tt)
+    go (no e) rest =
+        let f : eqb n (number w) ≡ false = ne_eqb n (number w) e in
+        ap (λ (b : Bool). cond b w (first_with ws n)) f ∙ rest (sym (ap (λ (b : Bool). cond b true (has_number ws n)) f) ∙ h)
 
-pub none_of : (known : Type 0) (ws : List Why) (n : ℕ) → NoneOf known ws n → known × (Index ≡ first_with ws n)
-unfolding NoneOf first_with
-none_of known [] n h = (h, refl)
-none_of known (w ∷ ws) n h =
-    let r = none_of (known × (n ≡ number w → ⊥)) ws n h in
-    (r.0.0, r.1 ∙ sym (ap (λ (b : Bool). cond b w (first_with ws n)) (ne_eqb n (number w) r.0.1)))
+pub no_refusal : (n : ℕ) → has_refusal n ≡ false → why_of n ≡ Index
+no_refusal n h = none_in refusals n h
 
 -- Those of a block are in the list.
 pub of_a_block : (n : ℕ) → 1 ≤ n → n ≤ 8 → T (has_refusal n)

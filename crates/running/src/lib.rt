@@ -13,7 +13,9 @@ mod file;
 mod inputs;
 mod line;
 
-use line::Begun;
+use line::Run;
+use lines::Text;
+use refusals::{Refused, number_of};
 use std::io;
 use std::rt::Files;
 use thiserror::Error;
@@ -53,27 +55,25 @@ fn read_block(files: &impl Files, block_file: &[u8], space: &mut [u8]) -> io::Re
 }
 
 fn run_block(rt: &(impl Files + Print), block: &[u8], inputs_file: &[u8]) -> Result<(), Failure> {
-    let mut state = [0u8; 26];
-    match line::begin(block, &mut state) {
-        Begun::TurnedDown(number, place) => print_block(rt, number, place),
-        Begun::Ready => run_inputs(rt, block, &mut state, inputs_file),
+    match Run::begin(block) {
+        Ok(mut run) => run_inputs(rt, &mut run, inputs_file),
+        Err(refused) => print_refused(rt, refused),
     }
 }
 
-fn print_block(out: &impl Print, number: u16, place: usize) -> Result<(), Failure> {
-    let mut text = [0u8; 48];
-    let n = lines::put_block(&mut text, number, place);
-    out.write_all(&text[..n]).map_err(Failure::Output)
+fn print_refused(out: &impl Print, refused: Refused) -> Result<(), Failure> {
+    let mut text = Text::<48>::new();
+    text.put_block(number_of(refused.why), refused.place);
+    out.write_all(text.as_bytes()).map_err(Failure::Output)
 }
 
 fn run_inputs(
     rt: &(impl Files + Print),
-    block: &[u8],
-    state: &mut [u8],
+    run: &mut Run<'_>,
     inputs_file: &[u8],
 ) -> Result<(), Failure> {
     match file::open(rt, inputs_file).map_err(Failure::Inputs)? {
-        Some(mut inputs) => inputs::run_all(rt, block, state, &mut inputs),
+        Some(mut inputs) => inputs::run_all(rt, run, &mut inputs),
         None => Ok(()),
     }
 }

@@ -27,27 +27,12 @@ fn read_list(files: &impl Files, list: &mut [u8]) -> io::Result<usize>
 
 // Answers how many runs failed.
 fn run_folders(rt: &(impl Files + Print + Eprint), list: &[u8]) -> io::Result<usize> {
-    let mut failed = 0;
-    let mut at = 0;
-    while at < list.len() {
-        let end = line_end(list, at);
-        failed += run_folder(rt, &list[at..end])?;
-        at = end + 1;
+    let mut failed = 0usize;
+    for line in list.split_inclusive(|byte| *byte == b'\n') {
+        let name = line.strip_suffix(b"\n").unwrap_or(line);
+        failed = failed.saturating_add(run_folder(rt, name)?);
     }
     Ok(failed)
-}
-
-// Where the line that holds `from` ends.
-fn line_end(list: &[u8], from: usize) -> usize
-    requires { from ≤ length list.now }
-    ensures { (from ≤ result) × (result ≤ length list.now) }
-{
-    for i in from..list.len() {
-        if list[i] == b'\n' {
-            return i;
-        }
-    }
-    list.len()
 }
 
 // Answers how many runs failed, 0 or 1.
@@ -79,17 +64,8 @@ fn run_named(rt: &(impl Files + Print), name: &[u8]) -> Result<(), Failure> {
 fn path(out: &mut [u8], folder: &[u8], file: &[u8]) -> usize
     ensures { result ≤ length out.new }
 {
-    let at = put(out, 0, folder);
-    put(out, at, file)
-}
-
-// Puts the bytes at `at`, as far as there is room, and answers where they end.
-fn put(out: &mut [u8], at: usize, bytes: &[u8]) -> usize
-    requires { at ≤ length out.old }
-    ensures { result ≤ length out.new }
-{
-    let count = bytes.len().min(out.len() - at);
-    let end = at + count;
-    out[at..end].copy_from_slice(&bytes[..count]);
-    end
+    for (to, byte) in out.iter_mut().zip(folder.iter().chain(file)) {
+        *to = *byte;
+    }
+    out.len().min(folder.len().saturating_add(file.len()))
 }

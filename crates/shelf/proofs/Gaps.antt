@@ -3,84 +3,62 @@
 use mathlib.Core.Path.{◌≡◌, refl, sym, ap, ap₂, ◌∙◌, subst}
 use mathlib.Core.Bool.{Bool, true, false, not, cond, ◌&&◌, ◌||◌}
 use mathlib.Core.List.{List, [], ◌∷◌, ◌++◌, append_assoc}
-use mathlib.Core.Option.{Option, none}
-use Prim.Native.Nat.{ℕ, ◌+◌, ◌-◌, ◌≤◌, ◌<◌}
+use mathlib.Core.Option.{Option}
+use Prim.Native.Nat.{ℕ, ◌+◌, ◌-◌, ◌≤◌}
 use native.Mathlib.Omega.{arith}
 use lib.Dec.{T, eqb}
-use lib.ListN.{length, get_or, take, drop, set, replicate, length-drop, length-replicate, get_or-replicate, replicate-append-replicate}
-use lib.Seq.{sets, sets-eq, paste, length-paste, drop-paste, take-paste, get_or-drop, drop-drop, take_at, drop_at, take-take}
+use lib.ListN.{length, take, drop, replicate, length-drop, replicate-append-replicate}
+use lib.Seq.{length-paste, length-take-le, drop-paste, take-paste, drop-drop, take_at, drop_at, take-take}
 use borrow.Author.Tests.{eq-eqb, eqb-true}
-use Rattle.shelf.specs.Entries.{SHELF_SIZE, Entry, size, entry_bytes, laid_out, in_use, shelf_of, those, own, is_named, taken, find, all_fit, entries}
-use Rattle.shelf.specs.Calls.{Call, withdraw, ShelfAnswer, refused, done, withdrawn, told_by, told, taken_out, after, put, left}
-use Rattle.shelf.specs.Places.{offset, OnShelf, closed}
-use Rattle.shelf.specs.Answered.{shelved_values, shelved_owed}
-use Rattle.shelf.specs.declared.Shelved.TheVariants.{Done}
-use Rattle.records.specs.Numerals.{field}
+use Rattle.std.specs.Prelude.{Ok}
+use Rattle.std.specs.List.{copy_within}
+use Rattle.shelf.specs.Entries.{SHELF_SIZE, Entry, size, entry_bytes, laid_out, in_use, shelf_of, those, own, is_named, taken, all_fit, entries}
+use Rattle.shelf.specs.Calls.{Call, withdraw, ShelfAnswer, done, withdrawn, told_by, told, taken_out, after, put, left}
+use Rattle.shelf.specs.Places.{OnShelf, closed}
+use Rattle.shelf.specs.Answered.{shelved_values, shelved_owed, OwnEntry}
+use Rattle.shelf.specs.declared.Own.{Own}
 use Rattle.shelf.proofs.Lists.{those_append, in_use_append, laid_append, length_entry, length_laid}
 use Rattle.shelf.proofs.Legality.{Fitting, fit_first, fit_rest, fit_right, own_mine}
 use Rattle.shelf.proofs.Passing.{At, stands, end_is}
-use Rattle.records.proofs.Bytes.{copied, copy_more}
 use Rattle.shelf.proofs.Stored.{behind_it, told_own}
 use Rattle.shelf.proofs.Fetched.{Standing, nowhere, behind, standing}
 
--- Zeros stored one after the other.
-pub clear_more : (d : List ℕ) (at n i : ℕ) {x : List ℕ} → x ≡ paste d at (replicate n 0) i → at + n ≤ length d → i < n → set x (at + i) 0 ≡ paste d at (replicate n 0) (i + 1)
-clear_more d at n i {x} e l h =
-    let k : length (replicate {A = ℕ} n 0) ≡ n = length-replicate {A = ℕ} n 0 in
-    ap (λ (y : ℕ). set x (at + i) y) (sym (get_or-replicate {A = ℕ} n i 0 0 h)) ∙ copy_more d at (replicate n 0) i e (omega (arith, k)) (omega (arith, k))
-
-pub all_clear : (d : List ℕ) (at n i : ℕ) → i ≤ n → n ≤ i → at + n ≤ length d → paste d at (replicate n 0) i ≡ sets d at (replicate n 0)
-all_clear d at n i l h m = let k : length (replicate {A = ℕ} n 0) ≡ n = length-replicate {A = ℕ} n 0 in copied d at (replicate n 0) i (omega (arith, k)) (omega (arith, k)) (omega (arith, k))
-
--- Bytes moved down one after the other: what is read has not been written yet.
-module _ (d : List ℕ) (at gap count : ℕ) (l : at + gap + count ≤ length d) where
-  abbrev source : List ℕ
-  source = drop (at + gap) d
-
-  pub move_more : (i : ℕ) {x : List ℕ} → x ≡ paste d at source i → i < count → set x (at + i) (get_or x (at + gap + i) 0) ≡ paste d at source (i + 1)
-  move_more i {x} e h =
-      let n = length-drop (at + gap) d in
-      let k : at + gap + i ≡ at + i + gap = omega arith in
-      let same : get_or x (at + gap + i) 0 ≡ get_or source i 0 =
-      ap₂ (λ (y : List ℕ) (j : ℕ). get_or y j 0) e k ∙ sym (get_or-drop (at + i) (paste d at source i) gap 0)
-      ∙ ap (λ (y : List ℕ). get_or y gap 0) (drop-paste d at source i (omega arith) (omega (arith, n)))
-      ∙ get_or-drop (at + i) d gap 0 ∙ ap (λ (j : ℕ). get_or d j 0) (sym k) ∙ sym (get_or-drop (at + gap) d i 0) in
-      ap (λ (y : ℕ). set x (at + i) y) same ∙ copy_more d at source i e (omega (arith, n)) (omega (arith, n))
-
-  pub all_moved : (i : ℕ) {x : List ℕ} → x ≡ paste d at source i → i ≤ count → count ≤ i → x ≡ paste d at source count
-  all_moved i e h m = let q : i ≡ count = omega arith in e ∙ ap (paste d at source) q
-
--- Both make the gap closed.
-module _ (s : List ℕ) (at gap end : ℕ) {n : ℕ} {t : List ℕ} (l : at + gap ≤ end) (m : end ≤ length s) (c : n ≡ end - (at + gap)) (e : t ≡ paste s at (drop (at + gap) s) n) where
+-- The bytes behind the gap moved down, and zeros put behind them, make the gap closed.
+module _ (s : List ℕ) (at gap end : ℕ) {t : List ℕ} (l : at + gap ≤ end) (m : end ≤ length s) (e : t ≡ copy_within s (at + gap) end at) where
   abbrev moved : List ℕ
   moved = drop (at + gap) s
 
-  enough : n ≤ length moved
+  abbrev count : ℕ
+  count = end - (at + gap)
+
+  enough : count ≤ length moved
   enough = omega (arith, length-drop (at + gap) s)
 
-  same_length : length t ≡ length s
-  same_length = ap length e ∙ length-paste s at moved n (omega arith) enough
+  seam : end - gap ≡ at + count
+  seam = omega arith
 
-  front : take (at + n) t ≡ take at s ++ take n moved
-  front = ap (take (at + n)) e ∙ take-paste s at moved n (omega arith) enough
+  front : take (end - gap) t ≡ take at s ++ take count moved
+  front = ap₂ take seam e ∙ take-paste s at moved count (omega arith) enough
 
-  back : drop (at + n + gap) t ≡ drop end s
+  back : drop (end - (end - gap)) (drop (end - gap) t) ≡ drop end s
   back =
-      let j : at + n + gap ≡ end = omega arith in
-      sym (drop-drop gap (at + n) t) ∙ ap (drop gap) (ap (drop (at + n)) e ∙ drop-paste s at moved n (omega arith) enough) ∙ drop-drop gap (at + n) s ∙ ap (λ (y : ℕ). drop y s) j
+      let j : at + count + gap ≡ end = omega arith in
+      let k : end - (end - gap) ≡ gap = omega arith in
+      ap₂ (λ (a b : ℕ). drop a (drop b t)) k seam
+      ∙ ap (drop gap) (ap (drop (at + count)) e ∙ drop-paste s at moved count (omega arith) enough) ∙ drop-drop gap (at + count) s ∙ ap (λ (y : ℕ). drop y s) j
 
-  cleared : sets t (at + n) (replicate gap 0) ≡ take (at + n) t ++ replicate gap 0 ++ drop (at + n + gap) t
-  cleared =
-      let k : length (replicate {A = ℕ} gap 0) ≡ gap = length-replicate {A = ℕ} gap 0 in
-      sets-eq (replicate gap 0) t (at + n) (omega (arith, k, same_length)) ∙ ap (λ (y : ℕ). take (at + n) t ++ replicate gap 0 ++ drop (at + n + y) t) k
+  -- So many zeros are put there.
+  pub as_many : length (take (end - (end - gap)) (drop (end - gap) t)) ≡ gap
+  as_many =
+      let n : length t ≡ length s = ap length e ∙ length-paste s at moved count (omega arith) enough in
+      length-take-le (end - (end - gap)) (drop (end - gap) t) (omega (arith, length-drop (end - gap) t, n)) ∙ omega arith
 
-  pub gap_closed : {u : List ℕ} → u ≡ sets t (at + n) (replicate gap 0) → u ≡ closed s at gap end
+  pub gap_closed : {zeros : List ℕ} → zeros ≡ replicate (length (take (end - (end - gap)) (drop (end - gap) t))) 0
+      → take (end - gap) t ++ (zeros ++ drop (end - (end - gap)) (drop (end - gap) t)) ≡ closed s at gap end
   unfolding closed
-  gap_closed f =
-      f ∙ cleared ∙ ap₂ (λ (x y : List ℕ). x ++ replicate gap 0 ++ y) front back
-      ∙ append_assoc (take at s ++ take n moved) (replicate gap 0) (drop end s)
-      ∙ append_assoc (take at s) (take n moved) (replicate gap 0 ++ drop end s)
-      ∙ ap (λ (y : ℕ). take at s ++ (take y moved ++ (replicate gap 0 ++ drop end s))) c
+  gap_closed {zeros} z =
+      ap₂ (λ (x y : List ℕ). x ++ (zeros ++ y)) front back ∙ ap (λ (x : List ℕ). take at s ++ take count moved ++ (x ++ drop end s)) (z ∙ ap (λ (k : ℕ). replicate {A = ℕ} k 0) as_many)
+      ∙ append_assoc (take at s) (take count moved) (replicate gap 0 ++ drop end s)
 
 -- No other entry has the party's name: not before it, and not behind it.
 others_before : (p n : ℕ) (es : List Entry) → taken n (own p es) ≡ false → taken_out p n es ≡ es
@@ -163,62 +141,45 @@ closed_shelf {s} {end} a e r o =
     ∙ sym (append_assoc (laid_out a) (laid_out r) (replicate (SHELF_SIZE - in_use (a ++ r)) 0))
     ∙ ap (λ (x : List ℕ). x ++ replicate (SHELF_SIZE - in_use (a ++ r)) 0) (sym (laid_append a r))
 
-module _ {s : List ℕ} {end : ℕ} {es : List Entry} (o : OnShelf s end es) (p n : ℕ) (h : p ≤ 1) where
+-- The entry that is found goes.
+module _ {s : List ℕ} {p n : ℕ} {own : Own} (f : OwnEntry s p n own) where
   abbrev c : Call
   c = withdraw p n
 
-  told_is : told s c ≡ withdrawn (find n (own p es))
-  unfolding told_by
-  told_is = told_own o c h
+  pub record Going (e : Entry) : Type 0 where
+    pub is_done : told s c ≡ done
+    pub its_length : own.size ≡ size e
+    pub ends : own.at + size e ≤ own.end
+    pub others : closed s own.at (size e) own.end ≡ shelf_of (taken_out p n f.all)
 
-  module _ {at : ℕ} (q : at ≡ offset p n es) where
-    pub not_there : end ≤ at → told s c ≡ refused 22 0
-    unfolding withdrawn in_use
-    not_there l = told_is ∙ ap withdrawn (go (standing p n es))
-      where
-        go : Standing p n es → find n (own p es) ≡ none
-        go (nowhere i u) = u
-        go (behind a e r i j u x y) = absurd (omega (arith, end_is s end es o.laid, ap in_use i, in_use_append a (e ∷ r)))
-
-    -- The entry that goes.
-    pub record Going (e : Entry) : Type 0 where
-      pub is_done : told s c ≡ done
-      pub its_length : field s at 2 ≡ size e
-      pub ends : at + size e ≤ end
-      pub others : closed s at (size e) end ≡ shelf_of (taken_out p n es)
-
-    pub going : at < end → (e : Entry) × Going e
-    unfolding in_use withdrawn
-    going l = go (standing p n es)
-      where
-        go : Standing p n es → (e : Entry) × Going e
-        go (nowhere i u) = absurd (omega (arith, end_is s end es o.laid))
-        go (behind a e r i j u x y) =
-            let o' : OnShelf s end (a ++ e ∷ r) = subst (OnShelf s end) i o in
-            let w : At s end at e r = subst (λ (k : ℕ). At s end k e r) (sym (q ∙ j)) (stands s end a e r o'.laid) in (
-              e,
-              record {
-                is_done = told_is ∙ ap withdrawn u;
-                its_length = w.its_size;
-                ends = w.ends;
-                others =
-                    ap (λ (k : ℕ). closed s k (size e) end) (q ∙ j) ∙ closed_shelf a e r o'
-                    ∙ ap (λ (l : List Entry). shelf_of l) (sym (all_others p n a e r o'.laid.legal.each_fits x y) ∙ ap (taken_out p n) (sym i));
-              },
-            )
-
-    module _ (l : at < end) {x : ℕ} (k : x ≡ field s at 2) where
-      pub gap_there : (at + x ≤ end) × (end ≤ length s)
-      gap_there = let w = (going l).1 in (omega (arith, w.ends, w.its_length), o.laid.within)
-
-      pub gone : {t : List ℕ} → t ≡ closed s at x end → (shelved_values Done ≡ shelved_owed (told s c)) × (t ≡ left s c)
-      unfolding shelved_values shelved_owed left put after
-      gone e =
-          let w = (going l).1 in (
-            sym (ap shelved_owed w.is_done),
-            e ∙ ap (λ (m : ℕ). closed s at m end) (k ∙ w.its_length) ∙ w.others
-                ∙ sym (ap (λ (a : ShelfAnswer). cond (eqb a.number 0) (put (entries s) s c) s) w.is_done ∙ ap (λ (y : Option (List Entry)). put y s c) o.read),
+  going : (e : Entry) × Going e
+  unfolding told_by in_use withdrawn
+  going = go (standing p n f.all)
+    where
+      go : Standing p n f.all → (e : Entry) × Going e
+      go (nowhere i u) = absurd (omega (arith, f.stands, f.is_there))
+      go (behind a e r i j u x y) =
+          let o : OnShelf s own.end (a ++ e ∷ r) = subst (OnShelf s own.end) i f.on_shelf in
+          let w : At s own.end own.at e r = subst (λ (k : ℕ). At s own.end k e r) (sym (f.stands ∙ j)) (stands s own.end a e r o.laid) in (
+            e,
+            record {
+              is_done = told_own f.on_shelf c f.its_party ∙ ap withdrawn u;
+              its_length = f.its_size ∙ w.its_size;
+              ends = w.ends;
+              others =
+                  ap (λ (k : ℕ). closed s k (size e) own.end) (f.stands ∙ j) ∙ closed_shelf a e r o
+                  ∙ ap (λ (l : List Entry). shelf_of l) (sym (all_others p n a e r o.laid.legal.each_fits x y) ∙ ap (taken_out p n) (sym i));
+            },
           )
 
-    pub eight_there : at < end → at + 8 ≤ length s
-    eight_there l = let w = (going l).1 in omega (arith, w.ends, o.laid.within)
+  pub gap_there : (own.at + own.size ≤ own.end) × (own.end ≤ length s)
+  gap_there = let w = going.1 in (omega (arith, w.ends, w.its_length), f.on_shelf.laid.within)
+
+  pub gone : {t : List ℕ} → t ≡ closed s own.at own.size own.end → (shelved_values (Ok tt) ≡ shelved_owed (told s c)) × (t ≡ left s c)
+  unfolding shelved_values shelved_owed left put after
+  gone e =
+      let w = going.1 in (
+        sym (ap shelved_owed w.is_done),
+        e ∙ ap (λ (m : ℕ). closed s own.at m own.end) w.its_length ∙ w.others
+            ∙ sym (ap (λ (a : ShelfAnswer). cond (eqb a.number 0) (put (entries s) s c) s) w.is_done ∙ ap (λ (y : Option (List Entry)). put y s c) f.on_shelf.read),
+      )

@@ -3,6 +3,7 @@
 use mathlib.Core.Path.{◌≡◌, refl, sym, ap, ap₂, ◌∙◌, subst}
 use mathlib.Core.Bool.{Bool, true, false, cond, ◌&&◌}
 use mathlib.Core.List.{List, [], ◌∷◌, ◌++◌, append_assoc}
+use Rattle.std.specs.Prelude.{Option, Some, None, Ok, Err, is_some, ok_or}
 use Prim.Native.Nat.{ℕ, ◌+◌, ◌≤◌, ◌<◌}
 use native.Mathlib.Omega.{arith}
 use lib.Dec.{eqb}
@@ -11,7 +12,7 @@ use lib.Seq.{length-take-le, drop_at, drop-drop}
 use borrow.Author.Tests.{eq-eqb, ne_eqb, eqb-true, eqb-false}
 use Rattle.records.specs.Numerals.{as_number, field}
 use Rattle.shelf.specs.Entries.{Entry, size, entry_bytes, laid_out, in_use, own, is_named, those}
-use Rattle.shelf.specs.Places.{LaidOut, offset}
+use Rattle.shelf.specs.Places.{LaidOut, offset, StandsAt}
 use Rattle.shelf.proofs.Lists.{in_use_append, laid_append, length_laid}
 use Rattle.shelf.proofs.Legality.{Fitting, fit_first, fit_right, small_size, own_mine, own_other, quota}
 use Rattle.shelf.proofs.ReadBack.{its_length, its_party, its_name}
@@ -140,16 +141,16 @@ module _ {s : List ℕ} {end p n : ℕ} where
         → (eqb (field s (at + 4) 2) p && eqb (field s (at + 6) 2) n) ≡ is_named p n e
     test_is es l q = let a = at_entry l (w.reached es l) q in ap₂ (λ (x y : ℕ). eqb x p && eqb y n) a.party_there a.name_there
 
-    pub sought_found : at < end → true ≡ (eqb (field s (at + 4) 2) p && eqb (field s (at + 6) 2) n) → (es : List Entry) → LaidOut s end es → at ≡ offset p n es
+    pub sought_found : at < end → true ≡ (eqb (field s (at + 4) 2) p && eqb (field s (at + 6) 2) n) → (es : List Entry) → LaidOut s end es → StandsAt p n es (Some at)
     unfolding offset
     sought_found h t es l =
         let x = entered l (w.reached es l) h in
         let z : offset p n (x.0 ∷ x.1) ≡ 0 = simp (sym (t ∙ test_is es l x.2)) in
-        omega (arith, w.sought es l, ap (offset p n) x.2, z)
+        record { there = (omega (arith, w.sought es l, ap (offset p n) x.2, z), omega (arith, end_is s end es l)); nowhere = tt }
 
-    pub sought_end : end ≤ at → (es : List Entry) → LaidOut s end es → at ≡ offset p n es
+    pub sought_end : end ≤ at → (es : List Entry) → LaidOut s end es → StandsAt p n es None
     unfolding offset
-    sought_end h es l = let z : offset p n (w.reached es l).due ≡ 0 = ap (offset p n) (no_more l (w.reached es l) h) in omega (arith, w.sought es l, z)
+    sought_end h es l = let z : offset p n (w.reached es l).due ≡ 0 = ap (offset p n) (no_more l (w.reached es l) h) in record { there = tt; nowhere = omega (arith, w.sought es l, z, end_is s end es l) }
 
     pub sought_more : {x : ℕ} → at < end → false ≡ (eqb (field s (at + 4) 2) p && eqb (field s (at + 6) 2) n) → x ≡ field s at 2 → Sought s end p n (at + x)
     unfolding offset
@@ -163,6 +164,24 @@ module _ {s : List ℕ} {end p n : ℕ} where
             let k : x ≡ size y.0 = e ∙ a.its_size in
             subst (λ (m : ℕ). (v : Passed es (at + m)) × (offset p n es ≡ at + m + offset p n v.due)) (sym k)
             (passed_more l (w.reached es l) y.2, omega (arith, w.sought es l, ap (offset p n) y.2, z))
+
+-- The answer of the search.
+module _ {p n : ℕ} {es : List Entry} where
+  pub is_there : {r : Option ℕ} → StandsAt p n es r → is_some r ≡ true → offset p n es < in_use es
+  is_there {r = None} w e = let z : ◌≡◌ {A = ℕ} 0 1 = cc in absurd (omega arith)
+  is_there {r = Some at} w e = omega (arith, w.there)
+
+  pub is_nowhere : {r : Option ℕ} → StandsAt p n es r → is_some r ≡ false → in_use es ≤ offset p n es
+  is_nowhere {r = None} w e = w.nowhere
+  is_nowhere {r = Some at} w e = let z : ◌≡◌ {A = ℕ} 0 1 = cc in absurd (omega arith)
+
+  pub present : {T : Type 0} (e : T) {r : Option ℕ} {at : ℕ} → StandsAt p n es r → ok_or r e ≡ Ok at → (at ≡ offset p n es) × (at < in_use es)
+  present e {r = None} w q = let z : ◌≡◌ {A = ℕ} 0 1 = cc in absurd (omega arith)
+  present e {r = Some x} {at = at} w q = let k : at ≡ x = cc in (k ∙ w.there.0, omega (arith, w.there.1, k))
+
+  pub absent : {T : Type 0} {e f : T} (r : Option ℕ) → StandsAt p n es r → ok_or r e ≡ Err f → (in_use es ≤ offset p n es) × (f ≡ e)
+  absent None w q = (w.nowhere, cc)
+  absent (Some x) w q = let z : ◌≡◌ {A = ℕ} 0 1 = cc in absurd (omega arith)
 
 -- A party's bytes are added up: what is summed, and what the entries that are due still add.
 pub record Summed (s : List ℕ) (end p held at : ℕ) : Type 0 where
@@ -215,13 +234,6 @@ module _ {s : List ℕ} {end p : ℕ} where
     -- What is summed is never above the quota.
     pub summed_fits : (es : List Entry) → LaidOut s end es → held ≤ 32768
     summed_fits es l = omega (arith, w.summed es l, quota p es l.legal)
-
--- Two numbers that are compared one after the other.
-pub both_read : {x y f g : ℕ} (p n : ℕ) → x ≡ f → y ≡ g → x ≡ p → eqb y n ≡ (eqb f p && eqb g n)
-both_read {f = f} {g} p n e q h = ap (λ (k : ℕ). eqb k n) q ∙ sym (ap (λ (t : Bool). t && eqb g n) (eq-eqb f p (sym e ∙ h)))
-
-pub first_other : {x f : ℕ} (g p n : ℕ) → x ≡ f → (x ≡ p → ⊥) → false ≡ (eqb f p && eqb g n)
-first_other {f = f} g p n e h = sym (ap (λ (t : Bool). t && eqb g n) (ne_eqb f p (λ i. h (e ∙ i))))
 
 -- A test that decides between a number that is read and 0.
 pub read_if : {x y f g : ℕ} (p : ℕ) → x ≡ f → x ≡ p → y ≡ g → y ≡ cond (eqb f p) g 0

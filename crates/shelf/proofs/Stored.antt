@@ -3,7 +3,8 @@
 use mathlib.Core.Path.{◌≡◌, sym, ap, ap₂, ◌∙◌, subst}
 use mathlib.Core.Bool.{Bool, true, false, cond}
 use mathlib.Core.List.{List, [], ◌∷◌, ◌++◌, append-nil, append_assoc}
-use mathlib.Core.Option.{Option}
+use mathlib.Core.Option.{Option, none}
+use Rattle.std.specs.Prelude.{Option as Found, Some, None, Result, Ok, Err, IsErr, is_some, ok_or}
 use Prim.Native.Nat.{ℕ, zero, suc, ◌+◌, ◌-◌, ◌≤◌, ◌<◌}
 use native.Mathlib.Nat.{le_of_eq}
 use native.Mathlib.Omega.{arith}
@@ -11,29 +12,26 @@ use lib.Dec.{T, eqb, ltb}
 use lib.ListN.{length, take, drop, replicate, length-drop, drop_of_length-le}
 use lib.Seq.{sets, take_all}
 use borrow.Author.Tests.{ne_eqb, lt-ltb, le-ltb}
+use Rattle.std.specs.Result.{IsErrAnd}
 use Rattle.refusals.specs.Refusals.{number}
 use Rattle.refusals.specs.declared.Why.{Why}
+use Rattle.refusals.specs.declared.Refused.{Refused}
 use Rattle.refusals.proofs.Laws.{number_above}
-use Rattle.tables.specs.Table.{Table}
+use Rattle.tables.specs.declared.Table.{Table}
 use Rattle.block.specs.Format.{Good, Reading, good, turned_down, reading}
 use Rattle.block.specs.Told.{ReadWhole}
 use Rattle.block.specs.declared.whole.Summary.{Summary}
-use Rattle.block.specs.declared.whole.Checked.{Checked}
-use Rattle.block.specs.declared.whole.Checked.TheVariants.{Good as GoodBlock, Refused as RefusedBlock}
 use Rattle.block.proofs.Answered.{was_good, was_turned_down}
 use Rattle.records.specs.Numerals.{in_bytes}
 use Rattle.records.proofs.Bytes.{sets_front}
 use Rattle.shelf.specs.Entries.{SHELF_SIZE, QUOTA_SIZE, Entry, size, entry_bytes, laid_out, in_use, shelf_of, own, taken, is_good, entries}
 use Rattle.shelf.specs.Calls.{PARTY, SHELF, Call, install, party_of, ShelfAnswer, refused, done, entry, installed, told_by, told_on, told, after, put, left}
-use Rattle.shelf.specs.Places.{offset, OnShelf, Walks}
-use Rattle.shelf.specs.Answered.{shelved_values, shelved_owed}
-use Rattle.shelf.specs.declared.Shelved.TheVariants.{Done, TurnedDown}
-use Rattle.shelf.specs.declared.walk.Walked.{Walked}
-use Rattle.shelf.specs.declared.walk.Walked.TheVariants.{InUse, NoShelf}
+use Rattle.shelf.specs.Places.{offset, StandsAt, OnShelf, Walks}
+use Rattle.shelf.specs.Answered.{shelved_values, shelved_owed, TurnedDown, Entered}
 use Rattle.shelf.proofs.Lists.{laid_append, in_use_append, length_entry}
 use Rattle.shelf.proofs.Legality.{Fitting, has_room}
 use Rattle.shelf.proofs.OnlyShelf.{zeros_only}
-use Rattle.shelf.proofs.Passing.{end_is}
+use Rattle.shelf.proofs.Passing.{end_is, is_there, is_nowhere}
 use Rattle.shelf.proofs.Walking.{taken_is}
 
 -- The entry's four numbers and its block.
@@ -83,25 +81,37 @@ pub left_refused : (s : List ℕ) (c : Call) {k at : ℕ} → told s c ≡ refus
 unfolding left
 left_refused s c {k} {at} t f = sym (ap (λ (a : ShelfAnswer). cond (eqb a.number 0) (put (entries s) s c) s) t ∙ simp (ne_eqb k 0 f))
 
-pub turned_down_so : (s : List ℕ) (c : Call) (why : Why) {at : ℕ} → told s c ≡ refused (number why) at → (shelved_values (TurnedDown why at) ≡ shelved_owed (told s c)) × (s ≡ left s c)
+-- A refusal is passed on as it is.
+pub passed_on : {T : Type 0} {e : Refused} (r : Result T Refused) → IsErr r × IsErrAnd r (λ f. f ≡ e) → r ≡ Err e
+passed_on (Ok x) h = absurd h.1
+passed_on (Err f) h = ap Err h.1
+
+pub turned_down_so : {s : List ℕ} {c : Call} {e : Refused} {r : Result (Unit {0}) Refused} → r ≡ Err e → TurnedDown s c e → (shelved_values r ≡ shelved_owed (told s c)) × (s ≡ left s c)
 unfolding shelved_values shelved_owed
-turned_down_so s c why t = (sym (ap shelved_owed t), left_refused s c t (number_above why))
+turned_down_so {s} {c} {e} q t = (ap shelved_values q ∙ sym (ap shelved_owed t.told_so), left_refused s c t.told_so (number_above e.why))
+
+-- One that is of no place in a block.
+pub of_no_place : {s : List ℕ} {c : Call} {why : Why} {r : Refused} → r ≡ record { why = why; place = 0 } → told s c ≡ refused (number why) 0 → TurnedDown s c r
+of_no_place {s} {c} e t = subst (TurnedDown s c) (sym e) (record { told_so = t })
 
 -- PARTY and SHELF.
 pub third_party : (s : List ℕ) (c : Call) → 1 < party_of c → told s c ≡ refused PARTY 0
 unfolding told
 third_party s c h = simp (lt-ltb 1 (party_of c) h)
 
-pub no_shelf_told : (s : List ℕ) (c : Call) → party_of c ≤ 1 → {w : Walked} → Walks s w → w ≡ NoShelf → told s c ≡ refused SHELF 0
-unfolding told told_on Walks
-no_shelf_told s c h w q = ap (λ (t : Bool). cond t (refused PARTY 0) (told_on (entries s) c)) (le-ltb 1 (party_of c) h) ∙ ap (λ (x : Option (List Entry)). told_on x c) (subst (Walks s) q w)
+pub no_shelf_told : (s : List ℕ) (c : Call) → party_of c ≤ 1 → entries s ≡ none → told s c ≡ refused SHELF 0
+unfolding told told_on
+no_shelf_told s c h e = ap (λ (t : Bool). cond t (refused PARTY 0) (told_on (entries s) c)) (le-ltb 1 (party_of c) h) ∙ ap (λ (x : Option (List Entry)). told_on x c) e
 
-pub walked_to : (s : List ℕ) {w : Walked} {end : ℕ} → Walks s w → w ≡ InUse end → (es : List Entry) × OnShelf s end es
-unfolding Walks
-walked_to s w e = subst (Walks s) e w
+module _ {s : List ℕ} {p : ℕ} {r : Refused} where
+  pub third_enters : 1 < p → r ≡ record { why = Why.Party; place = 0 } → Entered s p (Err r)
+  unfolding number
+  third_enters h e = record { its_shelf = tt; turned_down = λ c q. of_no_place e (third_party s c (omega (arith, q))) }
 
-pub walked_on : (s : List ℕ) {w : Walked} {end : ℕ} → Walks s w → w ≡ InUse end → Walks s (InUse end)
-walked_on s w e = subst (Walks s) e w
+  pub enters : {w : Found ℕ} → p ≤ 1 → Walks s w → r ≡ record { why = Why.Shelf; place = 0 } → Entered s p (ok_or w r)
+  unfolding number
+  enters {w = Some end} h k e = record { its_shelf = (h, k); turned_down = tt }
+  enters {w = None} h k e = record { its_shelf = tt; turned_down = λ c q. of_no_place e (no_shelf_told s c (omega (arith, q)) k.no_shelf) }
 
 pub told_own : {s : List ℕ} {end : ℕ} {es : List Entry} → OnShelf s end es → (c : Call) → party_of c ≤ 1 → told s c ≡ told_by (own (party_of c) es) c
 unfolding told told_on
@@ -125,19 +135,21 @@ module _ {s : List ℕ} {end : ℕ} {es : List Entry} (o : OnShelf s end es) (p 
     unfolding installed
     good_told = told_is ∙ ap (λ (r : Reading). installed r (own p es) n (size (entry p n b))) e
 
-    pub name_taken : {r : ℕ} → r ≡ offset p n es → r < end → told s c ≡ refused 20 0
+    pub name_taken : {r : Found ℕ} → StandsAt p n es r → is_some r ≡ true → told s c ≡ refused (number Why.Taken) 0
+    unfolding number
     name_taken q l =
-        let t : taken n (own p es) ≡ true = taken_is p n es ∙ lt-ltb (offset p n es) (in_use es) (omega (arith, its_end o)) in
+        let t : taken n (own p es) ≡ true = taken_is p n es ∙ lt-ltb (offset p n es) (in_use es) (is_there q l) in
         good_told ∙ ap (λ (x : Bool). cond x (refused 20 0) (cond (ltb QUOTA_SIZE (in_use (own p es) + size (entry p n b))) (refused 21 0) done)) t
 
-    module _ {r : ℕ} (q : r ≡ offset p n es) (l : end ≤ r) where
+    module _ {r : Found ℕ} (q : StandsAt p n es r) (l : is_some r ≡ false) where
       pub is_free : taken n (own p es) ≡ false
-      is_free = taken_is p n es ∙ le-ltb (offset p n es) (in_use es) (omega (arith, its_end o))
+      is_free = taken_is p n es ∙ le-ltb (offset p n es) (in_use es) (is_nowhere q l)
 
       free_told : told s c ≡ cond (ltb QUOTA_SIZE (in_use (own p es) + size (entry p n b))) (refused 21 0) done
       free_told = good_told ∙ ap (λ (x : Bool). cond x (refused 20 0) (cond (ltb QUOTA_SIZE (in_use (own p es) + size (entry p n b))) (refused 21 0) done)) is_free
 
-      pub over_quota : {m : ℕ} → m ≡ in_use (own p es) → 32768 < m + 8 + length b → told s c ≡ refused 21 0
+      pub over_quota : {m : ℕ} → m ≡ in_use (own p es) → 32768 < m + 8 + length b → told s c ≡ refused (number Why.Quota) 0
+      unfolding number
       over_quota e k = free_told ∙ ap (λ (x : Bool). cond x (refused 21 0) done) (lt-ltb QUOTA_SIZE (in_use (own p es) + size (entry p n b)) (omega arith))
 
       module _ {m : ℕ} (i : m ≡ in_use (own p es)) (k : m + 8 + length b ≤ 32768) (small : n < 65536) where
@@ -148,7 +160,7 @@ module _ {s : List ℕ} {end : ℕ} {es : List Entry} (o : OnShelf s end es) (p 
         pub is_done : told s c ≡ done
         is_done = free_told ∙ ap (λ (x : Bool). cond x (refused 21 0) done) (le-ltb QUOTA_SIZE (in_use (own p es) + size (entry p n b)) (omega arith))
 
-        now_on : (shelved_values Done ≡ shelved_owed (told s c)) × (shelf_of (es ++ (entry p n b ∷ [])) ≡ left s c)
+        now_on : (shelved_values (Ok tt) ≡ shelved_owed (told s c)) × (shelf_of (es ++ (entry p n b ∷ [])) ≡ left s c)
         unfolding shelved_values shelved_owed left put after
         now_on = (
           sym (ap shelved_owed is_done),
@@ -156,18 +168,17 @@ module _ {s : List ℕ} {end : ℕ} {es : List Entry} (o : OnShelf s end es) (p 
         )
 
         pub entry_on : {part : List ℕ} → part ≡ sets (take (length s - end) (drop end s)) 0 (entry_bytes (entry p n b))
-            → (shelved_values Done ≡ shelved_owed (told s c)) × (take end s ++ (part ++ drop (length s - end) (drop end s)) ≡ left s c)
+            → (shelved_values (Ok tt) ≡ shelved_owed (told s c)) × (take end s ++ (part ++ drop (length s - end) (drop end s)) ≡ left s c)
         entry_on q = (now_on.0, entry_put o (entry p n b) it_fits q ∙ now_on.1)
 
         pub room_for : end + (8 + length b) ≤ length s
         room_for = omega (arith, has_room es (entry p n b) o.laid.legal it_fits, its_end o, o.all_bytes)
 
 -- The check's answer, for an install.
-module _ {x : Reading} {tab : Table} {a : Checked} (w : ReadWhole x tab a) where
-  pub found_good : {v : Summary} → a ≡ GoodBlock v → (g : Good) × (x ≡ good g)
+module _ {x : Reading} {tab : Table} {a : Result Summary Refused} (w : ReadWhole x tab a) where
+  pub found_good : {v : Summary} → a ≡ Ok v → (g : Good) × (x ≡ good g)
   found_good e = let r = was_good w e in (r.0, r.1)
 
 pub block_turned_down : {s : List ℕ} {end : ℕ} {es : List Entry} → OnShelf s end es → (p n : ℕ) (b : List ℕ) → p ≤ 1
-    → {tab : Table} {a : Checked} → ReadWhole (reading b) tab a → {why : Why} {at : ℕ} → a ≡ RefusedBlock why at
-    → (shelved_values (TurnedDown why at) ≡ shelved_owed (told s (install p n b))) × (s ≡ left s (install p n b))
-block_turned_down {s} o p n b h w {why} e = turned_down_so s (install p n b) why (block_refused o p n b h (was_turned_down b w e))
+    → {tab : Table} {a : Result Summary Refused} → ReadWhole (reading b) tab a → {r : Refused} → a ≡ Err r → TurnedDown s (install p n b) r
+block_turned_down o p n b h w e = record { told_so = block_refused o p n b h (was_turned_down b w e) }

@@ -10,7 +10,10 @@ use native.Mathlib.Omega.{arith}
 use lib.Dec.{T, lit≤, eqb, ltb}
 use lib.ListN.{length, take, drop, replicate}
 use lib.Seq.{take-append_seam, drop-append_seam}
-use borrow.Author.Tests.{ne_eqb, ltb-true, ltb-false, le-ltb}
+use borrow.Author.Tests.{ne_eqb, ltb-true, ltb-false}
+use Rattle.refusals.specs.Refusals.{number}
+use Rattle.refusals.specs.declared.Why.TheVariants as Why
+use Rattle.refusals.proofs.Laws.{number_above}
 use Rattle.block.specs.Format.{Reading, good, turned_down, reading}
 use Rattle.block.proofs.GoodReadings.{numbers}
 use Rattle.records.specs.Numerals.{Bytes, field}
@@ -18,14 +21,12 @@ use Rattle.shelf.specs.Entries.{SHELF_SIZE, QUOTA_SIZE, Entry, size, laid_out, i
 use Rattle.shelf.specs.Calls.{PARTY, SHELF, TAKEN, QUOTA, ABSENT, Call, install, fetch, withdraw, party_of, ShelfAnswer, refused, done, entry, installed}
 use Rattle.shelf.specs.Calls.{fetched, withdrawn, told_by, told_on, told, put, left}
 use Rattle.shelf.specs.Places.{offset, OnShelf}
-use Rattle.shelf.specs.Answered.{lies_from, FoundAt}
-use Rattle.shelf.specs.declared.Found.{Found}
 use Rattle.shelf.proofs.Lists.{length_laid}
 use Rattle.shelf.proofs.Legality.{good_size, fit_right, fit_first, whole, shelf_length}
 use Rattle.shelf.proofs.ReadBack.{zeros_all, read_back}
 use Rattle.shelf.proofs.OnlyShelf.{only_shelf}
-use Rattle.shelf.proofs.Stored.{third_party}
-use Rattle.shelf.proofs.Fetched.{Standing, nowhere, behind, standing, nothing_found, not_there, found_there}
+use Rattle.shelf.proofs.Stored.{third_party, no_shelf_told}
+use Rattle.shelf.proofs.Fetched.{Standing, nowhere, behind, standing, LiesOn, empty_lies, no_fetch, part_lies}
 
 abbrev found : Entry → ShelfAnswer
 found e = record { number = 0; place = 0; part = e.block }
@@ -142,38 +143,24 @@ on_its_shelf es l =
     }
 
 module _ (s : List ℕ) (p n : ℕ) where
-  found_on : p ≤ 1 → (es : List Entry) → OnShelf s (in_use es) es → (z : Bool) → ltb (offset p n es) (in_use es) ≡ z → (f : Found) × FoundAt s p n f
-  found_on l es o true d = (
-    record { number = 0; offset = offset p n es + 8; size = field s (offset p n es) 2 - 8 },
-    found_there o p n l refl (ltb-true (offset p n es) (in_use es) d) refl,
-  )
-  found_on l es o false d = (
-    record { number = 22; offset = 0; size = 0 },
-    nothing_found s p n 22 (not_there o p n l refl (ltb-false (offset p n es) (in_use es) d)) (λ z. absurd (omega (arith, z))) refl,
-  )
+  lies_on : p ≤ 1 → (es : List Entry) → OnShelf s (in_use es) es → (z : Bool) → ltb (offset p n es) (in_use es) ≡ z → LiesOn s p n
+  unfolding number
+  lies_on l es o true d =
+      part_lies {own = record { at = offset p n es; size = field s (offset p n es) 2; end = in_use es }}
+      (record { its_party = l; all = es; on_shelf = o; stands = refl; is_there = ltb-true (offset p n es) (in_use es) d; its_size = refl })
+  lies_on l es o false d = empty_lies s p n ABSENT (no_fetch o p n l (ltb-false (offset p n es) (in_use es) d)) (number_above Why.Absent)
 
-  found_in : Bytes s → p ≤ 1 → (o : Option (List Entry)) → entries s ≡ o → (f : Found) × FoundAt s p n f
-  unfolding told told_on
-  found_in bytes l none q =
-      let t : told s (fetch p n) ≡ refused SHELF 0 =
-      ap (λ (z : Bool). cond z (refused PARTY 0) (told_on (entries s) (fetch p n))) (le-ltb 1 p l) ∙ ap (λ (x : Option (List Entry)). told_on x (fetch p n)) q in
-      (record { number = 19; offset = 0; size = 0 }, nothing_found s p n 19 t (λ z. absurd (omega (arith, z))) refl)
-  found_in bytes l (some es) q =
+  lies_in : Bytes s → p ≤ 1 → (o : Option (List Entry)) → entries s ≡ o → LiesOn s p n
+  unfolding number
+  lies_in bytes l none q = empty_lies s p n SHELF (no_shelf_told s (fetch p n) l q) (number_above Why.Shelf)
+  lies_in bytes l (some es) q =
       let w = only_shelf s bytes q in
-      found_on l es (subst (λ (t : List ℕ). OnShelf t (in_use es) es) (sym w.0) (on_its_shelf es w.1)) (ltb (offset p n es) (in_use es)) refl
+      lies_on l es (subst (λ (t : List ℕ). OnShelf t (in_use es) es) (sym w.0) (on_its_shelf es w.1)) (ltb (offset p n es) (in_use es)) refl
 
-  some_found : Bytes s → (f : Found) × FoundAt s p n f
-  some_found bytes = go (ltb 1 p) refl
+  pub fetched_lies : Bytes s → LiesOn s p n
+  unfolding number
+  fetched_lies bytes = go (ltb 1 p) refl
     where
-      go : (z : Bool) → ltb 1 p ≡ z → (f : Found) × FoundAt s p n f
-      go true q = (record { number = 18; offset = 0; size = 0 }, nothing_found s p n 18 (third_party s (fetch p n) (ltb-true 1 p q)) (λ z. absurd (omega (arith, z))) refl)
-      go false q = found_in bytes (ltb-false 1 p q) (entries s) refl
-
-  pub fetched_lies : Bytes s
-      → (lies_from s p n + length (told s (fetch p n)).part ≤ length s) × ((told s (fetch p n)).part ≡ take (length (told s (fetch p n)).part) (drop (lies_from s p n) s))
-  fetched_lies bytes =
-      let f = (some_found bytes).0 in
-      let w = (some_found bytes).1 in (
-        omega (arith, w.within, w.its_offset, w.its_size),
-        sym w.its_block ∙ ap (λ (k : ℕ). take k (drop f.offset s)) w.its_size ∙ ap (λ (k : ℕ). take (length (told s (fetch p n)).part) (drop k s)) w.its_offset,
-      )
+      go : (z : Bool) → ltb 1 p ≡ z → LiesOn s p n
+      go true q = empty_lies s p n PARTY (third_party s (fetch p n) (ltb-true 1 p q)) (number_above Why.Party)
+      go false q = lies_in bytes (ltb-false 1 p q) (entries s) refl

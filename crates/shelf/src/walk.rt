@@ -1,57 +1,39 @@
 // The reading of a shelf: entries of good blocks from the front, then zeros.
 ghost use Rattle.std.specs.Prelude.{◌≡◌, cond, ◌&&◌, List, ◌+◌, ◌-◌, ◌≤◌, ◌<◌, length, take, drop};
 ghost use Rattle.block.specs.Format.{reading};
-ghost use Rattle.tables.specs.Table.{Table};
+ghost use Rattle.tables.specs.declared.Table.{Table};
 ghost use Rattle.block.specs.Told.{ReadWhole};
 ghost use Rattle.records.specs.Numerals.{field};
 ghost use Rattle.shelf.specs.Entries.{Entry, is_good, fits, zeros, entry_there, first_entry};
 ghost use Rattle.shelf.specs.Places.{LaidOut, Walks};
 
 use crate::places::{entry_of, held_of};
-use block::whole::{Checked, read_block};
+use block::whole::{Summary, read_block};
 use records::numerals::number_at;
-
-// How many bytes a shelf's entries use; or that the bytes are no shelf's.
-#[derive(Clone, Copy)]
-pub enum Walked {
-    InUse(usize),
-    NoShelf,
-}
+use refusals::Refused;
+use tables::Table;
 
 // Nothing but zeros from a place on.
 fn zeros_from(shelf: &[u8], at: usize) -> bool
     requires { at ≤ length shelf.now }
     ensures { result ≡ zeros (drop at shelf.now) }
 {
-    let mut i = at;
-    while i < shelf.len() {
-        if shelf[i] != 0 {
-            return false;
-        }
-        i += 1;
-    }
-    true
+    shelf[at..].iter().all(|&byte| byte == 0)
 }
 
 // The check of a block, without its table.
-pub(crate) fn checked(block: &[u8]) -> Checked
+pub(crate) fn checked(block: &[u8]) -> Result<Summary, Refused>
     ensures { (table : Table) × ReadWhole (reading block.now) table result }
 {
-    let mut kinds = [0u16; 512];
-    let mut operands = [0u16; 512];
-    let mut sizes = [0u16; 512];
-    read_block(block, &mut kinds, &mut operands, &mut sizes)
+    let mut table = Table::empty();
+    read_block(block, &mut table)
 }
 
 // The block is good.
 fn good_block(block: &[u8]) -> bool
     ensures { result ≡ is_good (reading block.now) }
 {
-    let answer = checked(block);
-    match answer {
-        Checked::Good(_) => true,
-        Checked::Refused(_, _) => false,
-    }
+    checked(block).is_ok()
 }
 
 // An entry of that size may stand at a place, after those before it.
@@ -64,7 +46,7 @@ fn fits_after(shelf: &[u8], at: usize, party: u64, name: u64, size: usize) -> bo
     if 1 < party {
         return false;
     }
-    if entry_of(shelf, at, party, name) < at {
+    if entry_of(shelf, at, party, name).is_some() {
         return false;
     }
     if 32768 < held_of(shelf, at, party) + size {
@@ -73,49 +55,38 @@ fn fits_after(shelf: &[u8], at: usize, party: u64, name: u64, size: usize) -> bo
     good_block(&shelf[at + 8..at + size])
 }
 
-// The end of the entry at a place, if one is there that may stand after those before it; else the place itself.
-fn entry_end(shelf: &[u8], at: usize) -> usize
+// The end of the entry at a place, if one is there that may stand after those before it.
+fn entry_end(shelf: &[u8], at: usize) -> Option<usize>
     requires { (es : List Entry) × LaidOut shelf.now at es }
     ensures { (es : List Entry) → LaidOut shelf.now at es
-        → result ≡ cond (entry_there (drop at shelf.now) && fits es (first_entry (drop at shelf.now))) (at + field shelf.now at 2) at }
+        → result ≡ cond (entry_there (drop at shelf.now) && fits es (first_entry (drop at shelf.now))) (Some (at + field shelf.now at 2)) None }
 {
     let left = shelf.len() - at;
     if left < 8 {
-        return at;
+        return None;
     }
     let size = number_at(shelf, at, 2) as usize;
-    if size < 8 {
-        return at;
-    }
-    if left < size {
-        return at;
+    if size < 8 || left < size {
+        return None;
     }
     if number_at(shelf, at + 2, 2) != 5 {
-        return at;
+        return None;
     }
     let party = number_at(shelf, at + 4, 2);
     let name = number_at(shelf, at + 6, 2);
-    if fits_after(shelf, at, party, name, size) {
-        at + size
-    } else {
-        at
-    }
+    fits_after(shelf, at, party, name, size).then_some(at + size)
 }
 
 // The reading of a shelf: where its entries end, from where on there are zeros; or that it is none.
-pub(crate) fn walk_shelf(shelf: &[u8]) -> Walked
+pub(crate) fn walk_shelf(shelf: &[u8]) -> Option<usize>
     ensures { Walks shelf.now result }
 {
     if shelf.len() != 65536 {
-        return Walked::NoShelf;
+        return None;
     }
     let mut at: usize = 0;
     while !zeros_from(shelf, at) {
-        let end = entry_end(shelf, at);
-        if end == at {
-            return Walked::NoShelf;
-        }
-        at = end;
+        at = entry_end(shelf, at)?;
     }
-    Walked::InUse(at)
+    Some(at)
 }

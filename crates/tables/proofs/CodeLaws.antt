@@ -1,5 +1,5 @@
--- The codes of a kind that is known, and that an exit's code fits a word. Assumes nothing.
-use mathlib.Core.Path.{◌≡◌, sym, subst}
+-- The codes of the kinds that no test names, and that an exit's code fits a word. Assumes nothing.
+use mathlib.Core.Path.{◌≡◌, sym}
 use mathlib.Core.Logic.{◌⊎◌, inl, inr}
 use Prim.Native.Nat.{ℕ, ◌<◌}
 use native.Mathlib.Omega.{arith}
@@ -11,14 +11,6 @@ use Rattle.tables.specs.Codes.{codes_for}
 pub small_code : (c d : ℕ) → d < 16 → c ≡ code (depth d) → c < 32
 unfolding code
 small_code c d h e = omega (arith, h, e)
-
--- The codes of a kind that is known.
-pub code_at : {X : Numbers} {k : ℕ} (m x : ℕ) (P Q : Numbers) → k ≡ m → X ≡ codes_for m x P Q → X ≡ codes_for k x P Q
-code_at {X} m x P Q e h = subst (λ (j : ℕ). X ≡ codes_for j x P Q) (sym e) h
-
-pub code_at_either : {X : Numbers} {k : ℕ} (m n x : ℕ) (P Q : Numbers) → (k ≡ m) ⊎ (k ≡ n) → X ≡ codes_for m x P Q → X ≡ codes_for n x P Q → X ≡ codes_for k x P Q
-code_at_either m n x P Q (inl e) h g = code_at m x P Q e h
-code_at_either m n x P Q (inr e) h g = code_at n x P Q e g
 
 pub code_zero : (k x : ℕ) (P Q : Numbers) → (k ≡ 17 → ⊥) → (k ≡ 19 → ⊥) → ((k ≡ 20) ⊎ (k ≡ 26) → ⊥) → (k ≡ 21 → ⊥) → (k ≡ 22 → ⊥) → (k ≡ 23 → ⊥) → (k ≡ 24 → ⊥) → (k ≡ 25 → ⊥)
     → single 0 ≡ codes_for k x P Q

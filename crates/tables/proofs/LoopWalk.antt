@@ -1,8 +1,10 @@
 -- The walk over the table from the last statement to the first: what is known from statement i on, and one step of it.
-use mathlib.Core.Path.{◌≡◌, sym, ◌∙◌, ap, ap₂, subst}
+use mathlib.Core.Path.{◌≡◌, refl, sym, ◌∙◌, ap, ap₂, subst}
 use mathlib.Core.Bool.{Bool, true, false, cond, ◌&&◌}
 use mathlib.Core.List.{List}
-use Prim.Native.Nat.{ℕ, ◌+◌, ◌-◌, ◌≤◌, ◌<◌}
+use mathlib.Core.Option.{Option, none, some}
+use Rattle.std.specs.Prelude.{Option as Maybe, Some, None, IfSome, unwrap_or}
+use Prim.Native.Nat.{ℕ, ◌+◌, ◌≤◌, ◌<◌}
 use native.Mathlib.Nat.{zero-add}
 use native.Mathlib.Decide.{dec_lt, ℕ_discrete}
 use native.Mathlib.Omega.{arith}
@@ -12,13 +14,14 @@ use lib.Seq.{get_or-set_same, get_or-set_other}
 use Rattle.sets.specs.Words.{bits}
 use Rattle.sets.specs.Numbers.{lowest}
 use Rattle.sets.proofs.Members.{of_true, of_false}
-use Rattle.sets.proofs.Counts.{lowest_in, lowest_empty}
+use Rattle.sets.proofs.Counts.{lowest_in, lowest_empty, lowest_some}
 use Rattle.rules.specs.Statements.{Stmt}
 use Rattle.rules.specs.Loops.{codes_of}
-use Rattle.tables.specs.Table.{Table, Has, kind_of, operand_of, statements}
+use Rattle.tables.specs.Table.{Has, kind_of, operand_of, statements}
+use Rattle.tables.specs.declared.Table.{Table}
 use Rattle.rules.specs.Statements.{numbered}
 use Rattle.tables.specs.Codes.{endless, lowest_endless}
-use Rattle.tables.specs.Codes.{codes_for, Fed, Tabled, number_or}
+use Rattle.tables.specs.Codes.{codes_for, Fed, Tabled, found, number_or}
 use Rattle.tables.proofs.Places.{At, at_number, has_row, fed, codes_right, endless_right, exit_small}
 
 pub record Walked (tab : Table) (count : ℕ) (codes : List ℕ) (found i : ℕ) : Type 0 where
@@ -122,7 +125,7 @@ walk_step {tab} {count} {codes} {found} {i} {v} {w} {k} {x} {r} {f} at s few = r
     found_there t h true e m = (omega arith, of_true (sym e))
     found_there t h false e m = let g = at.found_there t h m in (omega (arith, g.0), g.1)
 
-pub walk_end : {tab : Table} {count : ℕ} {codes : List ℕ} {found i : ℕ} → Walked tab count codes found i → i ≤ 0 → (t : Stmt) → Tabled tab count t → found ≡ number_or count (lowest_endless t)
+walk_end : {tab : Table} {count : ℕ} {codes : List ℕ} {found i : ℕ} → Walked tab count codes found i → i ≤ 0 → (t : Stmt) → Tabled tab count t → found ≡ number_or count (lowest_endless t)
 unfolding lowest_endless
 walk_end {tab} {count} {codes} {found} {i} at z t h = go (dec_lt found count)
   where
@@ -133,3 +136,25 @@ walk_end {tab} {count} {codes} {found} {i} at z t h = go (dec_lt found count)
     go (no l) =
         (let e : found ≡ count = omega (arith, at.found_in) in e)
         ∙ ap (number_or count) (sym (lowest_empty (statements t) (λ n. endless (numbered t n)) (λ j m. at.none_before t h j (omega arith) (omega (arith, h.counted, at.found_in)))))
+
+-- The code keeps what it found as an option; by its number the walk goes on and ends as above.
+pub found_step : (b : Bool) (i count : ℕ) (f : Maybe ℕ) → unwrap_or (cond b (Some i) f) count ≡ cond b i (unwrap_or f count)
+found_step true i count f = refl
+found_step false i count f = refl
+
+pub within_step : (b : Bool) {i count : ℕ} (f : Maybe ℕ) → i < count → IfSome f (λ n. n < count) → IfSome (cond b (Some i) f) (λ n. n < count)
+within_step true f l w = l
+within_step false f l w = w
+
+same_found : (count : ℕ) (f : Maybe ℕ) (o : Option ℕ) → IfSome f (λ n. n < count) → ((k : ℕ) → o ≡ some k → k < count) → unwrap_or f count ≡ number_or count o → f ≡ found o
+same_found count None none w v e = refl
+same_found count None (some k) w v e = absurd (omega (arith, v k refl))
+same_found count (Some n) none w v e = absurd (omega arith)
+same_found count (Some n) (some k) w v e = ap Some e
+
+pub walk_found : {tab : Table} {count : ℕ} {codes : List ℕ} {f : Maybe ℕ} {i : ℕ} → Walked tab count codes (unwrap_or f count) i → IfSome f (λ n. n < count) → i ≤ 0
+    → (t : Stmt) → Tabled tab count t → f ≡ found (lowest_endless t)
+unfolding lowest_endless
+walk_found {count = count} {f = f} at w z t h =
+    same_found count f (lowest (statements t) (λ n. endless (numbered t n))) w
+    (λ k e. omega (arith, h.counted, (lowest_some (statements t) (λ n. endless (numbered t n)) e).0)) (walk_end at z t h)

@@ -18,7 +18,8 @@ use Rattle.rules.proofs.Preorder.{only_child, first_child, second_child}
 -- Known from the rules and from the rows, and handed on.
 pub use Rattle.rules.proofs.Preorder.{first_is, all_counted, some_statement}
 pub use Rattle.tables.proofs.Rows.{has_row}
-use Rattle.tables.specs.Table.{Table, Has, kind_of, operand_of, statements, Small}
+use Rattle.tables.specs.Table.{Has, kind_of, operand_of, statements, Small}
+use Rattle.tables.specs.declared.Table.{Table}
 use Rattle.rules.specs.Statements.{preorder, numbered}
 use Rattle.tables.specs.Codes.{endless}
 use Rattle.tables.specs.Codes.{codes_for, Fed}

@@ -3,7 +3,8 @@ use Prim.Native.Nat.{ℕ}
 use Rattle.rules.specs.Statements.{Stmt, nothing, pause, emit, present?◌then◌else◌, suspend◌on◌, ◌⨾◌, loop, ◌parallel◌, trap, exit, local}
 -- Known from the rules, and handed on.
 pub use Rattle.rules.proofs.Preorder.{some_statement}
-use Rattle.tables.specs.Table.{Table, Row, Has}
+use Rattle.tables.specs.Table.{Row, Has}
+use Rattle.tables.specs.declared.Table.{Table}
 
 pub has_row : {tab : Table} {i : ℕ} (p : Stmt) → Has tab i p → Row tab i p
 unfolding Has

@@ -1,11 +1,13 @@
 -- The loop check on the table: a statement's codes from its row and its children's codes. Assumes nothing.
-use Rattle.std.specs.Prelude.{◌≡◌, Bool, false, cond, List, ℕ, ◌<◌, get_or, eqb}
+use Rattle.std.specs.Prelude.{◌≡◌, Bool, false, cond, List, ℕ, ◌<◌, get_or, eqb, Some, None}
+use Rattle.std.specs.declared.option.Option.{Option as Maybe}
 use Rattle.std.proofs.Math.Option.{Option, none, some}
 use Rattle.sets.specs.Numbers.{Numbers, single, union, without, only_if, maxima, downs, lowest}
 use Rattle.sets.specs.Words.{bits}
 use Rattle.rules.specs.Statements.{depth, code, Stmt, nothing, pause, emit, present?◌then◌else◌, suspend◌on◌, ◌⨾◌, loop, ◌parallel◌, trap, exit, local}
 use Rattle.rules.specs.Loops.{codes_of}
-use Rattle.tables.specs.Table.{Table, Has, Small, kind_of, statements}
+use Rattle.tables.specs.Table.{Has, Small, kind_of, statements}
+use Rattle.tables.specs.declared.Table.{Table}
 use Rattle.rules.specs.Statements.{numbered}
 
 -- The codes of a statement of kind k and operand x whose children have the codes P and Q.
@@ -35,6 +37,11 @@ Fed (p parallel q) v w = (bits v ≡ codes_of p) × (bits w ≡ codes_of q)
 Fed (trap p) v w = bits v ≡ codes_of p
 Fed (exit d) v w = Unit {0}
 Fed (local s p) v w = bits v ≡ codes_of p
+
+-- What was found, as the code says it.
+abbrev pub found : Option ℕ → Maybe ℕ
+found none = None
+found (some k) = Some k
 
 -- The number that was found, and n where none was.
 abbrev pub number_or : ℕ → Option ℕ → ℕ

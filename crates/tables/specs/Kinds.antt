@@ -1,22 +1,15 @@
 -- The kinds of a statement's record, of "The block file" in document 01. Assumes nothing.
-use Rattle.std.specs.Prelude.{cond, [], ◌∷◌, ℕ}
-use Rattle.std.proofs.Math.Option.{Option, none, some}
+use Rattle.std.specs.Prelude.{cond, [], ◌∷◌, ℕ, Option, Some, None}
 use Rattle.sets.specs.Numbers.{listed}
-use Rattle.tables.specs.declared.kinds.Wire.{Wire}
-use Rattle.tables.specs.declared.kinds.Wire.TheVariants.{Allowed, Unknown}
-
 -- What a record of a kind has: its length, how many operands, and how many children its statement has.
-pub record Shape : Type 0 where
-  pub length : ℕ
-  pub operands : ℕ
-  pub children : ℕ
+use Rattle.tables.specs.declared.kinds.Shape.{Shape}
 
 -- Length 4, no operand; length 6, one operand.
 abbrev pub short : ℕ → Option Shape
-short n = some (record { length = 4; operands = 0; children = n })
+short n = Some (record { length = 4; operands = 0; children = n })
 
 abbrev pub long : ℕ → Option Shape
-long n = some (record { length = 6; operands = 1; children = n })
+long n = Some (record { length = 6; operands = 1; children = n })
 
 -- Length 4, no operand: 16 nothing, 17 pause (no child); 22 loop, 24 trap (one); 21 sequence, 23 parallel (two). Length 6,
 -- operand a signal: 18 emit (no child); 20 suspend, 26 local (one); 19 present (two). Length 6, operand a depth: 25 exit (no
@@ -29,7 +22,7 @@ shape k =
     (cond (listed (18 ∷ 25 ∷ []) k) (long 0)
     (cond (listed (20 ∷ 26 ∷ []) k) (long 1)
     (cond (listed (19 ∷ []) k) (long 2)
-    none)))))
+    None)))))
 
 -- Edition 2 has four kinds more: 32 halt (length 4, no child), 33 sustain, 34 await (length 6, operand a signal, no child) and 35 abort (length 6, operand a
 -- signal, one child).
@@ -42,8 +35,8 @@ wide_shape k =
 
 -- A number of a kind's shape; a kind that is not allowed has none, and 0 is no record's length.
 abbrev pub of_shape : (Shape → ℕ) → Option Shape → ℕ
-of_shape f none = 0
-of_shape f (some s) = f s
+of_shape f None = 0
+of_shape f (Some s) = f s
 
 unfoldable pub length_of : ℕ → ℕ
 unfolding shape
@@ -56,8 +49,3 @@ operands_of k = of_shape (λ s. s.operands) (shape k)
 unfoldable pub children_of : ℕ → ℕ
 unfolding shape
 children_of k = of_shape (λ s. s.children) (shape k)
-
--- The shape of a kind, as the code tells it.
-unfoldable pub wire_of : Option Shape → Wire
-wire_of none = Unknown
-wire_of (some s) = Allowed (record { length = s.length; operands = s.operands; children = s.children })

@@ -3,13 +3,9 @@
 use Rattle.std.specs.Prelude.{◌≡◌, cond, List, ℕ, ◌+◌, ◌<◌, eqb, get_or}
 -- The sizes are counts of statements; who knows the table takes the count from here.
 unfoldable pub use Rattle.rules.specs.Statements.{statements}
+use Rattle.tables.specs.declared.Table.{Table}
 use Rattle.tables.specs.Kinds.{operands_of}
 use Rattle.rules.specs.Statements.{depth, Stmt, nothing, pause, emit, present?◌then◌else◌, suspend◌on◌, ◌⨾◌, loop, ◌parallel◌, trap, exit, local}
-
-pub record Table : Type 0 where
-  pub kinds : List ℕ
-  pub operands : List ℕ
-  pub sizes : List ℕ
 
 abbrev pub table_of : List ℕ → List ℕ → List ℕ → Table
 table_of ks xs ns = record { kinds = ks; operands = xs; sizes = ns }

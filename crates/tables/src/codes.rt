@@ -5,7 +5,9 @@ ghost use Rattle.sets.specs.Words.{bits};
 ghost use Rattle.rules.specs.Statements.{depth, code};
 ghost use Rattle.tables.specs.Codes.{codes_for};
 
-use crate::kinds::{Code, Depth, code_of};
+use crate::kinds::{
+    Code, Depth, EXIT, LOCAL, LOOP, PARALLEL, PAUSE, PRESENT, SEQUENCE, SUSPEND, TRAP, code_of,
+};
 use code_sets::{followed_codes, larger, lowered, without_zero};
 
 // The set of one code.
@@ -17,6 +19,7 @@ pub fn code_bit(c: Code) -> u32
 }
 
 // The code of an exit.
+#[tactic(auto, using(crate::proofs::CodeLaws::small_code))]
 pub(crate) fn exit_codes(d: Depth) -> u32
     ensures { d.0 < 16 → bits result ≡ single (code (depth d.0)) }
 {
@@ -24,18 +27,19 @@ pub(crate) fn exit_codes(d: Depth) -> u32
 }
 
 // A statement's codes, from its kind and operand and its children's codes.
+#[tactic(auto, using(code_sets::proofs::Laws::union_is, sets::proofs::Words::is_single), unfolding(crate::specs::Codes::codes_for))]
 pub fn codes_for(kind: u16, operand: u16, first: u32, second: u32) -> u32
     ensures { (kind ≡ 25 → operand < 16) → bits result ≡ codes_for kind operand (bits first) (bits second) }
 {
     match kind {
-        17 => 2,
-        19 => first | second,
-        20 | 26 => first,
-        21 => followed_codes(first, second),
-        22 => without_zero(first),
-        23 => larger(first, second),
-        24 => lowered(first),
-        25 => exit_codes(Depth(operand)),
+        PAUSE => 2,
+        PRESENT => first | second,
+        SUSPEND | LOCAL => first,
+        SEQUENCE => followed_codes(first, second),
+        LOOP => without_zero(first),
+        PARALLEL => larger(first, second),
+        TRAP => lowered(first),
+        EXIT => exit_codes(Depth(operand)),
         _ => 1,
     }
 }

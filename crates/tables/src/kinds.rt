@@ -1,9 +1,39 @@
 // The kinds of a statement's record, the two numbers that an exit has, and a number of the table as an index.
-ghost use Rattle.std.specs.Prelude.{◌≡◌, cond, [], ◌∷◌, ◌<◌, eqb};
-ghost use Rattle.sets.specs.Numbers.{listed};
+ghost use Rattle.std.specs.Prelude.{◌≡◌, ◌<◌, Some};
 ghost use Rattle.rules.specs.Statements.{depth, code};
 ghost use Rattle.tables.specs.Kinds.{shape, wide_shape, short, long, length_of};
-ghost use Rattle.tables.specs.Kinds.{wire_of};
+
+// The kinds of "The block file", as numbers of a record and of the table.
+pub const NOTHING: u16 = 16;
+
+pub const PAUSE: u16 = 17;
+
+pub const EMIT: u16 = 18;
+
+pub const PRESENT: u16 = 19;
+
+pub const SUSPEND: u16 = 20;
+
+pub const SEQUENCE: u16 = 21;
+
+pub const LOOP: u16 = 22;
+
+pub const PARALLEL: u16 = 23;
+
+pub const TRAP: u16 = 24;
+
+pub const EXIT: u16 = 25;
+
+pub const LOCAL: u16 = 26;
+
+// Those that edition 2 has besides.
+pub const HALT: u16 = 32;
+
+pub const SUSTAIN: u16 = 33;
+
+pub const AWAIT: u16 = 34;
+
+pub const ABORT: u16 = 35;
 
 // An exit's depth: the traps passed over before its own.
 #[derive(Clone, Copy)]
@@ -14,6 +44,7 @@ pub struct Depth(pub u16);
 pub struct Code(pub u32);
 
 // The one conversion.
+#[tactic(auto, unfolding(rules::specs::Statements::code))]
 pub fn code_of(d: Depth) -> Code
     ensures { result.0 ≡ code (depth d.0) }
 {
@@ -35,88 +66,59 @@ pub struct Shape {
     pub children: u16,
 }
 
-// The shape of an allowed kind, or that there is no such kind.
-#[derive(Clone, Copy)]
-pub enum Wire {
-    Allowed(Shape),
-    Unknown,
-}
-
 // No operand.
-fn short(children: u16) -> Wire
-    ensures { result ≡ wire_of (short children) }
+fn short(children: u16) -> Shape
+    ensures { Some result ≡ short children }
 {
-    Wire::Allowed(Shape {
+    Shape {
         length: 4,
         operands: 0,
-        children: children,
-    })
+        children,
+    }
 }
 
 // One operand, a signal or a depth.
-fn long(children: u16) -> Wire
-    ensures { result ≡ wire_of (long children) }
+fn long(children: u16) -> Shape
+    ensures { Some result ≡ long children }
 {
-    Wire::Allowed(Shape {
+    Shape {
         length: 6,
         operands: 1,
-        children: children,
-    })
-}
-
-// Emit has no child, present two, suspend one.
-fn under_signal(kind: u16) -> u16
-    ensures { result ≡ cond (eqb kind 18) 0 (cond (eqb kind 19) 2 1) }
-{
-    match kind {
-        18 => 0,
-        19 => 2,
-        _ => 1,
+        children,
     }
 }
 
-// Sequence and parallel have two children, loop and trap one.
-fn in_turn(kind: u16) -> u16
-    ensures { result ≡ cond (listed (21 ∷ 23 ∷ []) kind) 2 1 }
+// Length, operands and children of a record of either edition, by its kind; no other kind is allowed.
+#[tactic(auto, unfolding(crate::specs::Kinds::wide_shape, crate::specs::Kinds::shape, sets::specs::Numbers::listed))]
+pub fn wide_shape_of(kind: u16) -> Option<Shape>
+    ensures { result ≡ wide_shape kind }
 {
     match kind {
-        21 | 23 => 2,
-        _ => 1,
+        NOTHING | PAUSE | HALT => Some(short(0)),
+        LOOP | TRAP => Some(short(1)),
+        SEQUENCE | PARALLEL => Some(short(2)),
+        EMIT | EXIT | SUSTAIN | AWAIT => Some(long(0)),
+        SUSPEND | LOCAL | ABORT => Some(long(1)),
+        PRESENT => Some(long(2)),
+        _ => None,
     }
 }
 
-// Length, operands and children of a record of either edition, by its kind.
-pub fn wide_shape_of(kind: u16) -> Wire
-    ensures { result ≡ wire_of (wide_shape kind) }
+// The same in edition 1, whose last kind is a local's.
+#[tactic(auto, using(crate::proofs::Shapes::above_kinds, crate::proofs::Shapes::first_edition))]
+pub fn shape_of(kind: u16) -> Option<Shape>
+    ensures { result ≡ shape kind }
 {
-    match kind {
-        16..=17 => short(0),
-        18..=20 => long(under_signal(kind)),
-        21..=24 => short(in_turn(kind)),
-        25..=26 => long(kind - 25),
-        32 => short(0),
-        33..=34 => long(0),
-        35 => long(1),
-        _ => Wire::Unknown,
-    }
-}
-
-// The same in edition 1, whose last kind is 26.
-pub fn shape_of(kind: u16) -> Wire
-    ensures { result ≡ wire_of (shape kind) }
-{
-    if 26 < kind {
-        return Wire::Unknown;
+    if LOCAL < kind {
+        return None;
     }
     wide_shape_of(kind)
 }
 
 // The length of a kind's records, and 0 for no kind.
+#[tactic(auto, unfolding(crate::specs::Kinds::length_of))]
 pub fn record_length(kind: u16) -> u16
     ensures { result ≡ length_of kind }
 {
-    match shape_of(kind) {
-        Wire::Allowed(s) => s.length,
-        Wire::Unknown => 0,
-    }
+    shape_of(kind).map_or(0, |s| s.length)
 }

@@ -10,7 +10,7 @@ use lib.Dec.{T, eqb, leb}
 use lib.ListN.{length, get_or, drop}
 use Rattle.text.specs.Tokens.{Token, sign, name, number, no_token, is_letter, is_number, value_from, is_space}
 use Rattle.text.specs.Tokens.{in_word, no_keyword, word_or, word_token, word_of, mark_size, keyword_from, keywords}
-use Rattle.text.specs.Tokens.{Placed, placed, tokens_of, tokens_placed, tokens, NOTHING, VERSION, INPUT, OUTPUT, COMMA, SEMICOLON, BESIDE, is_mark}
+use Rattle.text.specs.Tokens.{Placed, placed, tokens_of, tokens_placed, NOTHING, VERSION, INPUT, OUTPUT, COMMA, SEMICOLON, BESIDE, is_mark}
 use Rattle.text.specs.Meaning.{Declaration, signal_named, declared, go_on, if_new, Blocked}
 use Rattle.text.specs.Machine.{State, complete, step, due_step, by_sign}
 use Rattle.text.specs.Reader.{Due, version_due, number_due, version_closed, inputs_due, outputs_due, input_name, input_named, output_name, output_named, body_due, Heading, heading}

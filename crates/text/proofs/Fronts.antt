@@ -1,18 +1,18 @@
 -- The tokens from a place on: what stands at the front behind the spaces, and then the tokens behind it. Assumes nothing.
 use mathlib.Core.Path.{◌≡◌, refl, sym, ap, ap₂, ◌∙◌, subst}
-use mathlib.Core.Bool.{Bool, true, false, cond, ◌&&◌, ◌||◌}
+use mathlib.Core.Bool.{Bool, true, false, cond, ◌&&◌}
 use mathlib.Core.List.{List, [], ◌∷◌}
 use mathlib.Core.Option.{Option, none, some}
-use Prim.Native.Nat.{ℕ, zero, suc, ◌+◌, ◌-◌, ◌≤◌, ◌<◌}
+use Prim.Native.Nat.{ℕ, zero, suc, ◌+◌, ◌≤◌, ◌<◌}
 use native.Mathlib.Omega.{arith}
-use borrow.Author.Tests.{ne_eqb, eq-eqb}
+use borrow.Author.Tests.{ne_eqb}
 use lib.Dec.{eqb}
 use lib.ListN.{length, get_or, drop, length-drop, drop_of_length-le}
 use lib.Seq.{drop-cons, drop-drop, get_or-drop}
-use Rattle.text.specs.Tokens.{Token, sign, no_token, is_space, in_word, spaces_of, word_of, word_token, is_mark, mark_token, mark_size, BESIDE, Placed, placed, same}
-use Rattle.text.specs.Coded.{kind_of, value_of, front, front_size, kind_held, value_held, FrontAt, past_spaces, tokens_from, fronted}
+use Rattle.text.specs.Tokens.{Token, sign, no_token, is_space, in_word, spaces_of, word_of, word_token, is_mark, mark_token, mark_size, BESIDE, Placed, placed}
+use Rattle.text.specs.Coded.{kind_of, front, front_size, kind_held, FrontAt, past_spaces, tokens_from, fronted}
+use Rattle.text.specs.declared.tokens.Kind.TheVariants.{End}
 use Rattle.text.specs.declared.tokens.Token.{Token as CodedToken}
-use Rattle.text.proofs.Numbers.{word_on}
 
 -- More steps than bytes change nothing.
 word_some : (b : ℕ) (bs : List ℕ) → in_word b ≡ true → 0 < length (word_of (b ∷ bs))
@@ -190,17 +190,16 @@ module _ (b : ℕ) (bs : List ℕ) where
 
 -- The code's token for what stands at the front.
 pub held : {text : List ℕ} {at : ℕ} {r : CodedToken} (t : Token) (z : ℕ) → front (drop at text) ≡ some t → front_size (drop at text) ≡ z
-    → r.kind ≡ kind_of t → r.start ≡ at → r.end ≡ at + z → r.value ≡ value_of t → FrontAt text at r
-unfolding kind_held value_held
-held {at = at} t z f s k b e v =
-    record { its_kind = k ∙ sym (ap kind_held f); its_start = b; its_end = e ∙ sym (ap (λ (n : ℕ). at + n) s); its_value = v ∙ sym (ap value_held f) }
+    → r.kind ≡ kind_of t → r.start ≡ at → r.end ≡ at + z → FrontAt text at r
+unfolding kind_held
+held {at = at} t z f s k b e = record { its_kind = k ∙ sym (ap kind_held f); its_start = b; its_end = e ∙ sym (ap (λ (n : ℕ). at + n) s) }
 
-pub held_end : {text : List ℕ} {at : ℕ} {r : CodedToken} → length text ≤ at → r.kind ≡ 20 → r.start ≡ at → r.end ≡ at → r.value ≡ 0 → FrontAt text at r
-unfolding kind_held value_held
-held_end {text} {at} l k b e v =
+pub held_end : {text : List ℕ} {at : ℕ} {r : CodedToken} → length text ≤ at → r.kind ≡ End → r.start ≡ at → r.end ≡ at → FrontAt text at r
+unfolding kind_held
+held_end {text} {at} l k b e =
     let f = at_end text at l in
     let z : at ≡ at + 0 = omega arith in
-    record { its_kind = k ∙ sym (ap kind_held f.0); its_start = b; its_end = e ∙ z ∙ sym (ap (λ (n : ℕ). at + n) f.1); its_value = v ∙ sym (ap value_held f.0) }
+    record { its_kind = k ∙ sym (ap kind_held f.0); its_start = b; its_end = e ∙ z ∙ sym (ap (λ (n : ℕ). at + n) f.1) }
 
 -- The byte behind a place.
 pub behind : (s : List ℕ) (at : ℕ) → get_or (drop (suc at) s) 0 0 ≡ get_or s (at + 1) 0

@@ -1,21 +1,22 @@
 -- Keywords by one number: bytes of the same key are the same, so the word with a key is the word that is spelt so. Assumes nothing.
-use mathlib.Core.Path.{◌≡◌, refl, sym, ap, ap₂, ◌∙◌, subst}
+use mathlib.Core.Path.{◌≡◌, refl, sym, ap, ap₂, ◌∙◌}
 use mathlib.Core.Bool.{Bool, true, false, cond, ◌&&◌}
 use mathlib.Core.List.{List, [], ◌∷◌}
-use mathlib.Core.Option.{Option, none, some}
-use Prim.Native.Nat.{ℕ, zero, suc, ◌+◌, ◌-◌, ◌*◌, ◌^◌, ◌≤◌, ◌<◌}
+use mathlib.Core.Option.{none, some}
+use Rattle.std.specs.Prelude.{Option as Returned, Some, None}
+use Prim.Native.Nat.{ℕ, zero, suc, ◌+◌, ◌*◌, ◌^◌, ◌≤◌, ◌<◌}
 use native.Mathlib.Nat.{pow-le-pow_right, zero-lt-suc}
 use native.Mathlib.Omega.{arith}
 use native.Mathlib.Decide.{ℕ_discrete}
 use borrow.Author.Tests.{eq-eqb, ne_eqb}
 use lib.Dec.{T, eqb, leb, leb→le}
 use lib.ListN.{length, get_or, take, drop, length-drop}
-use lib.Seq.{take-length, get_or-drop, get_or-take}
+use lib.Seq.{take-length}
 use Rattle.records.specs.Numerals.{Bytes, in_bytes, as_number, field}
 use Rattle.records.proofs.Bytes.{bytes_of_number}
 use Rattle.records.proofs.LegalStates.{field_lt}
 use Rattle.text.specs.Tokens.{in_word, keywords, same, keyword_from, word_of}
-use Rattle.text.specs.Coded.{keyword_or_none, keyword_number, key, keyed}
+use Rattle.text.specs.Coded.{returned, keyword_number, key, keyed}
 use Rattle.text.proofs.Words.{both_so, other_bytes}
 use Rattle.text.proofs.ShownMeans.{same_self}
 
@@ -25,12 +26,12 @@ unfolding as_number
 NoneKeyed known [] k = known
 NoneKeyed known (w ∷ ws) k = NoneKeyed (known × (k ≡ key w → ⊥)) ws k
 
-pub none_keyed : (known : Type 0) (i : ℕ) (ws : List (List ℕ)) (k : ℕ) → NoneKeyed known ws k → known × (17 ≡ keyed i ws k)
+pub none_keyed : (known : Type 0) (i : ℕ) (ws : List (List ℕ)) (k : ℕ) → NoneKeyed known ws k → known × (None ≡ keyed i ws k)
 unfolding NoneKeyed keyed
 none_keyed known i [] k h = (h, refl)
 none_keyed known i (w ∷ ws) k h =
     let r = none_keyed (known × (k ≡ key w → ⊥)) (suc i) ws k h in
-    (r.0.0, r.1 ∙ sym (ap (λ (b : Bool). cond b i (keyed (suc i) ws k)) (ne_eqb k (key w) r.0.1)))
+    (r.0.0, r.1 ∙ sym (ap (λ (b : Bool). cond b (Some i) (keyed (suc i) ws k)) (ne_eqb k (key w) r.0.1)))
 
 -- Bytes of the same key are the same.
 bytes_back : (x : List ℕ) → Bytes x → in_bytes (length x) (as_number x) ≡ x
@@ -56,23 +57,23 @@ are_bytes [] t i = omega arith
 are_bytes (b ∷ w) t zero = let h = leb→le b 255 (both_so (leb b 255) (all_bytes w) t).0 in omega (arith, h)
 are_bytes (b ∷ w) t (suc i) = are_bytes w (both_so (leb b 255) (all_bytes w) t).1 i
 
-keyed_in : (i : ℕ) (ws : List (List ℕ)) (x : List ℕ) → T (all_short ws) → Bytes x → length x ≤ 7 → keyed i ws (key x) ≡ keyword_or_none (keyword_from i ws x)
-unfolding keyed keyword_from keyword_or_none
+keyed_in : (i : ℕ) (ws : List (List ℕ)) (x : List ℕ) → T (all_short ws) → Bytes x → length x ≤ 7 → keyed i ws (key x) ≡ returned (keyword_from i ws x)
+unfolding keyed keyword_from returned
 keyed_in i [] x t b l = refl
 keyed_in i (w ∷ ws) x t b l =
     let r = both_so (leb (length w) 7 && all_bytes w) (all_short ws) t in
     let q = both_so (leb (length w) 7) (all_bytes w) r.0 in
     go (record { byte = are_bytes w q.1 }) (leb→le (length w) 7 q.0) (ℕ_discrete (key x) (key w)) (keyed_in (suc i) ws x r.1 b l)
   where
-    go : Bytes w → length w ≤ 7 → Dec (key x ≡ key w) → keyed (suc i) ws (key x) ≡ keyword_or_none (keyword_from (suc i) ws x)
-        → cond (eqb (key x) (key w)) i (keyed (suc i) ws (key x)) ≡ keyword_or_none (cond (same w x) (some i) (keyword_from (suc i) ws x))
+    go : Bytes w → length w ≤ 7 → Dec (key x ≡ key w) → keyed (suc i) ws (key x) ≡ returned (keyword_from (suc i) ws x)
+        → cond (eqb (key x) (key w)) (Some i) (keyed (suc i) ws (key x)) ≡ returned (cond (same w x) (some i) (keyword_from (suc i) ws x))
     go d m (yes e) ih =
         let s : same w x ≡ true = ap (λ (z : List ℕ). same w z) (key_same x w b d l m e) ∙ same_self w in
-        ap (λ (z : Bool). cond z i (keyed (suc i) ws (key x))) (eq-eqb (key x) (key w) e) ∙ sym (ap (λ (z : Bool). keyword_or_none (cond z (some i) (keyword_from (suc i) ws x))) s)
+        ap (λ (z : Bool). cond z (Some i) (keyed (suc i) ws (key x))) (eq-eqb (key x) (key w) e) ∙ sym (ap (λ (z : Bool). returned (cond z (some i) (keyword_from (suc i) ws x))) s)
     go d m (no n) ih =
         let s : same w x ≡ false = other_bytes w x (λ e. n (sym (ap key e))) in
-        ap (λ (z : Bool). cond z i (keyed (suc i) ws (key x))) (ne_eqb (key x) (key w) n) ∙ ih
-        ∙ sym (ap (λ (z : Bool). keyword_or_none (cond z (some i) (keyword_from (suc i) ws x))) s)
+        ap (λ (z : Bool). cond z (Some i) (keyed (suc i) ws (key x))) (ne_eqb (key x) (key w) n) ∙ ih
+        ∙ sym (ap (λ (z : Bool). returned (cond z (some i) (keyword_from (suc i) ws x))) s)
 
 long_in : (i : ℕ) (ws : List (List ℕ)) (x : List ℕ) → T (all_short ws) → 7 < length x → keyword_from i ws x ≡ none
 unfolding keyword_from
@@ -101,44 +102,23 @@ word_within (b ∷ bs) = go (in_word b) (word_within bs)
     go true ih = omega (arith, ih)
     go false ih = omega arith
 
--- The word at a place of a text: none, too long, or by its key.
+-- The word at a place of a text lies in it.
 module _ (s : List ℕ) (at : ℕ) where
   pub word_inside : {n : ℕ} → n ≡ length (word_of (drop at s)) → (n ≡ 0 → ⊥) → at + n ≤ length s
   word_inside e h = omega (arith, e, h, word_within (drop at s), length-drop at s)
 
-  pub no_word_here : length (word_of (drop at s)) ≡ 0 → 17 ≡ keyword_number (word_of (drop at s))
-  unfolding keyword_or_none keyword_from same
-  no_word_here e = empty (word_of (drop at s)) e
-    where
-      empty : (w : List ℕ) → length w ≡ 0 → 17 ≡ keyword_number w
-      empty [] e = refl
-      empty (b ∷ w) e = absurd (omega (arith, e))
+-- A word of at most seven bytes by its key, and one that is too long. Seven bytes leave room for the length.
+module _ (w : List ℕ) where
+  pub too_long : 7 < length w → None ≡ keyword_number w
+  unfolding returned
+  too_long l = sym (ap returned (long_in 0 keywords w tt l))
 
-  pub too_long : 7 < length (word_of (drop at s)) → 17 ≡ keyword_number (word_of (drop at s))
-  unfolding keyword_or_none
-  too_long l = sym (ap keyword_or_none (long_in 0 keywords (word_of (drop at s)) tt l))
-
-  pub by_key : {n v r : ℕ} → Bytes s → n ≡ length (word_of (drop at s)) → n ≤ 7 → v ≡ field s at n → r ≡ keyed 0 keywords (v * 8 + n)
-      → r ≡ keyword_number (word_of (drop at s))
+  pub by_key : {v : ℕ} {r : Returned ℕ} → Bytes w → length w ≤ 7 → v ≡ field w 0 (length w) → r ≡ keyed 0 keywords (v * 8 + length w) → r ≡ keyword_number w
   unfolding field
-  by_key {n} {v} {r} b e l f q =
-      let x = word_of (drop at s) in
-      let w : take n (drop at s) ≡ x = ap (λ (k : ℕ). take k (drop at s)) e ∙ word_taken (drop at s) in
-      let bytes : Bytes x = subst Bytes w (record { byte = taken_bytes n }) in
-      q ∙ ap₂ (λ (u k : ℕ). keyed 0 keywords (u * 8 + k)) (f ∙ ap as_number w) e ∙ keyed_in 0 keywords x tt bytes (omega (arith, e, l))
-    where
-      here : (n : ℕ) (l : List ℕ) → ((i : ℕ) → get_or l i 0 < 256) → (i : ℕ) → get_or (take n l) i 0 < 256
-      here zero l b i = omega arith
-      here (suc n) [] b i = omega arith
-      here (suc n) (x ∷ l) b zero = b 0
-      here (suc n) (x ∷ l) b (suc i) = here n l (λ j. b (suc j)) i
+  by_key b l f q = q ∙ ap (λ (u : ℕ). keyed 0 keywords (u * 8 + length w)) (f ∙ ap as_number (take-length w)) ∙ keyed_in 0 keywords w tt b l
 
-      taken_bytes : (n i : ℕ) → get_or (take n (drop at s)) i 0 < 256
-      taken_bytes n i = here n (drop at s) (λ j. subst (λ (v : ℕ). v < 256) (sym (get_or-drop at s j 0)) (b.byte (at + j))) i
-
-  -- Seven bytes leave room for the length.
-  pub field_short : {n : ℕ} → Bytes s → n ≤ 7 → field s at n < 2 ^ 56
-  field_short {n} b l =
-      let m : 256 ^ n ≤ 256 ^ 7 = pow-le-pow_right (zero-lt-suc 255) l in
-      let h = field_lt s b at n in
+  pub field_short : Bytes w → length w ≤ 7 → field w 0 (length w) < 2 ^ 56
+  field_short b l =
+      let m : 256 ^ length w ≤ 256 ^ 7 = pow-le-pow_right (zero-lt-suc 255) l in
+      let h = field_lt w b 0 (length w) in
       omega (arith, m, h)

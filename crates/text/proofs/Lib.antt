@@ -19,7 +19,6 @@ pub mod Keys
 pub mod Numbers
 pub mod WordTokens
 pub mod Fronts
-pub mod SameWords
 pub mod Views
 pub mod EveryText
 pub mod OneFault

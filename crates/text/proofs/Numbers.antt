@@ -1,8 +1,8 @@
 -- A number is read digit by digit: what is still to come of its word, with the value so far, stands for the same. Assumes nothing.
-use mathlib.Core.Path.{◌≡◌, refl, sym, ap, ap₂, ◌∙◌, subst}
+use mathlib.Core.Path.{◌≡◌, refl, sym, ap, ◌∙◌, subst}
 use mathlib.Core.Bool.{Bool, true, false, cond, ◌&&◌}
 use mathlib.Core.List.{List, [], ◌∷◌}
-use Prim.Native.Nat.{ℕ, zero, suc, ◌+◌, ◌-◌, ◌*◌, ◌^◌, ◌≤◌, ◌<◌}
+use Prim.Native.Nat.{ℕ, suc, ◌+◌, ◌-◌, ◌*◌, ◌^◌, ◌≤◌, ◌<◌}
 use native.Mathlib.Nat.{pow-suc, pow-le-pow_right, zero-lt-suc}
 use native.Mathlib.Omega.{arith}
 use borrow.Author.Tests.{le-leb}
@@ -10,55 +10,52 @@ use lib.Dec.{T, leb, leb→le}
 use lib.ListN.{length, get_or, drop}
 use lib.Seq.{drop-cons}
 use Rattle.text.specs.Tokens.{is_digit, in_word, all_digits, value_from, is_number, word_of}
+use Rattle.std.specs.Prelude.{Option, Some, None}
 use Rattle.text.specs.Coded.{number_value}
 use Rattle.text.proofs.Words.{both_so, below_leb}
 use Rattle.text.proofs.Keys.{word_inside}
 
 -- The digits that are left, with the value of those before them.
-abbrev pub value_left : ℕ → List ℕ → ℕ
-value_left v w = cond (all_digits w && leb (value_from v w) 65535) (value_from v w) 65536
+abbrev pub value_left : ℕ → List ℕ → Option ℕ
+value_left v w = cond (all_digits w && leb (value_from v w) 65535) (Some (value_from v w)) None
 
 pub all_left : (w : List ℕ) → length w ≤ 5 → value_left 0 w ≡ number_value w
 unfolding is_number
-all_left w l = sym (ap (λ (z : Bool). cond (all_digits w && (z && leb (value_from 0 w) 65535)) (value_from 0 w) 65536) (le-leb (length w) 5 l))
+all_left w l = sym (ap (λ (z : Bool). cond (all_digits w && (z && leb (value_from 0 w) 65535)) (Some (value_from 0 w)) None) (le-leb (length w) 5 l))
 
-pub too_many : (w : List ℕ) → 5 < length w → 65536 ≡ number_value w
+pub too_many : (w : List ℕ) → 5 < length w → number_value w ≡ None
 unfolding is_number
 too_many w l =
-    sym (ap (λ (z : Bool). cond (all_digits w && (z && leb (value_from 0 w) 65535)) (value_from 0 w) 65536) (below_leb (length w) 5 l) ∙ neither (all_digits w) (value_from 0 w))
+    ap (λ (z : Bool). cond (all_digits w && (z && leb (value_from 0 w) 65535)) (Some (value_from 0 w)) None) (below_leb (length w) 5 l) ∙ neither (all_digits w) (Some (value_from 0 w))
   where
-    neither : (z : Bool) (v : ℕ) → cond (z && false) v 65536 ≡ 65536
+    neither : (z : Bool) (v : Option ℕ) → cond (z && false) v None ≡ None
     neither true v = refl
     neither false v = refl
 
 pub one_digit : (v b : ℕ) (w : List ℕ) → is_digit b ≡ true → value_left v (b ∷ w) ≡ value_left (v * 10 + (b - 48)) w
 unfolding all_digits value_from
-one_digit v b w e = ap (λ (z : Bool). cond ((z && all_digits w) && leb (value_from (v * 10 + (b - 48)) w) 65535) (value_from (v * 10 + (b - 48)) w) 65536) e
+one_digit v b w e = ap (λ (z : Bool). cond ((z && all_digits w) && leb (value_from (v * 10 + (b - 48)) w) 65535) (Some (value_from (v * 10 + (b - 48)) w)) None) e
 
-pub no_digit : (v b : ℕ) (w : List ℕ) → is_digit b ≡ false → value_left v (b ∷ w) ≡ 65536
+pub no_digit : (v b : ℕ) (w : List ℕ) → is_digit b ≡ false → value_left v (b ∷ w) ≡ None
 unfolding all_digits value_from
-no_digit v b w e = ap (λ (z : Bool). cond ((z && all_digits w) && leb (value_from (v * 10 + (b - 48)) w) 65535) (value_from (v * 10 + (b - 48)) w) 65536) e
+no_digit v b w e = ap (λ (z : Bool). cond ((z && all_digits w) && leb (value_from (v * 10 + (b - 48)) w) 65535) (Some (value_from (v * 10 + (b - 48)) w)) None) e
 
-pub none_left : (v : ℕ) (w : List ℕ) → length w ≡ 0 → value_left v w ≡ cond (leb v 65535) v 65536
+pub fits_left : (v : ℕ) → v ≤ 65535 → value_left v [] ≡ Some v
 unfolding all_digits value_from
-none_left v [] e = refl
-none_left v (b ∷ w) e = absurd (omega (arith, e))
+fits_left v l = ap (λ (z : Bool). cond z (Some v) None) (le-leb v 65535 l)
 
-pub fits_left : (v : ℕ) → v ≤ 65535 → cond (leb v 65535) v 65536 ≡ v
-fits_left v l = ap (λ (z : Bool). cond z v 65536) (le-leb v 65535 l)
-
-pub over_left : (v : ℕ) → 65535 < v → cond (leb v 65535) v 65536 ≡ 65536
-over_left v l = ap (λ (z : Bool). cond z v 65536) (below_leb v 65535 l)
+pub over_left : (v : ℕ) → 65535 < v → value_left v [] ≡ None
+unfolding all_digits value_from
+over_left v l = ap (λ (z : Bool). cond z (Some v) None) (below_leb v 65535 l)
 
 pub digit_range : (b : ℕ) → is_digit b ≡ true → (48 ≤ b) × (b ≤ 57)
 digit_range b e = let r = both_so (leb 48 b) (leb b 57) (subst T (sym e) tt) in (leb→le 48 b r.0, leb→le b 57 r.1)
 
 -- So many digits are below that power of ten.
-pub no_digits : (a : ℕ) → 0 < 10 ^ (a - a)
-no_digits a = let e : a - a ≡ 0 = omega arith in subst (λ (n : ℕ). 0 < 10 ^ n) (sym e) (omega arith)
-
-pub more_digits : (k : ℕ) {v b m : ℕ} → v < 10 ^ k → b ≤ 57 → m ≡ suc k → v * 10 + (b - 48) < 10 ^ m
-more_digits k {v} {b} {m} h l e = subst (λ (n : ℕ). v * 10 + (b - 48) < 10 ^ n) (sym e) (omega (arith, h, l, pow-suc 10 k))
+pub more_digits : (k : ℕ) {v b : ℕ} → v < 10 ^ k → b ≤ 57 → v * 10 + (b - 48) < 10 ^ (k + 1)
+more_digits k {v} {b} h l =
+    let e : suc k ≡ k + 1 = omega arith in
+    subst (λ (n : ℕ). v * 10 + (b - 48) < 10 ^ n) e (omega (arith, h, l, pow-suc 10 k))
 
 pub few_digits : (k : ℕ) {v : ℕ} → v < 10 ^ k → k ≤ 5 → v < 100000
 few_digits k h l = let m : 10 ^ k ≤ 10 ^ 5 = pow-le-pow_right (zero-lt-suc 9) l in omega (arith, h, m)

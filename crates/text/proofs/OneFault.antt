@@ -1,10 +1,9 @@
 -- A text has one place at fault: what begins a text begins one by every part of its front, so of two places at fault neither lies behind the other. Assumes nothing.
 use mathlib.Core.Path.{◌≡◌, refl, sym, ap, ◌∙◌, subst}
-use mathlib.Core.Logic.{◌⊎◌, inl, inr}
 use mathlib.Core.List.{List, [], ◌∷◌, ◌++◌, append_assoc}
 use Prim.Native.Nat.{ℕ}
 use Rattle.text.specs.Tokens.{Token, Placed, tokens_of}
-use Rattle.text.specs.Faults.{Begins, Ends, Fault, at_token, too_early}
+use Rattle.text.specs.Faults.{Begins, Fault, at_token, too_early}
 use Rattle.text.proofs.FaultPlace.{tokens_append}
 
 -- The front of what begins a text begins it.

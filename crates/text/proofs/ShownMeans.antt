@@ -12,7 +12,7 @@ use lib.Dec.{T, ltb, eqb, eqb→eq, eqb_refl}
 use lib.ListN.{length, length-append}
 use Rattle.sets.specs.Numbers.{Numbers, single, union, listed}
 use Rattle.sets.proofs.Members.{or_out, or_left, or_right}
-use Rattle.rules.specs.Statements.{depth, Stmt, nothing, pause, emit, present?◌then◌else◌, suspend◌on◌, ◌⨾◌, loop, ◌parallel◌, trap, exit, local, Trapped, from}
+use Rattle.rules.specs.Statements.{depth, Stmt, nothing, pause, emit, present?◌then◌else◌, suspend◌on◌, ◌⨾◌, loop, ◌parallel◌, trap, exit, local, Trapped}
 use Rattle.tables.specs.Table.{kind_of, operand_of}
 use Rattle.block.specs.Format.{preorder}
 use Rattle.tables.specs.Kinds.{shape}

@@ -2,4 +2,5 @@
 #![tactic(auto)]
 
 pub mod bytes;
+pub mod signs;
 pub mod tokens;

@@ -1,138 +1,125 @@
-// The tokens of a text in numbers: keywords, names, numbers and marks.
-ghost use Rattle.std.specs.Prelude.{◌≡◌, false, ◌+◌, ◌<◌, length, drop, get_or};
+// The tokens of a text: keywords, names, numbers and marks.
+ghost use Rattle.std.specs.Prelude.{◌≡◌, true, false, ◌<◌, length, drop, get_or};
 ghost use Rattle.text.specs.Tokens.{keywords, word_of, is_name, word_token, in_word, is_mark, same};
-ghost use Rattle.text.specs.Coded.{keyed, keyword_number, number_value, kind_of, value_of, FrontAt, past_spaces};
+ghost use Rattle.text.specs.Coded.{keyed, keyword_number, number_value, kind_of, FrontAt, past_spaces};
 
-use crate::bytes::{digit, letter, past_spaces, word_byte, word_end};
+use crate::bytes::{digit, letter, past_spaces, word, word_byte};
+use crate::signs::{
+    BESIDE, ELSE, EMIT, END, EXIT, IN, INPUT, LOOP, NOTHING, OUTPUT, PAUSE, PRESENT, SIGNAL,
+    SUSPEND, THEN, TRAP, VERSION, WHEN,
+};
 use records::numerals::number_at;
 
-// A token: a keyword or a mark by its number, 17 for a name, 18 for a number, 19 for no token and 20 for the end of the text; its first
-// byte, the first behind it, and what a number stands for.
+// What a token is: a keyword or a mark by its number, a name, a number with what it stands for, no token, or the end of the text.
+#[derive(Clone, Copy, PartialEq, Eq, Debug)]
+pub enum Kind {
+    Sign(u16),
+    Name,
+    Number(u64),
+    Nothing,
+    End,
+}
+
+// A token, its first byte and the first behind it.
 #[derive(Clone, Copy)]
 pub struct Token {
-    pub kind: u16,
+    pub kind: Kind,
     pub start: usize,
     pub end: usize,
-    pub value: u64,
 }
 
-// The keyword with a key, which is its bytes as one number with its length in the lowest three bits; 17 for none.
-fn keyword_with(key: u64) -> u16
+// The keyword with a key, which is its bytes as one number with its length in the lowest three bits. A match over the words themselves would
+// tell a proof their lengths alone.
+fn keyword_with(key: u64) -> Option<u16>
     ensures { result ≡ keyed 0 keywords key }
 {
-    match key {
-        232906572834241399 => 0,
-        3485830155141 => 1,
-        15624530732 => 2,
-        262179834441732999 => 3,
-        14817117092 => 4,
-        13616505644 => 5,
-        52654891 => 6,
-        226151037027462047 => 7,
-        14817117116 => 8,
-        15090809700 => 9,
-        15083475876 => 10,
-        226122 => 11,
-        15624553260 => 12,
-        953325759187870 => 13,
-        248677969098386359 => 14,
-        4001492071245 => 15,
-        1024381973408638 => 16,
-        _ => 17,
-    }
+    let sign = match key {
+        232906572834241399 => NOTHING,
+        3485830155141 => PAUSE,
+        15624530732 => EMIT,
+        262179834441732999 => PRESENT,
+        14817117092 => THEN,
+        13616505644 => ELSE,
+        52654891 => END,
+        226151037027462047 => SUSPEND,
+        14817117116 => WHEN,
+        15090809700 => LOOP,
+        15083475876 => TRAP,
+        226122 => IN,
+        15624553260 => EXIT,
+        953325759187870 => SIGNAL,
+        248677969098386359 => VERSION,
+        4001492071245 => INPUT,
+        1024381973408638 => OUTPUT,
+        _ => return None,
+    };
+    Some(sign)
 }
 
-// The keyword that the word here is, by its number; 17 for none.
-pub fn keyword_at(text: &[u8], at: usize) -> u16
-    ensures { result ≡ keyword_number (word_of (drop at text.now)) }
+// The keyword that a word is, by its number.
+fn keyword(word: &[u8]) -> Option<u16>
+    ensures { result ≡ keyword_number word.now }
 {
-    let size = word_end(text, at) - at;
-    if size == 0 {
-        return 17;
-    }
+    let size = word.len();
     if 7 < size {
-        return 17;
+        return None;
     }
-    keyword_with(number_at(text, at, size) * 8 + size as u64)
+    keyword_with(number_at(word, 0, size) * 8 + size as u64)
 }
 
-// What the word here stands for where it is a number, 65,536 where it is none.
-pub fn number_value(text: &[u8], at: usize) -> u64
-    ensures { result ≡ number_value (word_of (drop at text.now)) }
+// What a word stands for where it is a number.
+fn number(word: &[u8]) -> Option<u64>
+    ensures { result ≡ number_value word.now }
 {
-    let end = word_end(text, at);
-    if 5 < end - at {
-        return 65536;
+    if 5 < word.len() {
+        return None;
     }
-    let mut v: u64 = 0;
-    let mut i = at;
-    while i < end {
-        let b = text[i];
-        if digit(b) {
-            v = v * 10 + (b - 48) as u64;
-            i += 1;
-        } else {
-            return 65536;
+    let mut value: u64 = 0;
+    for b in word {
+        if !digit(*b) {
+            return None;
         }
+        value = value * 10 + (*b - b'0') as u64;
     }
-    if 65535 < v {
-        return 65536;
+    if 65535 < value {
+        return None;
     }
-    v
+    Some(value)
 }
 
-// The word here begins with a letter and has at most sixteen bytes.
-pub fn name_at(text: &[u8], at: usize) -> bool
-    ensures { result ≡ is_name (word_of (drop at text.now)) }
+// A name begins with a letter and has at most sixteen bytes.
+fn name(word: &[u8]) -> bool
+    ensures { result ≡ is_name word.now }
 {
-    let size = word_end(text, at) - at;
-    if size == 0 {
-        return false;
+    word.first().is_some_and(|b| letter(*b)) && word.len() <= 16
+}
+
+// What a word is.
+fn word_kind(word: &[u8]) -> Kind
+    ensures { result ≡ kind_of (word_token word.now) }
+{
+    if let Some(k) = keyword(word) {
+        return Kind::Sign(k);
     }
-    if 16 < size {
-        return false;
+    if name(word) {
+        return Kind::Name;
     }
-    letter(text[at])
+    match number(word) {
+        Some(v) => Kind::Number(v),
+        None => Kind::Nothing,
+    }
 }
 
 // The token that the word here is.
-pub fn word_at(text: &[u8], at: usize) -> Token
-    ensures { (result.kind ≡ kind_of (word_token (word_of (drop at text.now))))
-        × (result.start ≡ at) × (result.end ≡ at + length (word_of (drop at text.now)))
-        × (result.value ≡ value_of (word_token (word_of (drop at text.now)))) }
+fn word_at(text: &[u8], at: usize) -> Token
+    requires { at < length text.now }
+    ensures { in_word (get_or text.now at 0) ≡ true → FrontAt text.now at result }
 {
-    let end = word_end(text, at);
-    let k = keyword_at(text, at);
-    if k < 17 {
-        return Token {
-            kind: k,
-            start: at,
-            end,
-            value: 0,
-        };
-    }
-    if name_at(text, at) {
-        return Token {
-            kind: 17,
-            start: at,
-            end,
-            value: 0,
-        };
-    }
-    let v = number_value(text, at);
-    if v < 65536 {
-        return Token {
-            kind: 18,
-            start: at,
-            end,
-            value: v,
-        };
-    }
+    let word = word(text, at);
     Token {
-        kind: 19,
+        kind: word_kind(word),
         start: at,
-        end,
-        value: 0,
+        end: at + word.len(),
     }
 }
 
@@ -140,16 +127,7 @@ pub fn word_at(text: &[u8], at: usize) -> Token
 fn mark(b: u8) -> bool
     ensures { result ≡ is_mark b }
 {
-    if b == 44 {
-        return true;
-    }
-    if b == 59 {
-        return true;
-    }
-    if b == 91 {
-        return true;
-    }
-    b == 93
+    matches!(b, b',' | b';' | b'[' | b']')
 }
 
 // The mark here, or no token; a word does not begin here.
@@ -161,29 +139,22 @@ fn mark_at(text: &[u8], at: usize) -> Token
     let end = at + 1;
     if mark(b) {
         return Token {
-            kind: b as u16,
+            kind: Kind::Sign(b as u16),
             start: at,
             end,
-            value: 0,
         };
     }
-    if b == 124 {
-        if end < text.len() {
-            if text[end] == 124 {
-                return Token {
-                    kind: 124,
-                    start: at,
-                    end: end + 1,
-                    value: 0,
-                };
-            }
-        }
+    if b == b'|' && end < text.len() && text[end] == b'|' {
+        return Token {
+            kind: Kind::Sign(BESIDE),
+            start: at,
+            end: end + 1,
+        };
     }
     Token {
-        kind: 19,
+        kind: Kind::Nothing,
         start: at,
         end,
-        value: 0,
     }
 }
 
@@ -199,10 +170,9 @@ pub fn token_at(text: &[u8], at: usize) -> Token
         return mark_at(text, start);
     }
     Token {
-        kind: 20,
+        kind: Kind::End,
         start,
         end: start,
-        value: 0,
     }
 }
 
@@ -210,18 +180,5 @@ pub fn token_at(text: &[u8], at: usize) -> Token
 pub fn same_word(text: &[u8], a: usize, b: usize) -> bool
     ensures { result ≡ same (word_of (drop a text.now)) (word_of (drop b text.now)) }
 {
-    let size = word_end(text, a) - a;
-    if word_end(text, b) - b != size {
-        return false;
-    }
-    let mut i = 0;
-    while i < size {
-        let x = text[a + i];
-        let y = text[b + i];
-        if x != y {
-            return false;
-        }
-        i += 1;
-    }
-    true
+    word(text, a) == word(text, b)
 }

@@ -1,14 +1,12 @@
 -- Each answer has as many values as its layout, and a number that two bytes hold: by cases on the reading and on the verdict. Assumes nothing.
-use mathlib.Core.Path.{◌≡◌, refl, sym, ap, ◌∙◌, subst}
+use mathlib.Core.Path.{◌≡◌, refl, ap, subst}
 use mathlib.Core.Bool.{Bool, true, false, cond, ◌&&◌}
 use mathlib.Core.List.{List, [], ◌∷◌}
 use mathlib.Core.Option.{Option, none, some}
-use Prim.Native.Nat.{ℕ, zero, suc, ◌^◌, ◌≤◌, ◌<◌}
+use Prim.Native.Nat.{ℕ, ◌≤◌, ◌<◌}
 use native.Mathlib.Omega.{arith}
 use lib.Dec.{T, lit≤, eqb, ltb, ltb→lt}
 use lib.ListN.{length, get_or, take}
-use mir.Syntax.{w16}
-use mir.Val.{Fits}
 use Rattle.refusals.specs.Refusals.{number, refusals, first_with, why_of}
 use Rattle.refusals.specs.declared.Why.{Why}
 use Rattle.refusals.proofs.Laws.{number_back, why_back}
@@ -23,8 +21,7 @@ use Rattle.reaction.specs.Instants.{block_of, heard_of, Verdict, refused, clash,
 use Rattle.reaction.specs.declared.Given.{Given}
 use Rattle.reaction.specs.declared.Given.TheVariants.{Two}
 use Rattle.reaction.proofs.Cases.{by_front}
-use Rattle.foldheron.specs.declared.Part.{Part}
-use Rattle.foldheron.specs.Answers.{check_owed, begun_owed, part_owed, part_values, absent_part}
+use Rattle.foldheron.specs.Answers.{check_owed, begun_owed, PartTold, part_owed, part_values, absent_part}
 use Rattle.foldheron.specs.Reasons.{named_owed, past_tests}
 use Rattle.foldheron.proofs.Calls.{Leaves, leaves}
 use Rattle.shelf.specs.Answered.{shelved_owed}
@@ -35,10 +32,6 @@ use Rattle.values.specs.Calls.{told_values, logged_values, told_why, install_owe
 pub record Counted (size : ℕ) (xs : List ℕ) : Type 0 where
   pub counted : length xs ≡ size
   pub small : get_or xs 0 0 ≤ 63
-
--- A cast to two bytes loses nothing.
-pub fits : {size : ℕ} {vs xs : List ℕ} → vs ≡ xs → Counted size xs → Fits w16 (get_or vs 0 0)
-fits {size} {vs} {xs} e c = record { fits = let n : get_or vs 0 0 ≡ get_or xs 0 0 = ap (λ (l : List ℕ). get_or l 0 0) e in omega (arith, n, c.small) }
 
 -- The values of a reading: those of a good block, and those of a refusal.
 module _ {size : ℕ} (values : Reading → List ℕ) (b : List ℕ) where
@@ -61,7 +54,7 @@ pub begun_counted : (b s : List ℕ) → Counted 2 (begun_owed (reading b) s)
 unfolding begun_owed
 begun_counted b s = by_reading (λ x. begun_owed x s) b (λ g. begun_sized (eqb (length s) 26)) (λ n at l. record { counted = refl; small = l })
 
-part_found : (t : Bool) (p : Part) → p.number ≡ 0 → Counted 4 (part_values (cond t p (absent_part 14 0)))
+part_found : (t : Bool) (p : PartTold) → p.number ≡ 0 → Counted 4 (part_values (cond t p (absent_part 14 0)))
 part_found true p e = record { counted = refl; small = omega arith }
 part_found false p e = record { counted = refl; small = lit≤ tt }
 
@@ -100,16 +93,6 @@ instant_counted b s given roomless end = record { counted = refl; small = number
 -- An instant's values without the end.
 pub without_end : {vs : List ℕ} {t : Told} → vs ≡ logged_values t 0 → take 10 vs ≡ told_values t
 without_end e = ap (take 10) e
-
--- The first of some values of 64 bits.
-pub first_of : (n : ℕ) (l : List ℕ) → ((j : ℕ) → get_or l j 0 < 2 ^ 64) → (i : ℕ) → get_or (take n l) i 0 < 2 ^ 64
-first_of zero l f i = omega arith
-first_of (suc n) [] f i = f i
-first_of (suc n) (x ∷ l) f zero = f zero
-first_of (suc n) (x ∷ l) f (suc i) = first_of n l (λ j. f (suc j)) i
-
-pub same_number : {vs : List ℕ} {t : Told} → vs ≡ logged_values t 0 → get_or vs 0 0 ≡ get_or (take 10 vs) 0 0
-same_number e = ap (λ (l : List ℕ). get_or l 0 0) e ∙ sym (ap (λ (l : List ℕ). get_or (take 10 l) 0 0) e)
 
 -- A reason.
 named_counted : (o : Option ℕ) → Counted 5 (named_owed o)

@@ -8,8 +8,9 @@ use lib.ListN.{get_or}
 use Rattle.refusals.proofs.Laws.{number_above}
 use Rattle.pairs.specs.Runs.{Run, start, ◌▸◌, Comparison, size, shows, First}
 use Rattle.alike.specs.Calls.{Front, first_stopped, second_stopped, stopped, ready, front, Compared, Owed}
-use Rattle.alike.specs.declared.Likeness.{Likeness}
-use Rattle.alike.specs.declared.Likeness.TheVariants as told
+use Rattle.std.specs.Prelude.{Some, None, Ok, Err}
+use Rattle.alike.specs.declared.NotCompared.TheVariants as told
+use Rattle.foldheron.specs.Answers.{Likeness}
 use Rattle.alike.proofs.OneAnswer.{one_likeness}
 use Rattle.maze.specs.Views.{view}
 use Rattle.maze.proofs.OneAnswer.{one_answer}
@@ -29,7 +30,7 @@ unfolding shows size
 some_set m start f e = f.is_shown
 some_set m (r ▸ s) f e = absurd (omega (arith, e))
 
-different_somewhere : (f : Front) (n : ℕ) (before after : List ℕ) → Owed f (told.Different n) before after → n ≡ 0 → ⊥
+different_somewhere : (f : Front) (n : ℕ) (before after : List ℕ) → Owed f (Ok (Some n)) before after → n ≡ 0 → ⊥
 unfolding Owed Compared
 different_somewhere (first_stopped k at) n before after o e = let d = o.0 in let z : ◌≡◌ {A = ℕ} 0 1 = cc in absurd (omega arith)
 different_somewhere (second_stopped k at) n before after o e = let d = o.0 in let z : ◌≡◌ {A = ℕ} 0 1 = cc in absurd (omega arith)
@@ -37,14 +38,14 @@ different_somewhere (stopped k) n before after o e = let d = o.0 in let z : ◌�
 different_somewhere (ready g h) n before after o e = some_set _ o.0 o.1 (sym o.3 ∙ e)
 
 pub no_length_is_alike : (first second run after values : List ℕ) (c : Compares first second run after values) → get_or values 0 0 ≡ 0 → get_or values 3 0 ≡ 0
-    → c.likeness ≡ told.Alike
+    → c.likeness ≡ Ok None
 unfolding likeness_values
 no_length_is_alike first second run after values c z l =
     go c.likeness c.owed (sym (ap (λ (v : List ℕ). get_or v 0 0) c.its_values) ∙ z) (sym (ap (λ (v : List ℕ). get_or v 3 0) c.its_values) ∙ l)
   where
-    go : (a : Likeness) → Owed (front first second run) a run after → get_or (likeness_values a) 0 0 ≡ 0 → get_or (likeness_values a) 3 0 ≡ 0 → a ≡ told.Alike
-    go told.Alike o z l = refl
-    go (told.Different n) o z l = absurd (different_somewhere (front first second run) n run after o l)
-    go (told.First w at) o z l = absurd (number_above w z)
-    go (told.Second w at) o z l = absurd (number_above w z)
-    go (told.Refused w) o z l = absurd (number_above w z)
+    go : (a : Likeness) → Owed (front first second run) a run after → get_or (likeness_values a) 0 0 ≡ 0 → get_or (likeness_values a) 3 0 ≡ 0 → a ≡ Ok None
+    go (Ok None) o z l = refl
+    go (Ok (Some n)) o z l = absurd (different_somewhere (front first second run) n run after o l)
+    go (Err (told.First r)) o z l = absurd (number_above r.why z)
+    go (Err (told.Second r)) o z l = absurd (number_above r.why z)
+    go (Err (told.Both w)) o z l = absurd (number_above w z)

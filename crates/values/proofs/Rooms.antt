@@ -4,7 +4,7 @@ use mathlib.Core.Path.{◌≡◌, refl, sym, ap}
 use mathlib.Core.Bool.{Bool, true, false, cond}
 use mathlib.Core.List.{List}
 use mathlib.Core.Option.{Option, none, some}
-use Prim.Native.Nat.{ℕ, ◌+◌, ◌≤◌}
+use Prim.Native.Nat.{ℕ, ◌+◌}
 use native.Mathlib.Omega.{arith}
 use borrow.Author.Tests.{ne_eqb, le-ltb}
 use Rattle.sets.specs.Words.{bits}
@@ -15,7 +15,7 @@ use Rattle.reaction.specs.Instants.{block_of}
 use Rattle.records.specs.StateRecord.{undeclared_input}
 use Rattle.mazes.specs.Mazes.{Room, signal, of_form, maze_of, nth}
 use Rattle.maze.specs.Views.{View, refused, shown, FORM, view, try_block, try_inputs, try_form}
-use Rattle.maze.specs.Ways.{Way, no_room, way_by, way_in, has_room}
+use Rattle.maze.specs.Ways.{no_room, way_by, way_in, has_room}
 use Rattle.values.specs.Asking.{room_for}
 use Rattle.values.specs.Whole.{room_by, way_from}
 

@@ -9,7 +9,7 @@ use native.Mathlib.Omega.{arith}
 use lib.Dec.{lit≤, ltb}
 use lib.ListN.{length}
 use Rattle.sets.specs.Words.{bits}
-use Rattle.block.specs.Format.{LIMIT, reading}
+use Rattle.block.specs.Format.{LIMIT}
 use Rattle.block.proofs.GoodReadings.{numbers}
 use Rattle.reaction.specs.Instants.{block_of}
 use Rattle.writing.specs.Answers.{writes, refuses, roomed, wrote_owed}
@@ -19,13 +19,12 @@ use Rattle.converting.specs.Format.{Reading₂, good₂, turned_down₂, reading
 use Rattle.converting.specs.Conversions.{converting, converting_of, converting_tree}
 use Rattle.converting.proofs.Numbers.{SmallReading, reading_small}
 use Rattle.doubled.specs.Copies.{doubling, doubling_of, doubled_writing, doubled, doubled_header, within_limits}
-use Rattle.alike.specs.declared.Likeness.{Likeness}
-use Rattle.alike.specs.declared.Likeness.TheVariants as told
+use Rattle.std.specs.Prelude.{Some, None, Ok, Err}
+use Rattle.alike.specs.declared.NotCompared.TheVariants as told
+use Rattle.foldheron.specs.Answers.{Likeness, Maze}
 use Rattle.mazes.specs.Mazes.{Room, signal, part, gate, dungeon, Corridor, visible, secret, maze_of, nth}
-use Rattle.maze.specs.Views.{View, refused, shown}
+use Rattle.maze.specs.Views.{View}
 use Rattle.maze.specs.Ways.{way_by, way_in, no_room, has_room}
-use Rattle.maze.specs.declared.Maze.{Maze}
-use Rattle.maze.specs.declared.Maze.TheVariants as viewed
 use Rattle.values.specs.Whole.{likeness_values, maze_values, doubling_owed, conversion_owed, way_from, room_values, way_values, corridor_owed}
 use Rattle.values.proofs.Counts.{Counted, by_reading, why_small}
 use Rattle.values.proofs.Rooms.{by_view}
@@ -33,11 +32,11 @@ use Rattle.values.proofs.Rooms.{by_view}
 -- Two blocks compared.
 pub likeness_counted : (l : Likeness) → Counted 4 (likeness_values l)
 unfolding likeness_values
-likeness_counted told.Alike = record { counted = refl; small = lit≤ tt }
-likeness_counted (told.Different n) = record { counted = refl; small = lit≤ tt }
-likeness_counted (told.First w at) = record { counted = refl; small = why_small w }
-likeness_counted (told.Second w at) = record { counted = refl; small = why_small w }
-likeness_counted (told.Refused w) = record { counted = refl; small = why_small w }
+likeness_counted (Ok None) = record { counted = refl; small = lit≤ tt }
+likeness_counted (Ok (Some n)) = record { counted = refl; small = lit≤ tt }
+likeness_counted (Err (told.First r)) = record { counted = refl; small = why_small r.why }
+likeness_counted (Err (told.Second r)) = record { counted = refl; small = why_small r.why }
+likeness_counted (Err (told.Both w)) = record { counted = refl; small = why_small w }
 
 -- Loops doubled.
 wrote_counted : (t : Bool) (bs : List ℕ) (n at : ℕ) → n ≤ 63 → Counted 3 (wrote_owed (cond t (refuses n at) (writes bs)))
@@ -73,8 +72,8 @@ doubling_counted b out =
 -- The maze, and a corridor of it.
 pub maze_counted : (m : Maze) → Counted 5 (maze_values m)
 unfolding maze_values
-maze_counted (viewed.Rooms r) = record { counted = refl; small = lit≤ tt }
-maze_counted (viewed.Refused w at) = record { counted = refl; small = why_small w }
+maze_counted (Ok r) = record { counted = refl; small = lit≤ tt }
+maze_counted (Err r) = record { counted = refl; small = why_small r.why }
 
 three_numbers : (r : Room) → length (room_values r) ≡ 3
 three_numbers (signal s) = refl

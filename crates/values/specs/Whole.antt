@@ -1,5 +1,5 @@
 -- The values of the calls on whole blocks, in their order: two blocks compared, loops doubled, edition 2 converted, blocks as text, the maze and its corridors. Assumes nothing.
-use Rattle.std.specs.Prelude.{◌≡◌, cond, List, [], ◌∷◌, ℕ, eqb, length}
+use Rattle.std.specs.Prelude.{◌≡◌, cond, List, [], ◌∷◌, ℕ, eqb, length, Some, None, Ok, Err}
 use Rattle.std.proofs.Math.Option.{Option, none, some}
 use Rattle.refusals.specs.Refusals.{number}
 use Rattle.mazes.specs.Mazes.{Room, signal, part, gate, dungeon, visible, secret}
@@ -9,20 +9,18 @@ use Rattle.converting.specs.Conversions.{converting}
 use Rattle.text.specs.Reader.{text_read}
 use Rattle.write_text.specs.WriteText.{text_writing}
 use Rattle.alike.specs.Calls.{front, Owed}
-use Rattle.alike.specs.declared.Likeness.{Likeness}
-use Rattle.alike.specs.declared.Likeness.TheVariants as told
+use Rattle.alike.specs.declared.NotCompared.TheVariants.{First, Second, Both}
 use Rattle.maze.specs.Views.{View, refused, shown, view, Views}
 use Rattle.maze.specs.Ways.{Way, turned, no_room, no_more, leads, way_in}
-use Rattle.maze.specs.declared.Maze.{Maze}
-use Rattle.maze.specs.declared.Maze.TheVariants as viewed
+use Rattle.foldheron.specs.Answers.{Likeness, Maze}
 
 -- A comparison's: number, place, which block is turned down (1 the first, 2 the second), and the size of the run, 0 where the two are alike.
 unfoldable pub likeness_values : Likeness → List ℕ
-likeness_values told.Alike = 0 ∷ 0 ∷ 0 ∷ 0 ∷ []
-likeness_values (told.Different n) = 0 ∷ 0 ∷ 0 ∷ n ∷ []
-likeness_values (told.First w at) = number w ∷ at ∷ 1 ∷ 0 ∷ []
-likeness_values (told.Second w at) = number w ∷ at ∷ 2 ∷ 0 ∷ []
-likeness_values (told.Refused w) = number w ∷ 0 ∷ 0 ∷ 0 ∷ []
+likeness_values (Ok None) = 0 ∷ 0 ∷ 0 ∷ 0 ∷ []
+likeness_values (Ok (Some n)) = 0 ∷ 0 ∷ 0 ∷ n ∷ []
+likeness_values (Err (First r)) = number r.why ∷ r.place ∷ 1 ∷ 0 ∷ []
+likeness_values (Err (Second r)) = number r.why ∷ r.place ∷ 2 ∷ 0 ∷ []
+likeness_values (Err (Both w)) = number w ∷ 0 ∷ 0 ∷ 0 ∷ []
 
 -- Values are those of an answer that two blocks and a run are owed, and the run's bytes are as it says afterwards.
 pub record Compares (first second run after values : List ℕ) : Type 0 where
@@ -60,8 +58,8 @@ block_leaves text out = out_owed (roomed (text_read text) (length out)) out
 
 -- A maze's: number, place, and the signals whose rooms win, lose and draw.
 unfoldable pub maze_values : Maze → List ℕ
-maze_values (viewed.Rooms r) = 0 ∷ 0 ∷ r.winning ∷ r.losing ∷ r.drawn ∷ []
-maze_values (viewed.Refused w at) = number w ∷ at ∷ 0 ∷ 0 ∷ 0 ∷ []
+maze_values (Ok r) = 0 ∷ 0 ∷ r.winning ∷ r.losing ∷ r.drawn ∷ []
+maze_values (Err r) = number r.why ∷ r.place ∷ 0 ∷ 0 ∷ 0 ∷ []
 
 -- Values are those of an answer that is the maze view of a block with an input set.
 pub record ShowsMaze (b : List ℕ) (given : ℕ) (values : List ℕ) : Type 0 where

@@ -4,11 +4,11 @@
 
 pub mod whole;
 
-ghost use Rattle.std.specs.Prelude.{◌≡◌, length};
+ghost use Rattle.std.specs.Prelude.{◌≡◌, length, Err};
 ghost use Rattle.block.specs.Format.{reading};
 ghost use Rattle.reaction.specs.Instants.{told, state_after, log_after, end_after, instant_verdict, logged_verdict, heard_verdict, heard_logged_verdict};
 ghost use Rattle.reaction.specs.declared.Given.TheVariants.{All, Two};
-ghost use Rattle.foldheron.specs.Answers.{check_owed, begun_owed, state_owed, part_owed, part_values};
+ghost use Rattle.foldheron.specs.Answers.{check_owed, begun_owed, state_owed, part_owed, part_values, answer_in, end_in};
 ghost use Rattle.reaction.specs.Answers.{instant_told};
 ghost use Rattle.shelf.specs.Answered.{shelved_values};
 ghost use Rattle.reasons.specs.Taking.{asked_of};
@@ -16,16 +16,15 @@ ghost use Rattle.foldheron.specs.Reasons.{reason_values};
 ghost use Rattle.values.specs.Asking.{question_for};
 ghost use Rattle.values.specs.Calls.{logged_values, asked_by, told_why, install_owed, install_leaves, fetch_owed, fetch_leaves, withdraw_owed, withdraw_leaves};
 
-use foldheron::{Asked, Begun, Checked, Instant, Reason, Shelved, number_of};
+use foldheron::{Asked, Logged, Reaction, Refused, Stopped, Unanswered, number_of};
 use records::parts::copy_at;
 
 // Number, place, version, inputs, outputs, locals, statements, pauses.
 pub fn check(block: &[u8]) -> [u64; 8]
     ensures { result ≡ check_owed (reading block.now) }
 {
-    let checked = foldheron::check(block);
-    match checked {
-        Checked::Good(s) => [
+    match foldheron::check(block) {
+        Ok(s) => [
             0,
             0,
             s.version as u64,
@@ -35,29 +34,33 @@ pub fn check(block: &[u8]) -> [u64; 8]
             s.statements as u64,
             s.pauses as u64,
         ],
-        Checked::Refused(why, place) => [number_of(why) as u64, place as u64, 0, 0, 0, 0, 0, 0],
+        Err(r) => [number_of(r.why) as u64, r.place as u64, 0, 0, 0, 0, 0, 0],
     }
 }
 
 // Number, place.
+fn done(answer: Result<(), Refused>) -> [u64; 2]
+    ensures { result ≡ shelved_values answer }
+{
+    match answer {
+        Ok(()) => [0, 0],
+        Err(r) => [number_of(r.why) as u64, r.place as u64],
+    }
+}
+
 pub fn fresh(block: &[u8], state: &mut [u8]) -> [u64; 2]
     ensures value { result ≡ begun_owed (reading block.now) state.old }
     ensures state_after { state.new ≡ state_owed (reading block.now) state.old }
 {
-    let begun = foldheron::fresh(block, state);
-    match begun {
-        Begun::Fresh => [0, 0],
-        Begun::TurnedDown(why, place) => [number_of(why) as u64, place as u64],
-    }
+    done(foldheron::fresh(block, state))
 }
 
 // Number, place, pair, present, absent and undecided outputs, rounds, code, active pauses, and the end of a log.
-fn told_values(answer: Instant, end: usize) -> [u64; 11]
+fn told_values(answer: Result<Reaction, Unanswered>, end: usize) -> [u64; 11]
     ensures { result ≡ logged_values (instant_told answer) end }
 {
-    let end = end as u64;
     match answer {
-        Instant::Answered(a) => [
+        Ok(a) => [
             0,
             0,
             0,
@@ -68,9 +71,17 @@ fn told_values(answer: Instant, end: usize) -> [u64; 11]
             a.rounds as u64,
             a.code.0 as u64,
             a.active as u64,
-            end,
+            end as u64,
         ],
-        Instant::NotConstructive(d) => [
+        Err(u) => unanswered(u, end as u64),
+    }
+}
+
+fn unanswered(u: Unanswered, end: u64) -> [u64; 11]
+    ensures { result ≡ logged_values (instant_told (Err u)) end }
+{
+    match u {
+        Unanswered::NotConstructive(d) => [
             13,
             0,
             0,
@@ -83,7 +94,7 @@ fn told_values(answer: Instant, end: usize) -> [u64; 11]
             0,
             end,
         ],
-        Instant::Clash(first, second) => [
+        Unanswered::Clash(first, second) => [
             10,
             0,
             first as u64,
@@ -96,9 +107,9 @@ fn told_values(answer: Instant, end: usize) -> [u64; 11]
             0,
             end,
         ],
-        Instant::Refused(why, place) => [
-            number_of(why) as u64,
-            place as u64,
+        Unanswered::Refused(r) => [
+            number_of(r.why) as u64,
+            r.place as u64,
             0,
             0,
             0,
@@ -109,6 +120,16 @@ fn told_values(answer: Instant, end: usize) -> [u64; 11]
             0,
             end,
         ],
+    }
+}
+
+// The same of an instant with a log: the end is 0 where nothing was logged.
+fn logged(answer: Result<Logged, Unanswered>) -> [u64; 11]
+    ensures { result ≡ logged_values (instant_told (answer_in answer)) (end_in answer) }
+{
+    match answer {
+        Ok(l) => told_values(Ok(l.reaction), l.end),
+        Err(u) => told_values(Err(u), 0),
     }
 }
 
@@ -132,9 +153,7 @@ pub fn instant_logged(
     ensures state_after { state.new ≡ state_after state.old (logged_verdict block.now state.old inputs log.old end) }
     ensures log_after { log.new ≡ log_after log.old end (All inputs) (logged_verdict block.now state.old inputs log.old end) }
 {
-    let logged = foldheron::instant_logged(block, state, inputs, log, end);
-    let answer = logged.answer;
-    told_values(answer, logged.end)
+    logged(foldheron::instant_logged(block, state, inputs, log, end))
 }
 
 // The same for two sets of inputs.
@@ -158,22 +177,17 @@ pub fn instant_heard_logged(
     ensures state_after { state.new ≡ state_after state.old (heard_logged_verdict block.now state.old present absent log.old end) }
     ensures log_after { log.new ≡ log_after log.old end (Two present absent) (heard_logged_verdict block.now state.old present absent log.old end) }
 {
-    let logged = foldheron::instant_heard_logged(block, state, present, absent, log, end);
-    let answer = logged.answer;
-    told_values(answer, logged.end)
+    logged(foldheron::instant_heard_logged(block, state, present, absent, log, end))
 }
 
 // Number, place, and the offset and size of the part of the block.
 pub fn excerpt(block: &[u8], n: usize) -> [u64; 4]
     ensures { result ≡ part_values (part_owed (reading block.now) n) }
 {
-    let part = foldheron::part_of(block, n);
-    [
-        part.number as u64,
-        part.place as u64,
-        part.offset as u64,
-        part.size as u64,
-    ]
+    match foldheron::part_of(block, n) {
+        Ok(part) => [0, 0, part.offset as u64, part.size as u64],
+        Err(r) => [number_of(r.why) as u64, r.place as u64, 0, 0],
+    }
 }
 
 // What is asked by number. Another number asks about statement 512, which no block has, so that it is answered as a thing that is not so.
@@ -189,13 +203,21 @@ fn asked_by(asked: u16, about: usize) -> Asked
 }
 
 // Number, place, pair, and the statement that is named.
-fn reasoned(answer: Reason) -> [u64; 5]
+fn reasoned(answer: Result<usize, Stopped>) -> [u64; 5]
     ensures { result ≡ reason_values answer }
 {
     match answer {
-        Reason::Statement(n) => [0, 0, 0, 0, n as u64],
-        Reason::Clash(first, second) => [10, 0, first as u64, second as u64, 0],
-        Reason::Refused(why, place) => [number_of(why) as u64, place as u64, 0, 0, 0],
+        Ok(n) => [0, 0, 0, 0, n as u64],
+        Err(s) => stopped(s),
+    }
+}
+
+fn stopped(s: Stopped) -> [u64; 5]
+    ensures { result ≡ reason_values (Err s) }
+{
+    match s {
+        Stopped::Clash(first, second) => [10, 0, first as u64, second as u64, 0],
+        Stopped::Refused(r) => [number_of(r.why) as u64, r.place as u64, 0, 0, 0],
     }
 }
 
@@ -213,21 +235,11 @@ pub fn reason(
     reasoned(foldheron::reason(block, state, present, absent, question))
 }
 
-// Number, place.
-fn shelved(answer: Shelved) -> [u64; 2]
-    ensures { result ≡ shelved_values answer }
-{
-    match answer {
-        Shelved::Done => [0, 0],
-        Shelved::TurnedDown(why, place) => [number_of(why) as u64, place as u64],
-    }
-}
-
 pub fn install(shelf: &mut [u8], party: u16, name: u16, block: &[u8]) -> [u64; 2]
     ensures value { result ≡ install_owed shelf.old party name block.now }
     ensures shelf_after { shelf.new ≡ install_leaves shelf.old party name block.now }
 {
-    shelved(foldheron::install(shelf, party, name, block))
+    done(foldheron::install(shelf, party, name, block))
 }
 
 // Number, place, and how many bytes the block has, which is copied to the front of the lent ones.
@@ -236,16 +248,18 @@ pub fn fetch(shelf: &[u8], party: u16, name: u16, block: &mut [u8]) -> [u64; 3]
     ensures value { result ≡ fetch_owed shelf.now party name }
     ensures block_after { block.new ≡ fetch_leaves shelf.now party name block.old }
 {
-    let mut number: u16 = 0;
-    let mut place: usize = 0;
-    let part = foldheron::fetch(shelf, party, name, &mut number, &mut place);
-    copy_at(block, 0, part);
-    [number as u64, place as u64, part.len() as u64]
+    match foldheron::fetch(shelf, party, name) {
+        Ok(part) => {
+            copy_at(block, 0, part);
+            [0, 0, part.len() as u64]
+        }
+        Err(r) => [number_of(r.why) as u64, r.place as u64, 0],
+    }
 }
 
 pub fn withdraw(shelf: &mut [u8], party: u16, name: u16) -> [u64; 2]
     ensures value { result ≡ withdraw_owed shelf.old party name }
     ensures shelf_after { shelf.new ≡ withdraw_leaves shelf.old party name }
 {
-    shelved(foldheron::withdraw(shelf, party, name))
+    done(foldheron::withdraw(shelf, party, name))
 }

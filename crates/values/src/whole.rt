@@ -1,23 +1,30 @@
 // The calls on whole blocks: two compared, loops doubled, edition 2 converted, blocks as text, the maze and its corridors.
-ghost use Rattle.std.specs.Prelude.{◌≡◌, ◌∷◌};
+ghost use Rattle.std.specs.Prelude.{◌≡◌, ◌∷◌, Err};
 ghost use Rattle.writing.specs.Answers.{wrote_values};
-ghost use Rattle.maze.specs.Ways.{room_of, way_told};
+ghost use Rattle.maze.specs.Ways.{room_of, corridor_told, way_told};
 ghost use Rattle.values.specs.Asking.{room_for};
 ghost use Rattle.values.specs.Whole.{likeness_values, Compares, doubling_owed, doubling_leaves, conversion_owed, conversion_leaves, text_owed, text_leaves, block_owed, block_leaves};
 ghost use Rattle.values.specs.Whole.{maze_values, ShowsMaze, room_by, room_values, way_values, corridor_owed};
 
-use foldheron::{Corridor, Likeness, Maze, Room, Wrote, number_of};
+use foldheron::{Corridor, NotCompared, Refused, Room, Rooms, number_of};
 
 // Number, place, which block, and the size of the run.
-fn compared(answer: Likeness) -> [u64; 4]
+fn compared(answer: Result<Option<usize>, NotCompared>) -> [u64; 4]
     ensures { result ≡ likeness_values answer }
 {
     match answer {
-        Likeness::Alike => [0, 0, 0, 0],
-        Likeness::Different(size) => [0, 0, 0, size as u64],
-        Likeness::First(why, place) => [number_of(why) as u64, place as u64, 1, 0],
-        Likeness::Second(why, place) => [number_of(why) as u64, place as u64, 2, 0],
-        Likeness::Refused(why) => [number_of(why) as u64, 0, 0, 0],
+        Ok(run) => [0, 0, 0, run.unwrap_or(0) as u64],
+        Err(e) => not_compared(e),
+    }
+}
+
+fn not_compared(e: NotCompared) -> [u64; 4]
+    ensures { result ≡ likeness_values (Err e) }
+{
+    match e {
+        NotCompared::First(r) => [number_of(r.why) as u64, r.place as u64, 1, 0],
+        NotCompared::Second(r) => [number_of(r.why) as u64, r.place as u64, 2, 0],
+        NotCompared::Both(why) => [number_of(why) as u64, 0, 0, 0],
     }
 }
 
@@ -28,12 +35,12 @@ pub fn alike(first: &[u8], second: &[u8], run: &mut [u8]) -> [u64; 4]
 }
 
 // Number, place, and how many bytes were written.
-fn wrote(answer: Wrote) -> [u64; 3]
+fn wrote(answer: Result<usize, Refused>) -> [u64; 3]
     ensures { result ≡ wrote_values answer }
 {
     match answer {
-        Wrote::Bytes(size) => [0, 0, size as u64],
-        Wrote::Refused(why, place) => [number_of(why) as u64, place as u64, 0],
+        Ok(size) => [0, 0, size as u64],
+        Err(r) => [number_of(r.why) as u64, r.place as u64, 0],
     }
 }
 
@@ -66,12 +73,12 @@ pub fn read_text(text: &[u8], block: &mut [u8]) -> [u64; 3]
 }
 
 // Number, place, and the signals whose rooms win, lose and draw.
-fn viewed(answer: Maze) -> [u64; 5]
+fn viewed(answer: Result<Rooms, Refused>) -> [u64; 5]
     ensures { result ≡ maze_values answer }
 {
     match answer {
-        Maze::Rooms(r) => [0, 0, r.winning, r.losing, r.drawn],
-        Maze::Refused(why, place) => [number_of(why) as u64, place as u64, 0, 0, 0],
+        Ok(r) => [0, 0, r.winning, r.losing, r.drawn],
+        Err(r) => [number_of(r.why) as u64, r.place as u64, 0, 0, 0],
     }
 }
 
@@ -106,16 +113,24 @@ fn leading(way: u64, room: Room) -> [u64; 6]
     }
 }
 
-// Number, place, which corridor, and the room that it leads to.
-fn led(answer: Corridor) -> [u64; 6]
-    ensures { result ≡ way_values (way_told answer) }
+fn shown(corridor: Corridor) -> [u64; 6]
+    ensures { result ≡ way_values (corridor_told corridor) }
 {
-    match answer {
+    match corridor {
         Corridor::Visible(room) => leading(1, room),
         Corridor::Secret(room) => leading(2, room),
         Corridor::NoMore => [0, 0, 0, 0, 0, 0],
         Corridor::NoRoom => [0, 0, 3, 0, 0, 0],
-        Corridor::Refused(why, place) => [number_of(why) as u64, place as u64, 0, 0, 0, 0],
+    }
+}
+
+// Number, place, which corridor, and the room that it leads to.
+fn led(answer: Result<Corridor, Refused>) -> [u64; 6]
+    ensures { result ≡ way_values (way_told answer) }
+{
+    match answer {
+        Ok(found) => shown(found),
+        Err(r) => [number_of(r.why) as u64, r.place as u64, 0, 0, 0, 0],
     }
 }
 

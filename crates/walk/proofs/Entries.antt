@@ -2,7 +2,7 @@
 -- differ in has no member of it.
 -- Assumes nothing.
 use mathlib.Core.Path.{◌≡◌, refl, sym, ap, ap₂, ◌∙◌, subst, subst⁻¹}
-use mathlib.Core.Bool.{Bool, true, false, cond, xor, ◌&&◌, ◌||◌}
+use mathlib.Core.Bool.{Bool, true, false, not, cond, xor, ◌&&◌, ◌||◌}
 use mathlib.Core.List.{List}
 use Prim.Native.Nat.{ℕ, ◌+◌, ◌*◌, ◌/◌, ◌%◌, ◌<◌}
 use native.Mathlib.Omega.{arith}
@@ -11,14 +11,13 @@ use lib.ListN.{length, get_or, set, length-set}
 use lib.Seq.{get_or-set_same, get_or-set_other, lt-length-set}
 use borrow.Author.Tests.{eqb-true, eqb-false}
 use lib.Bits.{bit_and, bit_or, bit_xor}
-use Rattle.sets.specs.Numbers.{Numbers}
 use Rattle.sets.specs.Words.{bits}
 use Rattle.sets.proofs.Members.{ext}
 use Rattle.sets.proofs.Words.{bits_zero, bits_and, bits_or, bits_xor}
 use Rattle.rules.specs.Events.{unknown, status_of}
 use Rattle.rules.specs.MustCan.{Mark, plus, opened}
 use Rattle.theorems.specs.Order.{Agree}
-use Rattle.tables.specs.Table.{Table}
+use Rattle.tables.specs.declared.Table.{Table}
 use Rattle.words.specs.declared.events.Heard.{Heard}
 use Rattle.words.specs.declared.events.Seen.{Seen}
 use Rattle.words.specs.declared.events.Seen.TheVariants.{Present, Absent, Unknown}
@@ -28,6 +27,8 @@ use Rattle.forms.specs.declared.form.Going.TheVariants.{Started, Resumed, Held, 
 use Rattle.forms.specs.declared.form.Task.{Task}
 use Rattle.forms.specs.declared.form.Form.TheVariants.{Same}
 use Rattle.walk.specs.declared.memo.Entry.{Entry}
+use denote.Enum.Bare.{sameb}
+use Rattle.words.specs.contracts.events.Seen.{the_type as seen_type}
 use Rattle.walk.specs.Memo.{WalkedOn, going_number, mark_number, tag_of, Remembers, entry_of, Sound, known_on}
 
 abbrev going_from : ℕ → Going
@@ -339,6 +340,12 @@ tag_is c m p q r = λ i. 8 * p i + 2 * q i + r i
 
 pub known_word : (e : Heard) (w : ℕ) → bits (bit_and w (bit_or e.present e.absent)) ≡ known_on e (bits w)
 known_word e w = ext (λ n. bits_and w (bit_or e.present e.absent) n ∙ ap (λ (y : Bool). bits w n && y) (bits_or e.present e.absent n))
+
+-- A status that is not unknown, by the test.
+pub known_seen : (v : Seen) {b : Bool} → b ≡ not (sameb seen_type v Unknown) → b ≡ true → v ≡ Unknown → ⊥
+known_seen Present e t q = let z : ◌≡◌ {A = ℕ} 0 1 = cc in omega arith
+known_seen Absent e t q = let z : ◌≡◌ {A = ℕ} 0 1 = cc in omega arith
+known_seen Unknown e t q = let z : ◌≡◌ {A = ℕ} 0 1 = ap (λ (x : Bool). cond x 0 1) (sym t ∙ e) in omega arith
 
 pub still_open : (v : Seen) → seen_as v ≡ unknown → v ≡ Unknown
 still_open Present e = absurd (let z : ◌≡◌ {A = ℕ} 0 1 = cc in omega arith)

@@ -2,7 +2,7 @@
 -- every question that takes it. A local's status that was settled at one event is the same at every event above it.
 -- Assumes nothing.
 use mathlib.Core.Path.{◌≡◌, refl, sym, ap, ap₂, ◌∙◌, subst, subst⁻¹}
-use mathlib.Core.Bool.{Bool, true, false, cond, ◌&&◌, ◌||◌}
+use mathlib.Core.Bool.{Bool, true, false, ◌||◌}
 use mathlib.Core.List.{List}
 use Prim.Native.Nat.{ℕ, ◌+◌, ◌*◌, ◌<◌, max}
 use native.Mathlib.Omega.{arith}
@@ -11,29 +11,27 @@ use lib.ListN.{get_or}
 use lib.Bits.{bit_or}
 use Rattle.sets.specs.Numbers.{Numbers, single, union, without, Within}
 use Rattle.sets.specs.Words.{bits}
-use Rattle.sets.proofs.Members.{and_in, single_in, union_right, within_refl, within_eq, within_left, without_mono, union_least, within_trans, within_empty}
+use Rattle.sets.proofs.Members.{and_in, single_in, union_right, within_refl, within_eq, within_left, without_mono, union_least, within_trans}
 use Rattle.rules.specs.Statements.{depth, code}
 use Rattle.rules.specs.Events.{Status, present, absent, unknown, Event, giving, status_of}
 use Rattle.rules.specs.Instant.{Step, leave, test}
 use Rattle.rules.specs.MustCan.{Mark, plus, opened, Question, must, can, Given, nothing_known, either, caught, both, followed, onward, absence_asked, local_status, hidden, gives}
-use Rattle.theorems.specs.Order.{Below, ◌⊑◌, Agree, BelowOn}
-use Rattle.theorems.proofs.Compare.{below_refl}
+use Rattle.theorems.specs.Order.{Below, Agree, BelowOn}
 use Rattle.theorems.proofs.Remembered.{agree_left, agree_right, agree_inside, filled, filled_below, filled_agrees, status_rises}
-use Rattle.tables.specs.Table.{Table}
+use Rattle.tables.specs.declared.Table.{Table}
 use Rattle.words.specs.declared.events.Heard.{Heard}
 use Rattle.words.specs.declared.given.GivenWords.{GivenWords}
 use Rattle.words.specs.declared.given.MustCan.{MustCan}
-use Rattle.words.specs.declared.events.Seen.{Seen}
 use Rattle.tables.specs.declared.kinds.Depth.{Depth}
 use Rattle.forms.specs.declared.form.Task.{Task}
 use Rattle.forms.specs.declared.form.Form.{Form}
 use Rattle.forms.specs.declared.form.Form.TheVariants.{Done, Stay, Keep, Say, Leave, Test, Catch, Scope, Chain, Beside, Same}
-use Rattle.words.specs.Words.{event_of, seen_as, given_of, quiet, loud}
+use Rattle.words.specs.Words.{event_of, given_of, quiet, loud}
 use Rattle.words.proofs.WordLaws.{union_is}
 use Rattle.forms.specs.Forms.{Placed, Live, Shows, Under, Formed}
 use Rattle.walk.specs.declared.memo.Found.{Found}
 use Rattle.walk.specs.declared.memo.Entry.{Entry}
-use Rattle.walk.specs.Walks.{Doubted, Caught, Both, Followed, Hidden, Gives, Walked}
+use Rattle.walk.specs.Walks.{Doubted, Caught, Both, Followed, Hidden, Walked}
 use Rattle.walk.specs.Memo.{GivesOn, WalkedOn, known_on, Settling}
 use Rattle.forms.proofs.FormLaws.{formed}
 

@@ -1,12 +1,12 @@
 -- What a walk keeps, and when that is true. Assumes nothing.
 use Rattle.std.specs.Prelude.{◌≡◌, Bool, ◌&&◌, ◌||◌, List, ℕ, ◌+◌, ◌*◌, ◌/◌, ◌%◌, ◌<◌, length, get_or}
-use Rattle.sets.specs.Numbers.{Numbers, single, union, without}
+use Rattle.sets.specs.Numbers.{Numbers}
 use Rattle.sets.specs.Words.{bits}
-use Rattle.rules.specs.Events.{Status, unknown, Event}
+use Rattle.rules.specs.Events.{unknown, Event}
 use Rattle.rules.specs.Instant.{Step}
 use Rattle.rules.specs.MustCan.{Mark, plus, opened, Question, must, can, local_status, gives}
 use Rattle.theorems.specs.Order.{Agree}
-use Rattle.tables.specs.Table.{Table}
+use Rattle.tables.specs.declared.Table.{Table}
 use Rattle.words.specs.declared.events.Heard.{Heard}
 use Rattle.words.specs.declared.given.GivenWords.{GivenWords}
 use Rattle.words.specs.Words.{event_of, given_of}

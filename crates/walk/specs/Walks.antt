@@ -3,7 +3,7 @@ use Rattle.std.specs.Prelude.{◌≡◌, Bool, List, ℕ}
 use Rattle.sets.specs.Numbers.{Numbers}
 use Rattle.rules.specs.Instant.{Step}
 use Rattle.rules.specs.MustCan.{Mark, plus, must, can, Question, nothing_known, either, caught, both, followed, hidden, gives}
-use Rattle.tables.specs.Table.{Table}
+use Rattle.tables.specs.declared.Table.{Table}
 use Rattle.words.specs.declared.events.Heard.{Heard}
 use Rattle.words.specs.declared.given.GivenWords.{GivenWords}
 use Rattle.words.specs.declared.given.MustCan.{MustCan}

@@ -8,13 +8,13 @@ ghost use Rattle.std.specs.Int.Bits.{bit_or};
 ghost use Rattle.sets.specs.Numbers.{single, union, without};
 ghost use Rattle.sets.specs.Words.{bits};
 ghost use Rattle.words.specs.Words.{mark_of};
-ghost use Rattle.tables.specs.Table.{table_of};
 ghost use Rattle.forms.specs.Forms.{Placed, Formed};
 ghost use Rattle.walk.specs.Walks.{Caught, Both, Followed, Hidden, Doubted, Walked};
 ghost use Rattle.walk.specs.Memo.{WalkedOn, Sound, Settling, known_on};
 
-use crate::memo::{Entry, Found, entry_at, is_known, known_reads, note, recalls, settles, tag_of};
+use crate::memo::{Entry, Found, entry_at, known_reads, note, recalls, settles, tag_of};
 use forms::form::{Form, Going, Task, resumed_form, started_form};
+use tables::Table;
 use tables::kinds::{Code, code_of, wide};
 use words::events::{Heard, Seen, bit, heard_with, status_at};
 use words::given::{
@@ -135,21 +135,15 @@ fn hidden_after(s: u16, x: Entry, a: Found) -> Found
 }
 
 // What the task asks, as `form_of` says it. This walk has a function of its own for that: with one caller it is compiled into the walk.
-fn walk_form(
-    kinds: &[u16; 512],
-    operands: &[u16; 512],
-    sizes: &[u16; 512],
-    live: &[bool; 512],
-    task: Task,
-) -> Form
-    requires { Placed (table_of kinds.now operands.now sizes.now) task.at }
-    ensures { Formed (table_of kinds.now operands.now sizes.now) live.now task result }
+fn walk_form(table: &Table, live: &[bool; 512], task: Task) -> Form
+    requires { Placed table.now task.at }
+    ensures { Formed table.now live.now task result }
 {
     let at = task.at;
     let going = task.going;
     match going {
-        Going::Started => started_form(kinds, operands, sizes, at),
-        Going::Resumed => resumed_form(kinds, operands, sizes, live, at),
+        Going::Started => started_form(table, at),
+        Going::Resumed => resumed_form(table, live, at),
         Going::Held => Form::Keep(at),
         Going::Idle => Form::Done,
     }
@@ -157,17 +151,13 @@ fn walk_form(
 
 // Whether what is found of a task is worth an entry: two parts and more than eight statements, in a block of more than 63. The kinds with two parts are odd; the other odd
 // ones have no parts, and so no eight statements. Below these sizes an entry takes longer than the walk; `react` lends no room for it either.
-fn is_kept(kinds: &[u16; 512], sizes: &[u16; 512], task: Task) -> bool
+fn is_kept(table: &Table, task: Task) -> bool
     requires { task.at < 512 }
 {
-    let at = task.at;
-    let going = task.going;
-    match going {
-        Going::Started => sizes[0] > 63 && kinds[at] % 2 == 1 && sizes[at] > 8,
-        Going::Resumed => sizes[0] > 63 && kinds[at] % 2 == 1 && sizes[at] > 8,
-        Going::Held => false,
-        Going::Idle => false,
-    }
+    matches!(task.going, Going::Started | Going::Resumed)
+        && table.sizes[0] > 63
+        && table.kinds[task.at] % 2 == 1
+        && table.sizes[task.at] > 8
 }
 
 // Where what is found of a local's body with the signal unknown is kept. Nested locals have numbers near each other, so 16 places hold them apart.
@@ -203,28 +193,26 @@ fn task_entry(task: Task) -> usize
 // Can under a mark, and must if the mark is plus: what was kept of the task, or what is found now.
 #[cycle(walk_walk_body_walk_chain_walk_local_walk_now)]
 pub fn walk(
-    kinds: &[u16; 512],
-    operands: &[u16; 512],
-    sizes: &[u16; 512],
+    table: &Table,
     live: &[bool; 512],
     memo: &mut [u64],
     mark: Mark,
     task: Task,
     e: Heard,
 ) -> Found
-    requires { Placed (table_of kinds.now operands.now sizes.now) task.at × Sound (table_of kinds.now operands.now sizes.now) live.now memo.old }
-    ensures { WalkedOn (mark_of mark) (table_of kinds.now operands.now sizes.now) live.now (Form.Same task) e result
-        × Sound (table_of kinds.now operands.now sizes.now) live.now memo.new }
+    requires { Placed table.now task.at × Sound table.now live.now memo.old }
+    ensures { WalkedOn (mark_of mark) table.now live.now (Form.Same task) e result
+        × Sound table.now live.now memo.new }
 {
-    if is_kept(kinds, sizes, task) {
+    if is_kept(table, task) {
         let i = task_entry(task);
         let tag = tag_of(task, mark);
-        let old = entry_at(memo, i);
-        if recalls(old, tag, e) {
-            let found = old.found;
-            return found;
+        if let Some(old) = entry_at(memo, i) {
+            if recalls(old, tag, e) {
+                return old.found;
+            }
         }
-        let found = walk_now(kinds, operands, sizes, live, memo, mark, task, e);
+        let found = walk_now(table, live, memo, mark, task, e);
         let new = Entry {
             tag,
             event: e,
@@ -233,26 +221,24 @@ pub fn walk(
         note(memo, i, new);
         return found;
     }
-    walk_now(kinds, operands, sizes, live, memo, mark, task, e)
+    walk_now(table, live, memo, mark, task, e)
 }
 
 // By the task's form.
 #[cycle(walk_walk_body_walk_chain_walk_local_walk_now)]
 fn walk_now(
-    kinds: &[u16; 512],
-    operands: &[u16; 512],
-    sizes: &[u16; 512],
+    table: &Table,
     live: &[bool; 512],
     memo: &mut [u64],
     mark: Mark,
     task: Task,
     e: Heard,
 ) -> Found
-    requires { Placed (table_of kinds.now operands.now sizes.now) task.at × Sound (table_of kinds.now operands.now sizes.now) live.now memo.old }
-    ensures { WalkedOn (mark_of mark) (table_of kinds.now operands.now sizes.now) live.now (Form.Same task) e result
-        × Sound (table_of kinds.now operands.now sizes.now) live.now memo.new }
+    requires { Placed table.now task.at × Sound table.now live.now memo.old }
+    ensures { WalkedOn (mark_of mark) table.now live.now (Form.Same task) e result
+        × Sound table.now live.now memo.new }
 {
-    let form = walk_form(kinds, operands, sizes, live, task);
+    let form = walk_form(table, live, task);
     match form {
         Form::Done => sure(silent(Code(0))),
         Form::Stay(_) => sure(silent(Code(1))),
@@ -260,34 +246,28 @@ fn walk_now(
         Form::Say(s) => sure(saying(s)),
         Form::Leave(d) => sure(silent(code_of(d))),
         Form::Test(s, p, q) => match status_at(e, s) {
-            Seen::Present => tested(s, walk(kinds, operands, sizes, live, memo, mark, p, e)),
-            Seen::Absent => tested(s, walk(kinds, operands, sizes, live, memo, mark, q, e)),
+            Seen::Present => tested(s, walk(table, live, memo, mark, p, e)),
+            Seen::Absent => tested(s, walk(table, live, memo, mark, q, e)),
             Seen::Unknown => {
-                let a = walk(kinds, operands, sizes, live, memo, Mark::Open, p, e);
-                doubted(
-                    s,
-                    a,
-                    walk(kinds, operands, sizes, live, memo, Mark::Open, q, e),
-                )
+                let a = walk(table, live, memo, Mark::Open, p, e);
+                doubted(s, a, walk(table, live, memo, Mark::Open, q, e))
             }
         },
-        Form::Catch(p) => caught(walk(kinds, operands, sizes, live, memo, mark, p, e)),
-        Form::Scope(s, p) => walk_local(kinds, operands, sizes, live, memo, mark, s, p, e),
-        Form::Chain(p, q) => walk_chain(kinds, operands, sizes, live, memo, mark, p, q, e),
+        Form::Catch(p) => caught(walk(table, live, memo, mark, p, e)),
+        Form::Scope(s, p) => walk_local(table, live, memo, mark, s, p, e),
+        Form::Chain(p, q) => walk_chain(table, live, memo, mark, p, q, e),
         Form::Beside(p, q) => {
-            let a = walk(kinds, operands, sizes, live, memo, mark, p, e);
-            beside(a, walk(kinds, operands, sizes, live, memo, mark, q, e))
+            let a = walk(table, live, memo, mark, p, e);
+            beside(a, walk(table, live, memo, mark, q, e))
         }
-        Form::Same(p) => walk(kinds, operands, sizes, live, memo, mark, p, e),
+        Form::Same(p) => walk(table, live, memo, mark, p, e),
     }
 }
 
 // A local's body with the signal unknown: what was kept of it at an event below, where that settles the signal, or what is found now.
 #[cycle(walk_walk_body_walk_chain_walk_local_walk_now)]
 pub fn walk_body(
-    kinds: &[u16; 512],
-    operands: &[u16; 512],
-    sizes: &[u16; 512],
+    table: &Table,
     live: &[bool; 512],
     memo: &mut [u64],
     mark: Mark,
@@ -295,17 +275,18 @@ pub fn walk_body(
     p: Task,
     doubt: Heard,
 ) -> Entry
-    requires { Placed (table_of kinds.now operands.now sizes.now) p.at × Sound (table_of kinds.now operands.now sizes.now) live.now memo.old }
-    ensures { Settling (mark_of mark) (table_of kinds.now operands.now sizes.now) live.now s p doubt result
-        × Sound (table_of kinds.now operands.now sizes.now) live.now memo.new }
+    requires { Placed table.now p.at × Sound table.now live.now memo.old }
+    ensures { Settling (mark_of mark) table.now live.now s p doubt result
+        × Sound table.now live.now memo.new }
 {
     let i = body_entry(s, p, mark);
     let tag = tag_of(p, mark);
-    let old = entry_at(memo, i);
-    if settles(old, tag, mark, s, doubt) {
-        return old;
+    if let Some(old) = entry_at(memo, i) {
+        if settles(old, tag, mark, s, doubt) {
+            return old;
+        }
     }
-    let found = walk(kinds, operands, sizes, live, memo, mark, p, doubt);
+    let found = walk(table, live, memo, mark, p, doubt);
     let new = Entry {
         tag,
         event: doubt,
@@ -318,9 +299,7 @@ pub fn walk_body(
 // A local: its body under its own mark with the signal unknown, and once more unless that is the answer.
 #[cycle(walk_walk_body_walk_chain_walk_local_walk_now)]
 fn walk_local(
-    kinds: &[u16; 512],
-    operands: &[u16; 512],
-    sizes: &[u16; 512],
+    table: &Table,
     live: &[bool; 512],
     memo: &mut [u64],
     mark: Mark,
@@ -328,27 +307,25 @@ fn walk_local(
     p: Task,
     e: Heard,
 ) -> Found
-    requires { Placed (table_of kinds.now operands.now sizes.now) p.at × Sound (table_of kinds.now operands.now sizes.now) live.now memo.old }
-    ensures { WalkedOn (mark_of mark) (table_of kinds.now operands.now sizes.now) live.now (Form.Scope s p) e result
-        × Sound (table_of kinds.now operands.now sizes.now) live.now memo.new }
+    requires { Placed table.now p.at × Sound table.now live.now memo.old }
+    ensures { WalkedOn (mark_of mark) table.now live.now (Form.Scope s p) e result
+        × Sound table.now live.now memo.new }
 {
     let doubt = heard_with(e, s, Seen::Unknown);
-    let x = walk_body(kinds, operands, sizes, live, memo, mark, s, p, doubt);
-    let v = settled_for(mark, s, x.found.said);
-    if is_known(v) {
-        let known = heard_with(e, s, v);
-        let b = walk(kinds, operands, sizes, live, memo, mark, p, known);
-        return hidden_after(s, x, b);
+    let x = walk_body(table, live, memo, mark, s, p, doubt);
+    match settled_for(mark, s, x.found.said) {
+        Seen::Unknown => hidden(s, x.found),
+        v => {
+            let known = heard_with(e, s, v);
+            hidden_after(s, x, walk(table, live, memo, mark, p, known))
+        }
     }
-    hidden(s, x.found)
 }
 
 // A sequence: the second part is asked under plus only if the first must give 0, and not at all if the first cannot.
 #[cycle(walk_walk_body_walk_chain_walk_local_walk_now)]
 fn walk_chain(
-    kinds: &[u16; 512],
-    operands: &[u16; 512],
-    sizes: &[u16; 512],
+    table: &Table,
     live: &[bool; 512],
     memo: &mut [u64],
     mark: Mark,
@@ -356,34 +333,26 @@ fn walk_chain(
     q: Task,
     e: Heard,
 ) -> Found
-    requires { (Placed (table_of kinds.now operands.now sizes.now) p.at × Placed (table_of kinds.now operands.now sizes.now) q.at)
-        × Sound (table_of kinds.now operands.now sizes.now) live.now memo.old }
-    ensures { WalkedOn (mark_of mark) (table_of kinds.now operands.now sizes.now) live.now (Form.Chain p q) e result
-        × Sound (table_of kinds.now operands.now sizes.now) live.now memo.new }
+    requires { (Placed table.now p.at × Placed table.now q.at)
+        × Sound table.now live.now memo.old }
+    ensures { WalkedOn (mark_of mark) table.now live.now (Form.Chain p q) e result
+        × Sound table.now live.now memo.new }
 {
-    let a = walk(kinds, operands, sizes, live, memo, mark, p, e);
+    let a = walk(table, live, memo, mark, p, e);
     let onward = mark_onward(mark, a.said.must.codes);
     if goes_on(onward, a.said.can.codes) {
-        let b = walk(kinds, operands, sizes, live, memo, onward, q, e);
+        let b = walk(table, live, memo, onward, q, e);
         return followed(a, b);
     }
     unfollowed(a, nothing_given())
 }
 
 // Must and can where nothing is kept.
-pub fn must_can(
-    kinds: &[u16; 512],
-    operands: &[u16; 512],
-    sizes: &[u16; 512],
-    live: &[bool; 512],
-    mark: Mark,
-    task: Task,
-    e: Heard,
-) -> MustCan
-    requires { Placed (table_of kinds.now operands.now sizes.now) task.at }
-    ensures { Walked (mark_of mark) (table_of kinds.now operands.now sizes.now) live.now (Form.Same task) e result }
+pub fn must_can(table: &Table, live: &[bool; 512], mark: Mark, task: Task, e: Heard) -> MustCan
+    requires { Placed table.now task.at }
+    ensures { Walked (mark_of mark) table.now live.now (Form.Same task) e result }
 {
     let mut none = [0u64; 1];
-    let a = walk(kinds, operands, sizes, live, &mut none, mark, task, e);
+    let a = walk(table, live, &mut none, mark, task, e);
     a.said
 }

@@ -1,14 +1,14 @@
 // What a walk keeps: what must and can gave a task at an event, in entries of eight words of lent memory. Where an entry stands decides time and nothing else.
-ghost use Rattle.std.specs.Prelude.{◌≡◌, Bool, true, false, List, ℕ, ◌+◌, ◌%◌, ◌<◌, get_or, set};
+ghost use Rattle.std.specs.Prelude.{◌≡◌, IfSome, Bool, true, false, List, ℕ, ◌+◌, ◌%◌, ◌<◌, get_or, set};
 ghost use Rattle.sets.specs.Words.{bits};
 ghost use Rattle.rules.specs.Events.{unknown};
 ghost use Rattle.rules.specs.MustCan.{can, local_status};
 ghost use Rattle.theorems.specs.Order.{Agree};
-ghost use Rattle.tables.specs.Table.{Table};
+ghost use Rattle.tables.specs.declared.Table.{Table};
 ghost use Rattle.words.specs.Words.{event_of, given_of, mark_of};
 ghost use Rattle.walk.specs.Memo.{going_number, mark_number, tag_of, known_on, Remembers, Sound};
 
-use forms::form::{Going, Task};
+use forms::form::Task;
 use words::events::{Heard, Seen};
 use words::given::{GivenWords, Mark, MustCan, settled_for};
 
@@ -27,67 +27,14 @@ pub struct Entry {
     pub found: Found,
 }
 
-fn going_number(going: Going) -> u64
-    ensures { (result ≡ going_number going) × (result < 4) }
-{
-    match going {
-        Going::Started => 0,
-        Going::Resumed => 1,
-        Going::Held => 2,
-        Going::Idle => 3,
-    }
-}
-
-fn mark_number(mark: Mark) -> u64
-    ensures { (result ≡ mark_number (mark_of mark)) × (result < 3) }
-{
-    match mark {
-        Mark::Plus => 1,
-        Mark::Open => 2,
-    }
-}
-
-fn as_word(x: usize) -> u64
-    ensures { result ≡ x }
-{
-    x as u64
-}
-
 // A task and a mark in one number.
 pub(crate) fn tag_of(task: Task, mark: Mark) -> u64
     requires { task.at < 512 }
     ensures { result ≡ tag_of task (mark_of mark) }
 {
-    let going = task.going;
-    let at = as_word(task.at);
-    let g = going_number(going);
-    let m = mark_number(mark);
-    8 * at + 2 * g + m
-}
-
-// No entry.
-fn no_entry() -> Entry
-    ensures { result.tag ≡ 0 }
-{
-    let event = Heard {
-        present: 0,
-        absent: 0,
-    };
-    let must = GivenWords {
-        signals: 0,
-        codes: 0,
-    };
-    let can = GivenWords {
-        signals: 0,
-        codes: 0,
-    };
-    let said = MustCan { must, can };
-    let found = Found { said, reads: 0 };
-    Entry {
-        tag: 0,
-        event,
-        found,
-    }
+    let going = task.going as u64;
+    let mark = mark as u64 + 1;
+    8 * task.at as u64 + 2 * going + mark
 }
 
 // The codes that a word holds.
@@ -95,12 +42,6 @@ fn codes_in(w: u64) -> u32
     ensures { result ≡ w % 4294967296 }
 {
     (w % 4294967296) as u32
-}
-
-fn codes_word(c: u32) -> u64
-    ensures { (result ≡ c) × (result < 4294967296) }
-{
-    c as u64
 }
 
 fn word_at(memo: &[u64], j: usize) -> u64
@@ -118,33 +59,33 @@ fn put_word(memo: &mut [u64], j: usize, w: u64)
 }
 
 // The entry of a number, where there is one.
-pub(crate) fn entry_at(memo: &[u64], i: usize) -> Entry
-    ensures { (tab : Table) (live : List Bool) → Sound tab live memo.now → Remembers tab live result }
+pub(crate) fn entry_at(memo: &[u64], i: usize) -> Option<Entry>
+    ensures { (tab : Table) (live : List Bool) → Sound tab live memo.now → IfSome result (Remembers tab live) }
 {
-    if i < memo.len() / 8 {
-        let j = 8 * i;
-        let tag = word_at(memo, j);
-        let present = word_at(memo, j + 1);
-        let absent = word_at(memo, j + 2);
-        let reads = word_at(memo, j + 3);
-        let must_signals = word_at(memo, j + 4);
-        let can_signals = word_at(memo, j + 5);
-        let must_codes = codes_in(word_at(memo, j + 6));
-        let can_codes = codes_in(word_at(memo, j + 7));
-        let event = Heard { present, absent };
-        let must = GivenWords {
-            signals: must_signals,
-            codes: must_codes,
-        };
-        let can = GivenWords {
-            signals: can_signals,
-            codes: can_codes,
-        };
-        let said = MustCan { must, can };
-        let found = Found { said, reads };
-        return Entry { tag, event, found };
+    if memo.len() / 8 <= i {
+        return None;
     }
-    no_entry()
+    let j = 8 * i;
+    let tag = word_at(memo, j);
+    let present = word_at(memo, j + 1);
+    let absent = word_at(memo, j + 2);
+    let reads = word_at(memo, j + 3);
+    let must_signals = word_at(memo, j + 4);
+    let can_signals = word_at(memo, j + 5);
+    let must_codes = codes_in(word_at(memo, j + 6));
+    let can_codes = codes_in(word_at(memo, j + 7));
+    let event = Heard { present, absent };
+    let must = GivenWords {
+        signals: must_signals,
+        codes: must_codes,
+    };
+    let can = GivenWords {
+        signals: can_signals,
+        codes: can_codes,
+    };
+    let said = MustCan { must, can };
+    let found = Found { said, reads };
+    Some(Entry { tag, event, found })
 }
 
 // The first four words of an entry from j on, and the last four.
@@ -174,8 +115,6 @@ pub(crate) fn note(memo: &mut [u64], i: usize, new: Entry)
     ensures { (tab : Table) (live : List Bool) → Sound tab live memo.old → Remembers tab live new → Sound tab live memo.new }
 {
     if i < memo.len() / 8 {
-        let must = codes_word(new.found.said.must.codes);
-        let can = codes_word(new.found.said.can.codes);
         put_first(
             memo,
             8 * i,
@@ -189,8 +128,8 @@ pub(crate) fn note(memo: &mut [u64], i: usize, new: Entry)
             8 * i,
             new.found.said.must.signals,
             new.found.said.can.signals,
-            must,
-            can,
+            new.found.said.must.codes as u64,
+            new.found.said.can.codes as u64,
         );
     }
 }
@@ -215,22 +154,7 @@ pub(crate) fn known_reads(e: Heard, reads: u64) -> u64
 pub(crate) fn recalls(old: Entry, tag: u64, e: Heard) -> bool
     ensures { result ≡ true → (old.tag ≡ tag) × Agree (bits old.found.reads) (event_of old.event) (event_of e) }
 {
-    if old.tag == tag {
-        agree(old.event, e, old.found.reads)
-    } else {
-        false
-    }
-}
-
-// Whether a status is known.
-pub(crate) fn is_known(v: Seen) -> bool
-    ensures { (result ≡ true → v ≡ Seen.Unknown → ⊥) × (result ≡ false → v ≡ Seen.Unknown) }
-{
-    match v {
-        Seen::Unknown => false,
-        Seen::Present => true,
-        Seen::Absent => true,
-    }
+    old.tag == tag && agree(old.event, e, old.found.reads)
 }
 
 // Whether an entry is this body's, and settles the local's status at an event that has every status that was known there.
@@ -238,11 +162,7 @@ pub(crate) fn settles(old: Entry, tag: u64, mark: Mark, s: u16, doubt: Heard) ->
     ensures { result ≡ true → (old.tag ≡ tag) × Agree (known_on old.event (bits old.found.reads)) (event_of old.event) (event_of doubt)
         × (s < 64 → local_status (can (mark_of mark)) s (given_of old.found.said.must) (given_of old.found.said.can) ≡ unknown → ⊥) }
 {
-    if old.tag == tag {
-        let sure = known_reads(old.event, old.found.reads);
-        if agree(old.event, doubt, sure) {
-            return is_known(settled_for(mark, s, old.found.said));
-        }
-    }
-    false
+    old.tag == tag
+        && agree(old.event, doubt, known_reads(old.event, old.found.reads))
+        && settled_for(mark, s, old.found.said) != Seen::Unknown
 }

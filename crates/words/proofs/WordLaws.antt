@@ -1,7 +1,7 @@
 -- Each rule over words is the rule over sets: a law for each way through the functions of words.rt, bit by bit. Assumes nothing.
 use mathlib.Core.Path.{◌≡◌, refl, fun_ext, sym, ap, ap₂, ◌∙◌}
 use mathlib.Core.Bool.{Bool, true, false, not, cond, ◌&&◌, ◌||◌, or-false}
-use Prim.Native.Nat.{ℕ, ◌-◌, ◌*◌, ◌%◌, ◌^◌, ◌<◌}
+use Prim.Native.Nat.{ℕ, ◌*◌, ◌%◌, ◌^◌, ◌<◌}
 use lib.Dec.{eqb}
 use lib.Bits.{bit_and, bit_or, bit_xor}
 use Rattle.sets.specs.Numbers.{Numbers, empty, single, union, without, only_if, maxima, downs}

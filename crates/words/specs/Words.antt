@@ -1,6 +1,6 @@
 -- What the evaluator's words stand for: an event is two words, what must or can gives is a word of signals and one of codes, what is kept
 -- is a word of codes and a set of pauses. Assumes nothing.
-use Rattle.std.specs.Prelude.{◌≡◌, ℕ, ◌-◌}
+use Rattle.std.specs.Prelude.{◌≡◌, ℕ}
 use Rattle.sets.specs.Numbers.{Numbers, empty, single, only_if}
 use Rattle.sets.specs.Words.{bits, set_of}
 use Rattle.rules.specs.Events.{Status, present, absent, unknown, Event, Hearing, status_of}

@@ -1,19 +1,19 @@
 // An event as two words of signals, and a signal's status in it.
-ghost use Rattle.std.specs.Prelude.{◌≡◌, true, ◌<◌};
+ghost use Rattle.std.specs.Prelude.{◌≡◌, ◌<◌};
 ghost use Rattle.sets.specs.Numbers.{single};
 ghost use Rattle.sets.specs.Words.{bits};
 ghost use Rattle.rules.specs.Events.{giving};
 ghost use Rattle.words.specs.Words.{event_of, seen_as};
 
 // An event: the bit of a present signal and the bit of an absent one; neither is unknown.
-#[derive(Clone, Copy)]
+#[derive(Clone, Copy, PartialEq, Eq)]
 pub struct Heard {
     pub present: u64,
     pub absent: u64,
 }
 
 // A status.
-#[derive(Clone, Copy)]
+#[derive(Clone, Copy, PartialEq, Eq)]
 pub enum Seen {
     Present,
     Absent,
@@ -66,16 +66,5 @@ pub fn heard_with(e: Heard, s: u16, v: Seen) -> Heard
             present: others,
             absent: e.absent & (e.absent ^ b),
         },
-    }
-}
-
-// Whether a local's status is the one that its body was analysed with.
-pub fn still_unknown(v: Seen) -> bool
-    ensures { result ≡ true → v ≡ Seen.Unknown }
-{
-    match v {
-        Seen::Unknown => true,
-        Seen::Present => false,
-        Seen::Absent => false,
     }
 }

@@ -156,14 +156,8 @@ pub fn mark_onward(mark: Mark, codes: u32) -> Mark
     ensures { can (mark_of result) ≡ onward (can (mark_of mark)) (bits codes 0) }
 {
     match mark {
-        Mark::Plus => {
-            if gives_zero(codes) {
-                Mark::Plus
-            } else {
-                Mark::Open
-            }
-        }
-        Mark::Open => Mark::Open,
+        Mark::Plus if gives_zero(codes) => Mark::Plus,
+        _ => Mark::Open,
     }
 }
 

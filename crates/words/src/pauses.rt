@@ -71,7 +71,7 @@ pub(crate) fn kept_with(codes: u32, pauses: [u64; 2]) -> Kept
 pub fn members_of(w: u64) -> u32
     ensures { (result ≤ 64) × (result ≡ count 64 (bits w)) }
 {
-    u64::count_ones(w)
+    w.count_ones()
 }
 
 // How many pauses are in a set.

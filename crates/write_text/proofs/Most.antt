@@ -15,6 +15,8 @@ use Rattle.text.specs.Grammar.{Arms, Basic, Nothing, Pause, Emit, Exit, Present,
 use Rattle.text.specs.Shown.{forms, of_basic, shown, signal_word, trap_word, decimal, line, word, blank, arms_text, basic_text, names_text, part_text, text_bytes}
 use Rattle.text.proofs.Words.{decimal_length}
 use Rattle.write_text.specs.Spots.{at_level}
+use Rattle.write_text.specs.declared.statements.Level.{Level}
+use Rattle.write_text.specs.declared.statements.Level.TheVariants as level
 use Rattle.write_text.proofs.StatementLaws.{basic_any}
 
 length_line : (d : ℕ) (r : List ℕ) → length (line d r) ≡ 1 + (2 * d + length r)
@@ -48,14 +50,14 @@ module _ (i o : ℕ) where
   abbrev f : ℕ → List ℕ
   f = signal_word i o
 
-  abbrev said : ℕ → Stmt → ℕ → ℕ → List ℕ → List ℕ
+  abbrev said : Level → Stmt → ℕ → ℕ → List ℕ → List ℕ
   said n p d k r = at_level n (forms f trap_word k p) d r
 
   unfoldable Most : Stmt → Type 0
-  Most p = (n d k : ℕ) (r : List ℕ) → Small p → k ≤ d → d + path p ≤ 64 → length (said n p d k r) + 259 ≤ 268 * statements p + 2 * d + length r
+  Most p = (n : Level) (d k : ℕ) (r : List ℕ) → Small p → k ≤ d → d + path p ≤ 64 → length (said n p d k r) + 259 ≤ 268 * statements p + 2 * d + length r
 
   -- A basic statement, whatever is due.
-  as_basic : (b : Basic) (n d m : ℕ) (r : List ℕ) → length (basic_text b d r) + 259 ≤ m → length (at_level n (of_basic b) d r) + 259 ≤ m
+  as_basic : (b : Basic) (n : Level) (d m : ℕ) (r : List ℕ) → length (basic_text b d r) + 259 ≤ m → length (at_level n (of_basic b) d r) + 259 ≤ m
   as_basic b n d m r l = omega (arith, l, ap length (basic_any n b d r))
 
   most_nothing : Most nothing
@@ -89,17 +91,17 @@ module _ (i o : ℕ) where
       let a = le-max_left (path p) (path q) in
       let b = le-max_right (path p) (path q) in
       let last = line d (word END r) in
-      let second = said 2 q (suc d) k last in
+      let second = said level.Whole q (suc d) k last in
       let mid = line d (word ELSE second) in
-      let rest = blank (word THEN (said 2 p (suc d) k mid)) in
+      let rest = blank (word THEN (said level.Whole p (suc d) k mid)) in
       as_basic (Present (f x) (arms_of k p) (arms_of k q)) n d _ r
       (omega (
         arith,
         few d p (omega (arith, a, l)),
         length_line d (word END r),
-        jh 2 (suc d) k last s.2 (omega (arith, j)) (omega (arith, b, l)),
+        jh level.Whole (suc d) k last s.2 (omega (arith, j)) (omega (arith, b, l)),
         length_line d (word ELSE second),
-        ih 2 (suc d) k mid s.1 (omega (arith, j)) (omega (arith, a, l)),
+        ih level.Whole (suc d) k mid s.1 (omega (arith, j)) (omega (arith, a, l)),
         signal_short i o x rest s.0,
         length_line d (word PRESENT (blank (f x ++ rest))),
       ))
@@ -114,8 +116,8 @@ module _ (i o : ℕ) where
         few d p (omega (arith, l)),
         length_line d (word WHEN (blank (f x ++ r))),
         signal_short i o x r s.0,
-        ih 2 (suc d) k last s.1 (omega (arith, j)) (omega (arith, l)),
-        length_line d (word SUSPEND (said 2 p (suc d) k last)),
+        ih level.Whole (suc d) k last s.1 (omega (arith, j)) (omega (arith, l)),
+        length_line d (word SUSPEND (said level.Whole p (suc d) k last)),
       ))
 
   most_loop : (p : Stmt) → Most p → Most (loop p)
@@ -123,19 +125,19 @@ module _ (i o : ℕ) where
   most_loop p ih n d k r s j l =
       let last = line d (word END r) in
       as_basic (Loop (arms_of k p)) n d _ r
-      (omega (arith, few d p (omega (arith, l)), length_line d (word END r), ih 2 (suc d) k last s (omega (arith, j)) (omega (arith, l)), length_line d (word LOOP (said 2 p (suc d) k last))))
+      (omega (arith, few d p (omega (arith, l)), length_line d (word END r), ih level.Whole (suc d) k last s (omega (arith, j)) (omega (arith, l)), length_line d (word LOOP (said level.Whole p (suc d) k last))))
 
   most_trap : (p : Stmt) → Most p → Most (trap p)
   unfolding Most path statements forms arms_text at_level Small
   most_trap p ih n d k r s j l =
       let last = line d (word END r) in
-      let rest = blank (word IN (said 2 p (suc d) (suc k) last)) in
+      let rest = blank (word IN (said level.Whole p (suc d) (suc k) last)) in
       as_basic (Trap (trap_word k) (arms_of (suc k) p)) n d _ r
       (omega (
         arith,
         few d p (omega (arith, l)),
         length_line d (word END r),
-        ih 2 (suc d) (suc k) last s (omega (arith, j)) (omega (arith, l)),
+        ih level.Whole (suc d) (suc k) last s (omega (arith, j)) (omega (arith, l)),
         trap_short k rest (omega (arith, few d p (omega (arith, l)), j)),
         length_line d (word TRAP (blank (trap_word k ++ rest))),
       ))
@@ -144,59 +146,59 @@ module _ (i o : ℕ) where
   unfolding Most path statements forms arms_text at_level Small
   most_local x p ih n d k r s j l =
       let last = line d (word END r) in
-      let rest = blank (word IN (said 2 p (suc d) k last)) in
+      let rest = blank (word IN (said level.Whole p (suc d) k last)) in
       as_basic (Signal (f x) (arms_of k p)) n d _ r
       (omega (
         arith,
         few d p (omega (arith, l)),
         length_line d (word END r),
-        ih 2 (suc d) k last s.1 (omega (arith, j)) (omega (arith, l)),
+        ih level.Whole (suc d) k last s.1 (omega (arith, j)) (omega (arith, l)),
         signal_short i o x rest s.0,
         length_line d (word SIGNAL (blank (f x ++ rest))),
       ))
 
   module _ (p q : Stmt) (ih : Most p) (jh : Most q) where
     in_sequence : (d k : ℕ) (r : List ℕ) → Small p → Small q → k ≤ d → d + path p ≤ 64 → d + path q ≤ 64
-        → length (said 0 p d k (SEMICOLON ∷ said 1 q d k r)) + 517 ≤ 268 * (statements p + statements q) + 4 * d + length r
+        → length (said level.Basic p d k (SEMICOLON ∷ said level.Sequence q d k r)) + 517 ≤ 268 * (statements p + statements q) + 4 * d + length r
     unfolding Most
-    in_sequence d k r s u j l m = omega (arith, ih 0 d k (SEMICOLON ∷ said 1 q d k r) s j l, jh 1 d k r u j m)
+    in_sequence d k r s u j l m = omega (arith, ih level.Basic d k (SEMICOLON ∷ said level.Sequence q d k r) s j l, jh level.Sequence d k r u j m)
 
     in_parallel : (d k : ℕ) (r : List ℕ) → Small p → Small q → k ≤ d → d + path p ≤ 64 → d + path q ≤ 64
-        → length (said 1 p d k (line d (BESIDE ∷ BESIDE ∷ said 2 q d k r))) + 515 ≤ 268 * (statements p + statements q) + 6 * d + length r
+        → length (said level.Sequence p d k (line d (BESIDE ∷ BESIDE ∷ said level.Whole q d k r))) + 515 ≤ 268 * (statements p + statements q) + 6 * d + length r
     unfolding Most
     in_parallel d k r s u j l m =
-        let rest = BESIDE ∷ BESIDE ∷ said 2 q d k r in omega (arith, ih 1 d k (line d rest) s j l, jh 2 d k r u j m, length_line d rest)
+        let rest = BESIDE ∷ BESIDE ∷ said level.Whole q d k r in omega (arith, ih level.Sequence d k (line d rest) s j l, jh level.Whole d k r u j m, length_line d rest)
 
     most_sequence : Most (p ⨾ q)
     unfolding Most path statements forms arms_text at_level Small
-    most_sequence zero d k r s j l =
+    most_sequence level.Basic d k r s j l =
         let a = le-max_left (path p) (path q) in
         let b = le-max_right (path p) (path q) in
         let last = line d (CLOSED ∷ r) in
         let whole = in_sequence (suc d) k last s.0 s.1 (omega (arith, j)) (omega (arith, a, l)) (omega (arith, b, l)) in
-        omega (arith, few d p (omega (arith, a, l)), whole, length_line d (CLOSED ∷ r), length_line d (BRACKET ∷ said 0 p (suc d) k (SEMICOLON ∷ said 1 q (suc d) k last)))
-    most_sequence (suc zero) d k r s j l =
+        omega (arith, few d p (omega (arith, a, l)), whole, length_line d (CLOSED ∷ r), length_line d (BRACKET ∷ said level.Basic p (suc d) k (SEMICOLON ∷ said level.Sequence q (suc d) k last)))
+    most_sequence level.Sequence d k r s j l =
         let a = le-max_left (path p) (path q) in
         let b = le-max_right (path p) (path q) in
         omega (arith, few d p (omega (arith, a, l)), in_sequence d k r s.0 s.1 j (omega (arith, a, l)) (omega (arith, b, l)))
-    most_sequence (suc (suc n)) d k r s j l =
+    most_sequence level.Whole d k r s j l =
         let a = le-max_left (path p) (path q) in
         let b = le-max_right (path p) (path q) in
         omega (arith, few d p (omega (arith, a, l)), in_sequence d k r s.0 s.1 j (omega (arith, a, l)) (omega (arith, b, l)))
 
     bracketed : (d k : ℕ) (r : List ℕ) → Small p → Small q → k ≤ d → suc d + path p ≤ 64 → suc d + path q ≤ 64
-        → length (line d (BRACKET ∷ said 1 p (suc d) k (line (suc d) (BESIDE ∷ BESIDE ∷ said 2 q (suc d) k (line d (CLOSED ∷ r)))))) + 259 ≤ 268 * (1 + statements p + statements q) + 2 * d + length r
+        → length (line d (BRACKET ∷ said level.Sequence p (suc d) k (line (suc d) (BESIDE ∷ BESIDE ∷ said level.Whole q (suc d) k (line d (CLOSED ∷ r)))))) + 259 ≤ 268 * (1 + statements p + statements q) + 2 * d + length r
     bracketed d k r s u j a b =
         let last = line d (CLOSED ∷ r) in
-        let inner = said 1 p (suc d) k (line (suc d) (BESIDE ∷ BESIDE ∷ said 2 q (suc d) k last)) in
+        let inner = said level.Sequence p (suc d) k (line (suc d) (BESIDE ∷ BESIDE ∷ said level.Whole q (suc d) k last)) in
         let whole = in_parallel (suc d) k last s u (omega (arith, j)) a b in
         omega (arith, few d p a, whole, length_line d (CLOSED ∷ r), length_line d (BRACKET ∷ inner))
 
     most_parallel : Most (p parallel q)
     unfolding Most path statements forms arms_text at_level Small
-    most_parallel zero d k r s j l = bracketed d k r s.0 s.1 j (omega (arith, le-max_left (path p) (path q), l)) (omega (arith, le-max_right (path p) (path q), l))
-    most_parallel (suc zero) d k r s j l = bracketed d k r s.0 s.1 j (omega (arith, le-max_left (path p) (path q), l)) (omega (arith, le-max_right (path p) (path q), l))
-    most_parallel (suc (suc n)) d k r s j l =
+    most_parallel level.Basic d k r s j l = bracketed d k r s.0 s.1 j (omega (arith, le-max_left (path p) (path q), l)) (omega (arith, le-max_right (path p) (path q), l))
+    most_parallel level.Sequence d k r s j l = bracketed d k r s.0 s.1 j (omega (arith, le-max_left (path p) (path q), l)) (omega (arith, le-max_right (path p) (path q), l))
+    most_parallel level.Whole d k r s j l =
         let a = le-max_left (path p) (path q) in
         let b = le-max_right (path p) (path q) in
         let whole = in_parallel d k r s.0 s.1 j (omega (arith, a, l)) (omega (arith, b, l)) in omega (arith, few d p (omega (arith, a, l)), whole)
@@ -241,12 +243,12 @@ unfolding text_bytes shown Most at_level
 text_short h p l s d n =
     let i = h.inputs in
     let o = h.outputs in
-    let body = at_level 2 (forms (signal_word i o) trap_word 0 p) 0 (10 ∷ []) in
+    let body = at_level level.Whole (forms (signal_word i o) trap_word 0 p) 0 (10 ∷ []) in
     let outs = part_text OUTPUT (map (signal_word i o) (from i o)) body in
     let ins = part_text INPUT (map (signal_word i o) (from 0 i)) outs in
     omega (
       arith,
-      most i o p 2 0 0 (10 ∷ []) s (omega arith) (omega (arith, d)),
+      most i o p level.Whole 0 0 (10 ∷ []) s (omega arith) (omega (arith, d)),
       outputs_short i o o i body (omega (arith, l)),
       inputs_short i o i 0 outs (omega (arith, l)),
       length-append (decimal h.version) (SEMICOLON ∷ ins),

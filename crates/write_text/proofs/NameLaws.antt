@@ -1,16 +1,15 @@
 -- Names as words: a digit or a letter before the bytes of a number is one byte more below it. Assumes nothing.
 use mathlib.Core.Path.{◌≡◌, refl, sym, ap, ap₂, ◌∙◌}
-use mathlib.Core.Bool.{Bool, true, false, cond, ◌||◌}
-use mathlib.Core.List.{List, [], ◌∷◌}
-use Prim.Native.Nat.{ℕ, zero, suc, ◌+◌, ◌-◌, ◌*◌, ◌/◌, ◌%◌, ◌^◌, ◌≤◌, ◌<◌}
+use mathlib.Core.Bool.{Bool, true, false, cond}
+use mathlib.Core.List.{List, ◌∷◌}
+use Prim.Native.Nat.{ℕ, zero, suc, ◌+◌, ◌*◌, ◌/◌, ◌%◌, ◌^◌, ◌≤◌, ◌<◌}
 use native.Mathlib.Nat.{pow-suc, pow-le-pow_right, zero-lt-suc}
 use native.Mathlib.Omega.{arith}
 use native.Mathlib.Decide.{ℕ_discrete}
-use borrow.Author.Tests.{lt-ltb, le-ltb, ne_eqb}
-use lib.Dec.{eqb, ltb}
-use Rattle.sets.specs.Numbers.{listed}
-use Rattle.text.specs.Shown.{decimal_in, decimal, letter, signal_word, trap_word}
-use Rattle.write_text.specs.Pieces.{coded_in, coded, opening_name, closing_name}
+use borrow.Author.Tests.{lt-ltb, le-ltb}
+use lib.Dec.{ltb}
+use Rattle.text.specs.Shown.{decimal_in, decimal, letter}
+use Rattle.write_text.specs.Pieces.{coded_in, coded}
 use Rattle.write_text.proofs.Putting.{no_bytes, more_bytes}
 
 -- One byte more below a number, and steps to spare.
@@ -96,15 +95,6 @@ pub letter_before : (c code n : ℕ) → 0 < c → c < 256 → code < 1099511627
 letter_before c code n l h s e {r} f = front_byte 7 c code l h f ∙ ap (λ (x : List ℕ). c ∷ x) (to_spare 7 8 code (omega (arith, s)) (omega (arith, s)) ∙ e)
 
 -- The letters.
-pub input_letter : (i o s : ℕ) → s < i → 73 ≡ letter i o s
-input_letter i o s l = sym (ap (λ (z : Bool). cond z 73 (cond (ltb s (i + o)) 79 83)) (lt-ltb s i l))
-
-pub output_letter : (i o s : ℕ) → i ≤ s → s < i + o → 79 ≡ letter i o s
-output_letter i o s l h = sym (ap₂ (λ (y z : Bool). cond y 73 (cond z 79 83)) (le-ltb s i l) (lt-ltb s (i + o) h))
-
-pub local_letter : (i o s : ℕ) → i ≤ s → i + o ≤ s → 83 ≡ letter i o s
-local_letter i o s l h = sym (ap₂ (λ (y z : Bool). cond y 73 (cond z 79 83)) (le-ltb s i l) (le-ltb s (i + o) h))
-
 pub letter_range : (i o s : ℕ) → (0 < letter i o s) × (letter i o s < 256)
 letter_range i o s = go (ltb s i) (ltb s (i + o))
   where
@@ -112,32 +102,3 @@ letter_range i o s = go (ltb s i) (ltb s (i + o))
     go true z = (omega arith, omega arith)
     go false true = (omega arith, omega arith)
     go false false = (omega arith, omega arith)
-
--- The names of a statement, by its kind.
-module _ (x j i o : ℕ) where
-  pub trap_named : (k : ℕ) → k ≡ 24 → trap_word j ≡ opening_name k x j i o
-  unfolding opening_name
-  trap_named k e = sym (ap (λ (k : ℕ). opening_name k x j i o) e)
-
-  pub exit_named : (k : ℕ) → k ≡ 25 → trap_word (j - 1 - x) ≡ opening_name k x j i o
-  unfolding opening_name
-  exit_named k e = sym (ap (λ (k : ℕ). opening_name k x j i o) e)
-
-  pub signal_named : (k m : ℕ) → k ≡ m → signal_word i o x ≡ opening_name m x j i o → signal_word i o x ≡ opening_name k x j i o
-  signal_named k m e f = f ∙ sym (ap (λ (k : ℕ). opening_name k x j i o) e)
-
-  pub none_named : (k : ℕ) → (k ≡ 24 → ⊥) → (k ≡ 25 → ⊥) → (k ≡ 18 → ⊥) → (k ≡ 19 → ⊥) → (k ≡ 26 → ⊥) → [] ≡ opening_name k x j i o
-  unfolding opening_name listed
-  none_named k a b c d e =
-      sym (ap₂ (λ (y z : Bool). cond y (trap_word j) (cond z (trap_word (j - 1 - x)) (cond (listed (18 ∷ 19 ∷ 26 ∷ []) k) (signal_word i o x) []))) (ne_eqb k 24 a) (ne_eqb k 25 b)
-      ∙ ap₂ (λ (y z : Bool). cond (y || (z || (eqb k 26 || false))) (signal_word i o x) []) (ne_eqb k 18 c) (ne_eqb k 19 d)
-      ∙ ap (λ (z : Bool). cond (z || false) (signal_word i o x) []) (ne_eqb k 26 e))
-
-module _ (x i o : ℕ) where
-  pub when_named : (k : ℕ) → k ≡ 20 → signal_word i o x ≡ closing_name k x i o
-  unfolding closing_name
-  when_named k e = sym (ap (λ (k : ℕ). closing_name k x i o) e)
-
-  pub not_when : (k : ℕ) → (k ≡ 20 → ⊥) → [] ≡ closing_name k x i o
-  unfolding closing_name
-  not_when k e = sym (ap (λ (z : Bool). cond z (signal_word i o x) []) (ne_eqb k 20 e))

@@ -7,7 +7,8 @@ use Prim.Native.Nat.{ℕ, zero, suc, ◌+◌, ◌-◌, ◌*◌, ◌/◌, ◌%◌
 use native.Mathlib.Nat.{pow-suc}
 use native.Mathlib.Omega.{arith}
 use borrow.Author.Tests.{eq-eqb, ne_eqb}
-use lib.ListN.{length, set, replicate}
+use lib.ListN.{length, get_or, set, drop, replicate}
+use Rattle.std.proofs.lemmas.List.{drop_more, drop_all}
 use lib.Seq.{sets, length-sets}
 use Rattle.text.specs.Shown.{line}
 use Rattle.write_text.specs.Pieces.{Left, Puts, coded_in, coded, row_text}
@@ -58,24 +59,24 @@ pub more_bytes : (f n : ℕ) → (n ≡ 0 → ⊥) → coded_in (suc f) n ≡ (n
 unfolding coded_in
 more_bytes f n e = ap (λ (z : Bool). cond z [] ((n % 256) ∷ coded_in f (n / 256))) (ne_eqb n 0 e)
 
--- A word is left to put, in at most so many bytes.
-pub record WordLeft (out₀ out : List ℕ) (to word at left : ℕ) : Type 0 where
+-- A name is left to put, in at most so many bytes.
+pub record NameLeft (out₀ out : List ℕ) (to word at left : ℕ) : Type 0 where
   pub bytes : ℕ
   pub small : left < 256 ^ bytes
   pub room : at + bytes ≤ to + 8
   pub rest : Left out₀ out to at (λ x. coded word ++ x) (λ x. coded_in bytes left ++ x)
 
-pub word_begun : (out : List ℕ) (to word : ℕ) → word < 2 ^ 64 → WordLeft out out to word to word
-word_begun out to word l = record { bytes = 8; small = omega (arith, l); room = omega arith; rest = none_put }
+pub name_begun : (out : List ℕ) (to word : ℕ) → word < 2 ^ 64 → NameLeft out out to word to word
+name_begun out to word l = record { bytes = 8; small = omega (arith, l); room = omega arith; rest = none_put }
 
-pub word_ended : {out₀ out : List ℕ} {to word at left : ℕ} → WordLeft out₀ out to word at left → left ≡ 0 → Puts out₀ out to at (λ x. coded word ++ x)
-word_ended {left = left} w e = left_as (λ r. ap (λ (l : List ℕ). l ++ r) (no_bytes w.bytes left e)) w.rest
+pub name_ended : {out₀ out : List ℕ} {to word at left : ℕ} → NameLeft out₀ out to word at left → left ≡ 0 → Puts out₀ out to at (λ x. coded word ++ x)
+name_ended {left = left} w e = left_as (λ r. ap (λ (l : List ℕ). l ++ r) (no_bytes w.bytes left e)) w.rest
 
-pub word_more : {out₀ out : List ℕ} {to word at left : ℕ} → WordLeft out₀ out to word at left → (left ≡ 0 → ⊥)
-    → {b : List ℕ} {m : ℕ} → b ≡ set out at (left % 256) → m ≡ at + 1 → WordLeft out₀ b to word m (left / 256)
-word_more {out₀} {out} {to} {word} {at} {left} w n {b} {m} e f = go w.bytes w.small w.room w.rest
+pub name_more : {out₀ out : List ℕ} {to word at left : ℕ} → NameLeft out₀ out to word at left → (left ≡ 0 → ⊥)
+    → {b : List ℕ} {m : ℕ} → b ≡ set out at (left % 256) → m ≡ at + 1 → NameLeft out₀ b to word m (left / 256)
+name_more {out₀} {out} {to} {word} {at} {left} w n {b} {m} e f = go w.bytes w.small w.room w.rest
   where
-    go : (k : ℕ) → left < 256 ^ k → at + k ≤ to + 8 → Left out₀ out to at (λ x. coded word ++ x) (λ x. coded_in k left ++ x) → WordLeft out₀ b to word m (left / 256)
+    go : (k : ℕ) → left < 256 ^ k → at + k ≤ to + 8 → Left out₀ out to at (λ x. coded word ++ x) (λ x. coded_in k left ++ x) → NameLeft out₀ b to word m (left / 256)
     go zero s l p = absurd (n (omega (arith, s)))
     go (suc k) s l p = record {
       bytes = k;
@@ -84,35 +85,44 @@ word_more {out₀} {out} {to} {word} {at} {left} w n {b} {m} e f = go w.bytes w.
       rest = and_then (left_as (λ r. ap (λ (l : List ℕ). l ++ r) (more_bytes k left n)) p) (byte_put (left % 256) e f);
     }
 
--- Blanks are left to put.
-pub blanks_more : {out₀ out : List ℕ} {to at end : ℕ} {F : List ℕ → List ℕ} → at < end → Left out₀ out to at F (λ r. replicate (end - at) 32 ++ r)
-    → {b : List ℕ} {m : ℕ} → b ≡ set out at 32 → m ≡ at + 1 → Left out₀ b to m F (λ r. replicate (end - m) 32 ++ r)
-blanks_more {at = at} {end} l p {m = m} e f =
-    let one : end - at ≡ suc (end - m) = omega (arith, l, f) in
-    and_then (left_as (λ r. ap (λ (n : ℕ). replicate n 32 ++ r) one) p) (byte_put 32 e f)
+-- A word's bytes from i on are left to put.
+abbrev pub WordLeft : List ℕ → List ℕ → ℕ → ℕ → List ℕ → ℕ → Type 0
+WordLeft out₀ out to at word i = (at ≡ to + i) × Left out₀ out to at (λ x. word ++ x) (λ x. drop i word ++ x)
 
-blanks_ended : {out₀ out : List ℕ} {to at end : ℕ} {F : List ℕ → List ℕ} → end ≤ at → Left out₀ out to at F (λ r. replicate (end - at) 32 ++ r) → Puts out₀ out to at F
-blanks_ended {at = at} {end} l p = let none : end - at ≡ 0 = omega (arith, l) in left_as (λ r. ap (λ (n : ℕ). replicate n 32 ++ r) none) p
+pub word_more : {out₀ out : List ℕ} {to at : ℕ} (word : List ℕ) {i : ℕ} → WordLeft out₀ out to at word i → i < length word
+    → {b : List ℕ} {m : ℕ} → b ≡ set out at (get_or word i 0) → m ≡ at + 1 → WordLeft out₀ b to m word (i + 1)
+word_more word {i} w l e f =
+    let next : drop i word ≡ get_or word i 0 ∷ drop (i + 1) word = drop_more word i 0 l in
+    (omega (arith, w.0, f), and_then (left_as (λ r. ap (λ (l : List ℕ). l ++ r) next) w.1) (byte_put (get_or word i 0) e f))
 
-line_begun : {out b : List ℕ} {to m end : ℕ} (d : ℕ) → b ≡ set out to 10 → m ≡ to + 1 → end ≡ m + 2 * d → Left out b to m (line d) (λ r. replicate (end - m) 32 ++ r)
-line_begun {m = m} {end} d e f g =
-    let all : 2 * d ≡ end - m = omega (arith, g) in
-    left_as (λ r. ap (λ (n : ℕ). replicate n 32 ++ r) all) (byte_put 10 e f)
+pub word_ended : {out₀ out : List ℕ} {to at : ℕ} (word : List ℕ) {i : ℕ} → WordLeft out₀ out to at word i → length word ≤ i → Puts out₀ out to at (λ x. word ++ x)
+word_ended word {i} w l = left_as (λ r. ap (λ (l : List ℕ). l ++ r) (drop_all i word l)) w.1
 
-pub line_put : {out b c : List ℕ} {to m end at : ℕ} (d : ℕ) → b ≡ set out to 10 → m ≡ to + 1 → end ≡ m + 2 * d → end ≤ at
-    → Left b c m at (λ r. replicate (end - m) 32 ++ r) (λ r. replicate (end - at) 32 ++ r) → Puts out c to at (line d)
-line_put d e f g l p = and_then (line_begun d e f g) (blanks_ended l p)
+-- The blanks from i on are left to put.
+abbrev pub BlanksLeft : List ℕ → List ℕ → ℕ → ℕ → ℕ → ℕ → Type 0
+BlanksLeft out₀ out to at n i = (at ≡ to + i) × Left out₀ out to at (λ r. replicate n 32 ++ r) (λ r. replicate (n - i) 32 ++ r)
+
+pub blanks_begun : (out : List ℕ) (to n : ℕ) → BlanksLeft out out to to n 0
+blanks_begun out to n = let all : n ≡ n - 0 = omega arith in (omega arith, left_as (λ r. ap (λ (k : ℕ). replicate k 32 ++ r) all) none_put)
+
+pub blanks_more : {out₀ out : List ℕ} {to at n i : ℕ} → BlanksLeft out₀ out to at n i → i < n → {b : List ℕ} {m : ℕ} → b ≡ set out at 32 → m ≡ at + 1 → BlanksLeft out₀ b to m n (i + 1)
+blanks_more {n = n} {i} w l e f =
+    let one : n - i ≡ suc (n - (i + 1)) = omega (arith, l) in
+    (omega (arith, w.0, f), and_then (left_as (λ r. ap (λ (k : ℕ). replicate k 32 ++ r) one) w.1) (byte_put 32 e f))
+
+pub line_put : {out b c : List ℕ} {to m at n i : ℕ} (d : ℕ) → b ≡ set out to 10 → m ≡ to + 1 → n ≡ 2 * d → BlanksLeft b c m at n i → n ≤ i → Puts out c to at (line d)
+line_put {n = n} {i} d e f g w l =
+    let none : n - i ≡ 0 = omega (arith, l) in
+    and_then (left_as (λ r. ap (λ (k : ℕ). replicate k 32 ++ r) (sym g)) (byte_put 10 e f)) (left_as (λ r. ap (λ (k : ℕ). replicate k 32 ++ r) none) w.1)
 
 -- A line of words.
-pub row_none : {out : List ℕ} {to : ℕ} (d first : ℕ) (name : List ℕ) (last : ℕ) → first ≡ 0 → Puts out out to to (row_text d first name last)
+pub row_none : {out : List ℕ} {to : ℕ} (d : ℕ) (first name last : List ℕ) → first ≡ [] → Puts out out to to (row_text d first name last)
 unfolding row_text
-row_none d first name last e =
-    told_as (λ r. sym (ap (λ (z : Bool). cond z r (line d (coded first ++ (name ++ (coded last ++ r))))) (eq-eqb first 0 e))) none_put
+row_none d first name last e = told_as (λ r. sym (ap (λ (l : List ℕ). row_text d l name last r) e)) none_put
 
-pub row_put : {a b c d e : List ℕ} {i j k l m : ℕ} (n first name last : ℕ) → (first ≡ 0 → ⊥) → Puts a b i j (line n) → Puts b c j k (λ x. coded first ++ x)
-    → Puts c d k l (λ x. coded name ++ x) → Puts d e l m (λ x. coded last ++ x) → Puts a e i m (row_text n first (coded name) last)
+pub row_put : {a b c d e : List ℕ} {i j k l m : ℕ} (n : ℕ) (first name last : List ℕ) → (first ≡ [] → ⊥) → Puts a b i j (line n) → Puts b c j k (λ x. first ++ x)
+    → Puts c d k l (λ x. name ++ x) → Puts d e l m (λ x. last ++ x) → Puts a e i m (row_text n first name last)
 unfolding row_text
-row_put n first name last ne p q s t =
-    told_as (λ r. sym (ap (λ (z : Bool). cond z r (line n (coded first ++ (coded name ++ (coded last ++ r))))) (ne_eqb first 0 ne)))
-    (and_then (before (λ r. coded first ++ (coded name ++ (coded last ++ r))) p)
-    (and_then (before (λ r. coded name ++ (coded last ++ r)) q) (and_then (before (λ r. coded last ++ r) s) t)))
+row_put n [] name last ne p q s t = absurd (ne refl)
+row_put n (x ∷ first) name last ne p q s t =
+    and_then (before (λ r. (x ∷ first) ++ (name ++ (last ++ r))) p) (and_then (before (λ r. name ++ (last ++ r)) q) (and_then (before (λ r. last ++ r) s) t))

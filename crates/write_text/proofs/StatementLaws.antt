@@ -4,39 +4,42 @@ use mathlib.Core.Path.{◌≡◌, refl, sym, ap, ◌∙◌, subst, subst⁻¹}
 use mathlib.Core.Logic.{◌⊎◌, inl, inr}
 use mathlib.Core.Bool.{Bool, false, cond, not}
 use mathlib.Core.List.{List, [], ◌∷◌}
-use Prim.Native.Nat.{ℕ, zero, suc, ◌+◌, ◌-◌, ◌≤◌, ◌<◌}
+use Prim.Native.Nat.{ℕ, suc, ◌+◌, ◌-◌, ◌≤◌, ◌<◌}
 use native.Mathlib.Omega.{arith}
 use lib.Dec.{T, eqb, lit≤}
 use lib.ListN.{length, get_or}
 use Rattle.sets.specs.Numbers.{listed}
 use Rattle.sets.proofs.Members.{eqb_in, or_left, or_right}
 use Rattle.rules.specs.Statements.{depth, Stmt, nothing, pause, emit, present?◌then◌else◌, suspend◌on◌, ◌⨾◌, loop, ◌parallel◌, trap, exit, local}
-use Rattle.tables.specs.Table.{Table, kind_of, operand_of, statements, Has}
-use Rattle.tables.specs.Table.{table_of}
+use Rattle.tables.specs.Table.{kind_of, operand_of, statements, Has}
+use Rattle.tables.specs.declared.Table.{Table}
 use Rattle.tables.proofs.Rows.{has_row, some_statement}
 use Rattle.text.specs.Grammar.{Arms, Basic, Nothing, Pause, Emit, Exit, Present, Suspend, Loop, Trap, Signal}
 use Rattle.text.specs.Shown.{forms, of_basic, signal_word, trap_word, arms_text, basic_text}
-use Rattle.write_text.specs.Pieces.{Puts, coded_in, row_text, opening_name, closing_name}
-use Rattle.write_text.specs.Spots.{at_level, statement_text, bare, opens, tails, closes, row, opening_text, closing_text, between_text, first_level, second_level, inside, Stands, Asks}
+use Rattle.write_text.specs.Pieces.{Puts, row_text, opening_name, closing_name}
+use Rattle.write_text.specs.Spots.{at_level, statement_text, bare, first_word, middle_word, last_word, opening_text, closing_text, between_text, first_level, second_level, inside, Stands, Asks}
+use Rattle.write_text.specs.declared.statements.Level.{Level}
+use Rattle.write_text.specs.declared.statements.Level.TheVariants as level
 use Rattle.write_text.specs.declared.statements.Spot.{Spot}
 use Rattle.write_text.proofs.Putting.{and_then, before, told_as}
 use Rattle.write_text.proofs.SpotLaws.{never_bare, inside_few}
 
-pub basic_any : (n : ℕ) (b : Basic) (d : ℕ) (r : List ℕ) → at_level n (of_basic b) d r ≡ basic_text b d r
+pub basic_any : (n : Level) (b : Basic) (d : ℕ) (r : List ℕ) → at_level n (of_basic b) d r ≡ basic_text b d r
 unfolding at_level arms_text
-basic_any zero b d r = refl
-basic_any (suc zero) b d r = refl
-basic_any (suc (suc n)) b d r = refl
+basic_any level.Basic b d r = refl
+basic_any level.Sequence b d r = refl
+basic_any level.Whole b d r = refl
 
 -- The pieces around what is inside, with brackets or without.
 unfoldable around : Spot → ℕ → ℕ → Bool → (ℕ → List ℕ → List ℕ) → List ℕ → List ℕ
-unfolding row_text opening_name closing_name
+unfolding row_text opening_name closing_name first_word middle_word last_word
 around s k x z body r =
-    row_text s.indent (get_or opens (cond z 11 (k - 16)) 0) (opening_name k x s.traps s.inputs s.outputs) (get_or tails (cond z 11 (k - 16)) 0)
-    (body (cond (not z) (suc s.indent) s.indent) (row_text s.indent (get_or closes (cond z 11 (k - 16)) 0) (closing_name k x s.inputs s.outputs) 0 r))
+    let last = cond z r (row_text s.indent (last_word k) (closing_name k x s.inputs s.outputs) [] r) in
+    let inner = body (cond (not z) (suc s.indent) s.indent) last in
+    cond z inner (row_text s.indent (first_word k) (opening_name k x s.traps s.inputs s.outputs) (middle_word k) inner)
 
 module _ (s : Spot) where
-  abbrev shown_at : Stmt → ℕ → ℕ → ℕ → List ℕ → List ℕ
+  abbrev shown_at : Stmt → ℕ → Level → ℕ → List ℕ → List ℕ
   shown_at p k n d r = at_level n (forms (signal_word s.inputs s.outputs) trap_word k p) d r
 
   -- Whatever is due, a basic statement has its pieces around it.
@@ -48,7 +51,7 @@ module _ (s : Spot) where
 pub record One (tab : Table) (at k x : ℕ) (t : Stmt) : Type 0 where
   pub child : Stmt
   pub stands : Stands tab (at + 1) child
-  pub its_text : (s : Spot) (to : ℕ) (r : List ℕ) → opening_text s k x (statement_text (inside s k 2 to) child (closing_text s k x r)) ≡ statement_text s t r
+  pub its_text : (s : Spot) (to : ℕ) (r : List ℕ) → opening_text s k x (statement_text (inside s k level.Whole to) child (closing_text s k x r)) ≡ statement_text s t r
 
 -- Two children, the second at a number of its own.
 pub record Two (tab : Table) (at next k x : ℕ) (t : Stmt) : Type 0 where
@@ -79,21 +82,21 @@ module _ (s : Spot) (to : ℕ) where
   abbrev as_arms_of : ℕ → Stmt → Arms
   as_arms_of k p = (forms f trap_word k p).as_arms
 
-  suspended : (x : ℕ) (p : Stmt) (r : List ℕ) → opening_text s 20 x (statement_text (inside s 20 2 to) p (closing_text s 20 x r)) ≡ statement_text s (suspend p on x) r
-  unfolding opening_text closing_text statement_text at_level forms inside bare row row_text opening_name closing_name around listed coded_in arms_text
-  suspended x p r = sym (pieces s 20 x (λ d q. shown_at s p s.traps 2 d q) (Suspend (as_arms_of s.traps p) (f x)) r refl refl refl)
+  suspended : (x : ℕ) (p : Stmt) (r : List ℕ) → opening_text s 20 x (statement_text (inside s 20 level.Whole to) p (closing_text s 20 x r)) ≡ statement_text s (suspend p on x) r
+  unfolding opening_text closing_text statement_text at_level forms inside bare row_text first_word middle_word last_word opening_name closing_name around listed arms_text
+  suspended x p r = sym (pieces s 20 x (λ d q. shown_at s p s.traps level.Whole d q) (Suspend (as_arms_of s.traps p) (f x)) r refl refl refl)
 
-  looped : (p : Stmt) (r : List ℕ) → opening_text s 22 0 (statement_text (inside s 22 2 to) p (closing_text s 22 0 r)) ≡ statement_text s (loop p) r
-  unfolding opening_text closing_text statement_text at_level forms inside bare row row_text opening_name closing_name around listed coded_in arms_text
-  looped p r = sym (pieces s 22 0 (λ d q. shown_at s p s.traps 2 d q) (Loop (as_arms_of s.traps p)) r refl refl refl)
+  looped : (p : Stmt) (r : List ℕ) → opening_text s 22 0 (statement_text (inside s 22 level.Whole to) p (closing_text s 22 0 r)) ≡ statement_text s (loop p) r
+  unfolding opening_text closing_text statement_text at_level forms inside bare row_text first_word middle_word last_word opening_name closing_name around listed arms_text
+  looped p r = sym (pieces s 22 0 (λ d q. shown_at s p s.traps level.Whole d q) (Loop (as_arms_of s.traps p)) r refl refl refl)
 
-  trapped : (p : Stmt) (r : List ℕ) → opening_text s 24 0 (statement_text (inside s 24 2 to) p (closing_text s 24 0 r)) ≡ statement_text s (trap p) r
-  unfolding opening_text closing_text statement_text at_level forms inside bare row row_text opening_name closing_name around listed coded_in arms_text
-  trapped p r = sym (pieces s 24 0 (λ d q. shown_at s p (suc s.traps) 2 d q) (Trap (trap_word s.traps) (as_arms_of (suc s.traps) p)) r refl refl refl)
+  trapped : (p : Stmt) (r : List ℕ) → opening_text s 24 0 (statement_text (inside s 24 level.Whole to) p (closing_text s 24 0 r)) ≡ statement_text s (trap p) r
+  unfolding opening_text closing_text statement_text at_level forms inside bare row_text first_word middle_word last_word opening_name closing_name around listed arms_text
+  trapped p r = sym (pieces s 24 0 (λ d q. shown_at s p (suc s.traps) level.Whole d q) (Trap (trap_word s.traps) (as_arms_of (suc s.traps) p)) r refl refl refl)
 
-  hidden : (x : ℕ) (p : Stmt) (r : List ℕ) → opening_text s 26 x (statement_text (inside s 26 2 to) p (closing_text s 26 x r)) ≡ statement_text s (local x p) r
-  unfolding opening_text closing_text statement_text at_level forms inside bare row row_text opening_name closing_name around listed coded_in arms_text
-  hidden x p r = sym (pieces s 26 x (λ d q. shown_at s p s.traps 2 d q) (Signal (f x) (as_arms_of s.traps p)) r refl refl refl)
+  hidden : (x : ℕ) (p : Stmt) (r : List ℕ) → opening_text s 26 x (statement_text (inside s 26 level.Whole to) p (closing_text s 26 x r)) ≡ statement_text s (local x p) r
+  unfolding opening_text closing_text statement_text at_level forms inside bare row_text first_word middle_word last_word opening_name closing_name around listed arms_text
+  hidden x p r = sym (pieces s 26 x (λ d q. shown_at s p s.traps level.Whole d q) (Signal (f x) (as_arms_of s.traps p)) r refl refl refl)
 
   module _ (half : ℕ) where
     abbrev two_text : ℕ → ℕ → Stmt → Stmt → List ℕ → List ℕ
@@ -101,32 +104,32 @@ module _ (s : Spot) (to : ℕ) where
         opening_text s k x (statement_text (inside s k (first_level k) to) p (between_text k s.indent (inside s k (first_level k) to).indent
         (statement_text (inside s k (second_level k) half) q (closing_text s k x r))))
 
-    abbrev inside_two : Stmt → Stmt → ℕ → ℕ → ℕ → ℕ → List ℕ → List ℕ
+    abbrev inside_two : Stmt → Stmt → ℕ → Level → Level → ℕ → List ℕ → List ℕ
     inside_two p q k m n d u = shown_at s p s.traps m d (between_text k s.indent d (shown_at s q s.traps n d u))
 
     tested : (x : ℕ) (p q : Stmt) (r : List ℕ) → two_text 19 x p q r ≡ statement_text s (present? x then p else q) r
-    unfolding opening_text closing_text between_text statement_text at_level forms inside bare row first_level second_level row_text opening_name closing_name around listed coded_in arms_text
+    unfolding opening_text closing_text between_text statement_text at_level forms inside bare first_level second_level row_text first_word middle_word last_word opening_name closing_name around listed arms_text
     tested x p q r =
-        sym (pieces s 19 x (λ d u. inside_two p q 19 2 2 d u)
+        sym (pieces s 19 x (λ d u. inside_two p q 19 level.Whole level.Whole d u)
         (Present (f x) (as_arms_of s.traps p) (as_arms_of s.traps q)) r refl refl refl)
 
     chained : (p q : Stmt) (r : List ℕ) → two_text 21 0 p q r ≡ statement_text s (p ⨾ q) r
-    unfolding opening_text closing_text between_text statement_text at_level forms inside bare row first_level second_level row_text opening_name closing_name around listed coded_in arms_text
+    unfolding opening_text closing_text between_text statement_text at_level forms inside bare first_level second_level row_text first_word middle_word last_word opening_name closing_name around listed arms_text
     chained p q r = go s.level
       where
-        go : (n : ℕ) → around s 21 0 (bare 21 n) (λ d u. inside_two p q 21 0 1 d u) r ≡ shown_at s (p ⨾ q) s.traps n s.indent r
-        go zero = refl
-        go (suc zero) = refl
-        go (suc (suc n)) = refl
+        go : (n : Level) → around s 21 0 (bare 21 n) (λ d u. inside_two p q 21 level.Basic level.Sequence d u) r ≡ shown_at s (p ⨾ q) s.traps n s.indent r
+        go level.Basic = refl
+        go level.Sequence = refl
+        go level.Whole = refl
 
     paired : (p q : Stmt) (r : List ℕ) → two_text 23 0 p q r ≡ statement_text s (p parallel q) r
-    unfolding opening_text closing_text between_text statement_text at_level forms inside bare row first_level second_level row_text opening_name closing_name around listed coded_in arms_text
+    unfolding opening_text closing_text between_text statement_text at_level forms inside bare first_level second_level row_text first_word middle_word last_word opening_name closing_name around listed arms_text
     paired p q r = go s.level
       where
-        go : (n : ℕ) → around s 23 0 (bare 23 n) (λ d u. inside_two p q 23 1 2 d u) r ≡ shown_at s (p parallel q) s.traps n s.indent r
-        go zero = refl
-        go (suc zero) = refl
-        go (suc (suc n)) = refl
+        go : (n : Level) → around s 23 0 (bare 23 n) (λ d u. inside_two p q 23 level.Sequence level.Whole d u) r ≡ shown_at s (p parallel q) s.traps n s.indent r
+        go level.Basic = refl
+        go level.Sequence = refl
+        go level.Whole = refl
 
 -- The kinds with two children, and with one.
 abbrev Joins : ℕ → Type 0
@@ -137,7 +140,7 @@ Overs k = (k ≡ 20) ⊎ ((k ≡ 22) ⊎ ((k ≡ 24) ⊎ (k ≡ 26)))
 
 -- A statement without children is its opening piece.
 leaf_of : (t : Stmt) {k : ℕ} → k ≡ kind_of t → (Joins k → ⊥) → (Overs k → ⊥) → (s : Spot) (r : List ℕ) → opening_text s (kind_of t) (operand_of t) r ≡ statement_text s t r
-unfolding kind_of operand_of opening_text statement_text at_level forms bare row row_text opening_name closing_name around listed coded_in arms_text
+unfolding kind_of operand_of opening_text statement_text at_level forms bare row_text first_word middle_word last_word opening_name closing_name around listed arms_text
 leaf_of nothing e a b s r = sym (pieces s 16 0 (λ d q. r) Nothing r refl refl refl)
 leaf_of (pause n) e a b s r = sym (pieces s 17 n (λ d q. r) Pause r refl refl refl)
 leaf_of (emit x) e a b s r = sym (pieces s 18 x (λ d q. r) (Emit (signal_word s.inputs s.outputs x)) r refl refl refl)
@@ -218,12 +221,12 @@ kind_range (trap p) = (lit≤ tt, lit≤ tt)
 kind_range (exit d) = (lit≤ tt, lit≤ tt)
 kind_range (local s p) = (lit≤ tt, lit≤ tt)
 
-module _ {ks xs ns : List ℕ} {at : ℕ} {t : Stmt} (w : Stands (table_of ks xs ns) at t) where
+module _ {tab : Table} {at : ℕ} {t : Stmt} (w : Stands tab at t) where
   abbrev k : ℕ
-  k = get_or ks at 0
+  k = get_or tab.kinds at 0
 
   abbrev x : ℕ
-  x = get_or xs at 0
+  x = get_or tab.operands at 0
 
   its_kind : k ≡ kind_of t
   its_kind = (has_row t w.has).its_kind
@@ -238,37 +241,37 @@ module _ {ks xs ns : List ℕ} {at : ℕ} {t : Stmt} (w : Stands (table_of ks xs
   leaf_text a b s r =
       ap (λ (n : ℕ). opening_text s n x r) its_kind ∙ ap (λ (n : ℕ). opening_text s (kind_of t) n r) its_operand ∙ leaf_of t its_kind a b s r
 
-  pub one_child : Overs k → One (table_of ks xs ns) at k x t
+  pub one_child : Overs k → One tab at k x t
   one_child a =
-      subst⁻¹ (λ (n : ℕ). One (table_of ks xs ns) at n x t) its_kind (subst⁻¹ (λ (n : ℕ). One (table_of ks xs ns) at (kind_of t) n t) its_operand
+      subst⁻¹ (λ (n : ℕ). One tab at n x t) its_kind (subst⁻¹ (λ (n : ℕ). One tab at (kind_of t) n t) its_operand
       (one_of t w (subst (λ (n : ℕ). T (listed overs n)) its_kind (of_four a))))
 
-  pub two_children : Joins k → (next : ℕ) → (at + 1 < 512 → next ≡ at + 1 + get_or ns (at + 1) 0) → Two (table_of ks xs ns) at next k x t
+  pub two_children : Joins k → (next : ℕ) → (at + 1 < 512 → next ≡ at + 1 + get_or tab.sizes (at + 1) 0) → Two tab at next k x t
   two_children a next e =
       let h = subst (λ (n : ℕ). T (listed joins n)) its_kind (of_three a) in
       let there = two_of refl t w h in
       let place = e (omega (arith, there.first_stands.room, some_statement there.first)) in
-      subst⁻¹ (λ (n : ℕ). Two (table_of ks xs ns) at next n x t) its_kind (subst⁻¹ (λ (n : ℕ). Two (table_of ks xs ns) at next (kind_of t) n t) its_operand (two_of place t w h))
+      subst⁻¹ (λ (n : ℕ). Two tab at next n x t) its_kind (subst⁻¹ (λ (n : ℕ). Two tab at next (kind_of t) n t) its_operand (two_of place t w h))
 
 -- What is put and what may be asked for, part by part; a child's spot is the one that the code made.
-module _ (s : Spot) {ks xs ns : List ℕ} {at k x : ℕ} {t : Stmt} {a b : List ℕ} {m : ℕ} where
-  module _ (w : One (table_of ks xs ns) at k x t) (p : Puts a b s.to m (opening_text s k x)) where
+module _ (s : Spot) {tab : Table} {at k x : ℕ} {t : Stmt} {a b : List ℕ} {m : ℕ} where
+  module _ (w : One tab at k x t) (p : Puts a b s.to m (opening_text s k x)) where
     abbrev body : List ℕ → List ℕ
-    body r = statement_text (inside s k 2 m) w.child (closing_text s k x r)
+    body r = statement_text (inside s k level.Whole m) w.child (closing_text s k x r)
 
     body_short : (r : List ℕ) {n : ℕ} → s.to + length (statement_text s t r) ≤ n → m + length (body r) ≤ n
     body_short r l = omega (arith, l, p.ends (body r), ap length (w.its_text s m r))
 
-    module _ {u : Spot} (e : u ≡ inside s k 2 m) where
-      pub over_asks : (r : List ℕ) → s.to + length (statement_text s t r) ≤ 1000000 → s.indent ≤ at → s.traps ≤ at → Asks ks xs ns (at + 1) u
+    module _ {u : Spot} (e : u ≡ inside s k level.Whole m) where
+      pub over_asks : (r : List ℕ) → s.to + length (statement_text s t r) ≤ 1000000 → s.indent ≤ at → s.traps ≤ at → Asks tab (at + 1) u
       unfolding inside
       over_asks r l d j =
-          let few = inside_few s k 2 m at (at + 1) d j (omega arith) in
-          subst⁻¹ (λ (u : Spot). Asks ks xs ns (at + 1) u) e
+          let few = inside_few s k level.Whole m at (at + 1) d j (omega arith) in
+          subst⁻¹ (λ (u : Spot). Asks tab (at + 1) u) e
           (record { tree = w.child; stands = w.stands; rest = closing_text s k x r; short = body_short r l; few_open = few.0; few_traps = few.1 })
 
       module _ {c : List ℕ} {i : ℕ} (q : Puts b c u.to i (statement_text u w.child)) where
-        over_inside : Puts b c m i (statement_text (inside s k 2 m) w.child)
+        over_inside : Puts b c m i (statement_text (inside s k level.Whole m) w.child)
         unfolding inside
         over_inside = subst (λ (u : Spot). Puts b c u.to i (statement_text u w.child)) e q
 
@@ -278,7 +281,7 @@ module _ (s : Spot) {ks xs ns : List ℕ} {at k x : ℕ} {t : Stmt} {a b : List 
         pub over_put : {d : List ℕ} {o : ℕ} → Puts c d i o (closing_text s k x) → Puts a d s.to o (statement_text s t)
         over_put z = told_as (w.its_text s m) (and_then (before body p) (and_then (before (closing_text s k x) over_inside) z))
 
-  module _ {next : ℕ} (w : Two (table_of ks xs ns) at next k x t) (p : Puts a b s.to m (opening_text s k x)) where
+  module _ {next : ℕ} (w : Two tab at next k x t) (p : Puts a b s.to m (opening_text s k x)) where
     abbrev inner : Spot
     inner = inside s k (first_level k) m
 
@@ -295,11 +298,11 @@ module _ (s : Spot) {ks xs ns : List ℕ} {at k x : ℕ} {t : Stmt} {a b : List 
     first_short h r l = omega (arith, l, p.ends (first_body h r), ap length (w.its_text s m h r))
 
     module _ {u : Spot} (e : u ≡ inside s k (first_level k) m) where
-      pub first_asks : (r : List ℕ) → s.to + length (statement_text s t r) ≤ 1000000 → s.indent ≤ at → s.traps ≤ at → Asks ks xs ns (at + 1) u
+      pub first_asks : (r : List ℕ) → s.to + length (statement_text s t r) ≤ 1000000 → s.indent ≤ at → s.traps ≤ at → Asks tab (at + 1) u
       unfolding inside
       first_asks r l d j =
           let few = inside_few s k (first_level k) m at (at + 1) d j (omega arith) in
-          subst⁻¹ (λ (u : Spot). Asks ks xs ns (at + 1) u) e
+          subst⁻¹ (λ (u : Spot). Asks tab (at + 1) u) e
           (record { tree = w.first; stands = w.first_stands; rest = between_body 0 r; short = first_short 0 r l; few_open = few.0; few_traps = few.1 })
 
       module _ {c : List ℕ} {i : ℕ} (q : Puts b c u.to i (statement_text u w.first)) where
@@ -321,11 +324,11 @@ module _ (s : Spot) {ks xs ns : List ℕ} {at k x : ℕ} {t : Stmt} {a b : List 
           second_short r l = omega (arith, between_short h r l, between_inside.ends (second_body h r))
 
           module _ {y : Spot} (g : y ≡ inside s k (second_level k) h) where
-            pub second_asks : (r : List ℕ) → s.to + length (statement_text s t r) ≤ 1000000 → s.indent ≤ at → s.traps ≤ at → Asks ks xs ns next y
+            pub second_asks : (r : List ℕ) → s.to + length (statement_text s t r) ≤ 1000000 → s.indent ≤ at → s.traps ≤ at → Asks tab next y
             unfolding inside
             second_asks r l d j =
                 let few = inside_few s k (second_level k) h at next d j w.behind in
-                subst⁻¹ (λ (u : Spot). Asks ks xs ns next u) g
+                subst⁻¹ (λ (u : Spot). Asks tab next u) g
                 (record { tree = w.second; stands = w.second_stands; rest = closing_text s k x r; short = second_short r l; few_open = few.0; few_traps = few.1 })
 
             module _ {f : List ℕ} {o : ℕ} (z : Puts d f y.to o (statement_text y w.second)) where

@@ -14,7 +14,7 @@ pub record Left (before after : List ℕ) (to at : ℕ) (F G : List ℕ → List
 abbrev pub Puts : List ℕ → List ℕ → ℕ → ℕ → (List ℕ → List ℕ) → Type 0
 Puts before after to at F = Left before after to at F (λ r. r)
 
--- The bytes of a number, the lowest first, up to the last that is not 0; and the eight that a word may have.
+-- The bytes of a number, the lowest first, up to the last that is not 0; and the eight that a name may have.
 unfoldable pub coded_in : ℕ → ℕ → List ℕ
 coded_in zero n = []
 coded_in (suc f) n = cond (eqb n 0) [] ((n % 256) ∷ coded_in f (n / 256))
@@ -22,10 +22,10 @@ coded_in (suc f) n = cond (eqb n 0) [] ((n % 256) ∷ coded_in f (n / 256))
 abbrev pub coded : ℕ → List ℕ
 coded n = coded_in 8 n
 
--- A line of up to three words, the second a name.
-unfoldable pub row_text : ℕ → ℕ → List ℕ → ℕ → List ℕ → List ℕ
-unfolding coded_in
-row_text d first name last r = cond (eqb first 0) r (line d (coded first ++ (name ++ (coded last ++ r))))
+-- A line of up to three words, the second a name; nothing where the first is empty.
+unfoldable pub row_text : ℕ → List ℕ → List ℕ → List ℕ → List ℕ → List ℕ
+row_text d [] name last r = r
+row_text d (b ∷ first) name last r = line d ((b ∷ first) ++ (name ++ (last ++ r)))
 
 -- The name behind a statement's first word, by its kind and operand, among so many traps; and the one behind its last.
 unfoldable pub opening_name : ℕ → ℕ → ℕ → ℕ → ℕ → List ℕ
@@ -36,7 +36,7 @@ unfoldable pub closing_name : ℕ → ℕ → ℕ → ℕ → List ℕ
 closing_name k x i o = cond (eqb k 20) (signal_word i o x) []
 
 -- The names of a part of the header behind its first word; nothing where there are none.
-unfoldable pub names_part : ℕ → List (List ℕ) → List ℕ → List ℕ
-unfolding names_text coded_in
+unfoldable pub names_part : List ℕ → List (List ℕ) → List ℕ → List ℕ
+unfolding names_text
 names_part w [] r = r
-names_part w (x ∷ xs) r = coded w ++ names_text x xs r
+names_part w (x ∷ xs) r = w ++ names_text x xs r

@@ -1,14 +1,14 @@
 -- What is to be written for a block, and what its parts owe. Assumes nothing.
-use Rattle.std.specs.Prelude.{◌≡◌, List, ℕ, ◌+◌, ◌≤◌, length}
+use Rattle.std.specs.Prelude.{◌≡◌, List, ℕ, ◌+◌, ◌≤◌, length, Result}
 use Rattle.std.proofs.lemmas.List.Edits.{sets}
 use Rattle.rules.specs.Statements.{Stmt}
+use Rattle.tables.specs.declared.Table.{Table}
 use Rattle.tables.specs.Table.{Small}
-use Rattle.tables.specs.Table.{table_of}
 use Rattle.block.specs.Format.{Header, Reading, good, turned_down, reading}
 use Rattle.block.specs.Good.{path}
 use Rattle.block.specs.declared.whole.Summary.{Summary}
 use Rattle.writing.specs.Answers.{Writing, writes, refuses, roomed, wrote_values, wrote_owed, out_owed}
-use Rattle.writing.specs.declared.Wrote.{Wrote}
+use Rattle.refusals.specs.declared.Refused.{Refused}
 use Rattle.text.specs.Shown.{shown, text_bytes}
 use Rattle.write_text.specs.Spots.{Stands}
 
@@ -23,8 +23,8 @@ unfolding reading text_writing_of
 text_writing b = text_writing_of (reading b)
 
 -- The table has a good block's tree, and the summary its header.
-pub record Shows (ks xs ns : List ℕ) (s : Summary) (h : Header) (t : Stmt) : Type 0 where
-  pub stands : Stands (table_of ks xs ns) 0 t
+pub record Shows (tab : Table) (s : Summary) (h : Header) (t : Stmt) : Type 0 where
+  pub stands : Stands tab 0 t
   pub small : Small t
   pub short_path : path t ≤ 64
   pub its_version : h.version ≡ s.version
@@ -38,6 +38,6 @@ pub record Filled (bs before after : List ℕ) (size : ℕ) : Type 0 where
   pub stored : after ≡ sets before 0 bs
 
 -- What is owed where so much is lent: the answer and every byte.
-pub record Answers (w : Writing) (before after : List ℕ) (r : Wrote) : Type 0 where
+pub record Answers (w : Writing) (before after : List ℕ) (r : Result ℕ Refused) : Type 0 where
   pub answered : wrote_values r ≡ wrote_owed (roomed w (length before))
   pub stored : after ≡ out_owed (roomed w (length before)) before

@@ -3,6 +3,8 @@ ghost use Rattle.std.specs.Prelude.{◌≡◌, ◌∷◌, ◌-◌, ◌<◌};
 ghost use Rattle.text.specs.Shown.{decimal, letter, signal_word, trap_word};
 ghost use Rattle.write_text.specs.Pieces.{coded, opening_name, closing_name};
 
+use tables::kinds::{EMIT, EXIT, LOCAL, PRESENT, SUSPEND, TRAP};
+
 // A number in decimal, its last digit highest.
 pub(crate) fn digits(n: u16) -> u64
     ensures result_value { coded result ≡ decimal n }
@@ -18,25 +20,24 @@ pub(crate) fn digits(n: u16) -> u64
 }
 
 // A letter before a number.
-fn lettered(letter: u64, n: u16) -> u64
-    requires letter_nonzero { 0 < letter }
-    requires letter_bound { letter < 256 }
+fn lettered(letter: u8, n: u16) -> u64
+    requires { 0 < letter }
     ensures { coded result ≡ letter ∷ decimal n }
 {
-    letter + 256 * digits(n)
+    u64::from(letter) + 256 * digits(n)
 }
 
 // `I` for an input, `O` for an output, `S` for a local.
-fn letter_of(s: u16, inputs: u16, outputs: u16) -> u64
+fn letter_of(s: u16, inputs: u16, outputs: u16) -> u8
     ensures { result ≡ letter inputs outputs s }
 {
     if s < inputs {
-        return 73;
+        b'I'
+    } else if s - inputs < outputs {
+        b'O'
+    } else {
+        b'S'
     }
-    if s - inputs < outputs {
-        return 79;
-    }
-    83
 }
 
 pub(crate) fn signal_name(s: u16, inputs: u16, outputs: u16) -> u64
@@ -48,36 +49,37 @@ pub(crate) fn signal_name(s: u16, inputs: u16, outputs: u16) -> u64
 fn trap_name(n: u16) -> u64
     ensures { coded result ≡ trap_word n }
 {
-    lettered(84, n)
+    lettered(b'T', n)
 }
 
 // The number of the trap that an exit of this depth leaves, among so many.
 fn trap_left(traps: u16, depth: u16) -> u16
     ensures { result ≡ traps - 1 - depth }
 {
-    if depth < traps { traps - 1 - depth } else { 0 }
+    traps.saturating_sub(1).saturating_sub(depth)
 }
 
 // The name behind a statement's first word: none where it has none there.
+#[tactic(auto, unfolding(crate::specs::Pieces::opening_name, crate::specs::Pieces::coded_in, sets::specs::Numbers::listed))]
 pub(crate) fn opening_name(kind: u16, operand: u16, traps: u16, inputs: u16, outputs: u16) -> u64
     ensures { coded result ≡ opening_name kind operand traps inputs outputs }
 {
     match kind {
-        24 => trap_name(traps),
-        25 => trap_name(trap_left(traps, operand)),
-        18 => signal_name(operand, inputs, outputs),
-        19 => signal_name(operand, inputs, outputs),
-        26 => signal_name(operand, inputs, outputs),
+        TRAP => trap_name(traps),
+        EXIT => trap_name(trap_left(traps, operand)),
+        EMIT | PRESENT | LOCAL => signal_name(operand, inputs, outputs),
         _ => 0,
     }
 }
 
 // The name behind a statement's last word: a suspend has its signal there.
+#[tactic(auto, unfolding(crate::specs::Pieces::closing_name, crate::specs::Pieces::coded_in))]
 pub(crate) fn closing_name(kind: u16, operand: u16, inputs: u16, outputs: u16) -> u64
     ensures { coded result ≡ closing_name kind operand inputs outputs }
 {
-    if kind == 20 {
-        return signal_name(operand, inputs, outputs);
+    if kind == SUSPEND {
+        signal_name(operand, inputs, outputs)
+    } else {
+        0
     }
-    0
 }

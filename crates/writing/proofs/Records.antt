@@ -1,9 +1,9 @@
 -- A record's bytes in a block: what is read where they stand, and that a record that passes is made of them. Two bytes hold a
 -- number below 65,536, and no other two bytes hold it. Assumes nothing.
 use mathlib.Core.Path.{◌≡◌, refl, sym, ap, ap₂, ◌∙◌}
-use mathlib.Core.Logic.{◌⊎◌, ⊎_elim}
+use mathlib.Core.Logic.{⊎_elim}
 use mathlib.Core.List.{List, [], ◌∷◌, ◌++◌, append_assoc}
-use mathlib.Core.Option.{Option}
+use Rattle.std.specs.Prelude.{Option}
 use Prim.Native.Nat.{ℕ, suc, ◌+◌, ◌/◌, ◌%◌, ◌≤◌, ◌<◌}
 use native.Mathlib.Nat.{add_assoc, add-zero}
 use native.Mathlib.Numerals.{add-one}
@@ -14,7 +14,8 @@ use Rattle.sets.specs.Numbers.{listed}
 use Rattle.rules.specs.Statements.{Stmt}
 use Rattle.tables.specs.Table.{kind_of, operand_of}
 use Rattle.block.specs.Format.{two_bytes, length_at, kind_at, operand_at, leaf, above, joined, preorder}
-use Rattle.tables.specs.Kinds.{Shape, shape, short, long, of_shape, length_of}
+use Rattle.tables.specs.declared.kinds.Shape.{Shape}
+use Rattle.tables.specs.Kinds.{shape, short, long, of_shape, length_of}
 use Rattle.block.proofs.Views.{Leaf, Above, Joined, Kind, leafs, aboves, joins, a_nothing, a_pause, an_emit, an_exit, a_suspend, a_loop, a_trap, a_local, a_present, a_sequence, a_parallel, known}
 use Rattle.records.specs.Numerals.{in_bytes, Bytes}
 use Rattle.writing.specs.Written.{shaped_bytes, record_bytes, records}

@@ -2,11 +2,11 @@
 -- and operand, one after the other from the header to the last byte. Assumes nothing.
 use mathlib.Core.Path.{◌≡◌, sym, ap, ap₂, ◌∙◌, subst}
 use mathlib.Core.List.{List, ◌++◌, append_assoc, append-nil}
-use Prim.Native.Nat.{ℕ, suc, ◌+◌, ◌<◌}
+use Prim.Native.Nat.{ℕ, suc, ◌<◌}
 use native.Mathlib.Omega.{arith}
 use lib.ListN.{drop}
 use lib.Seq.{drop-length}
-use Rattle.rules.specs.Statements.{Stmt, pauses}
+use Rattle.rules.specs.Statements.{Stmt}
 use Rattle.block.specs.Format.{Header, header, Around, Sofar, Good, good, reading, two_bytes, kind_at, operand_at, statement_fault, past, preorder}
 use Rattle.block.specs.Format.{outermost, begun}
 use Rattle.block.proofs.Passes.{passes, right_length}

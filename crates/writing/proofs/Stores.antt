@@ -1,26 +1,26 @@
 -- Writing the header and a record: the stores of the fields, one after the other, make the whole of it. Assumes nothing.
 use mathlib.Core.Path.{◌≡◌, refl, sym, ap, ◌∙◌}
 use mathlib.Core.Logic.{◌⊎◌, inl, inr, ⊎_elim}
-use mathlib.Core.Bool.{Bool, cond}
+use mathlib.Core.Bool.{Bool, true, false, cond}
 use mathlib.Core.List.{List, [], ◌∷◌, ◌++◌, append-nil}
-use mathlib.Core.Option.{Option, none, some}
+use Rattle.std.specs.Prelude.{Option, Some, None, Ok, Err, ltb}
 use Prim.Native.Nat.{ℕ, ◌+◌, ◌≤◌, ◌<◌}
 use native.Mathlib.Omega.{arith}
-use borrow.Author.Tests.{lt-ltb, le-ltb}
-use lib.ListN.{length, length-append}
+use borrow.Author.Tests.{lt-ltb, le-ltb, ltb-true, ltb-false}
+use lib.ListN.{length, length-append, get_or}
 use lib.Seq.{sets}
 use Rattle.rules.specs.Statements.{Stmt}
 use Rattle.tables.specs.Table.{kind_of, operand_of}
 use Rattle.block.specs.Format.{preorder, bytes, Header}
-use Rattle.tables.specs.Kinds.{Shape, shape, short, long, of_shape, length_of, operands_of}
-use Rattle.tables.specs.Kinds.{wire_of}
-use Rattle.tables.specs.declared.kinds.Shape.{Shape as Coded}
-use Rattle.tables.specs.declared.kinds.Wire.TheVariants.{Allowed, Unknown}
+use Rattle.tables.specs.declared.kinds.Shape.{Shape}
+use Rattle.tables.specs.Kinds.{shape, short, long, of_shape, length_of, operands_of}
 use Rattle.tables.proofs.Shapes.{Shaped, shaped}
 use Rattle.block.proofs.Views.{shape?, known}
 use Rattle.records.specs.Numerals.{in_bytes}
 use Rattle.records.proofs.Bytes.{sets_append, sets_front}
-use Rattle.writing.specs.Answers.{writes, refuses, roomed, out_owed}
+use Rattle.refusals.specs.declared.Refused.{Refused}
+use Rattle.refusals.proofs.Laws.{number_above}
+use Rattle.writing.specs.Answers.{writes, refuses, roomed, wrote_values, wrote_owed, out_owed}
 use Rattle.writing.specs.Written.{shaped_bytes, record_bytes, records, header_bytes, block_bytes}
 use Rattle.writing.proofs.Records.{records_append}
 use Rattle.writing.proofs.Back.{length_records}
@@ -38,29 +38,24 @@ header_stored s h e1 e2 e3 e4 e5 e6 e7 =
     (e3 ∙ ap (λ (x : List ℕ). sets x 4 (in_bytes 2 1))
     (e2 ∙ ap (λ (x : List ℕ). sets x 2 (in_bytes 2 1)) e1)))))
 
-no_such : {t : Coded} → wire_of none ≡ Allowed t → ⊥
-unfolding wire_of
-no_such e = let z : ◌≡◌ {A = ℕ} 0 1 = cc in omega arith
-
-such : (t : Shape) → wire_of (some t) ≡ Unknown → ⊥
-unfolding wire_of
-such t e = let z : ◌≡◌ {A = ℕ} 0 1 = cc in omega arith
-
--- The shape that the code was told: without an operand or with one.
-pub record Plain (k : ℕ) (t : Coded) : Type 0 where
+-- The shape of a kind: without an operand or with one.
+pub record Plain (k : ℕ) (t : Shape) : Type 0 where
   pub its_length : t.length ≡ 4
   pub its_operands : t.operands ≡ 0
   pub its_bytes : (x : ℕ) → record_bytes k x ≡ in_bytes 2 4 ++ in_bytes 2 k
 
-pub record Operated (k : ℕ) (t : Coded) : Type 0 where
+pub record Operated (k : ℕ) (t : Shape) : Type 0 where
   pub its_length : t.length ≡ 6
   pub its_operands : t.operands ≡ 1
   pub its_bytes : (x : ℕ) → record_bytes k x ≡ in_bytes 2 6 ++ (in_bytes 2 k ++ in_bytes 2 x)
 
-pub allowed : (k : ℕ) {t : Coded} → wire_of (shape k) ≡ Allowed t → Plain k t ⊎ Operated k t
+pub allowed : (k : ℕ) {t : Shape} → shape k ≡ Some t → Plain k t ⊎ Operated k t
 unfolding length_of operands_of shaped_bytes in_bytes
-allowed k {t} e = ⊎_elim (λ v. ⊎_elim plain operated (known v)) (λ n. absurd (no_such (sym (ap wire_of n) ∙ e))) (shape? k)
+allowed k {t} e = ⊎_elim (λ v. ⊎_elim plain operated (known v)) (λ n. absurd (apart (sym n ∙ e))) (shape? k)
   where
+    apart : None ≡ Some t → ⊥
+    apart q = cc
+
     s : Shaped k t
     s = shaped k e
 
@@ -79,7 +74,7 @@ allowed k {t} e = ⊎_elim (λ v. ⊎_elim plain operated (known v)) (λ n. absu
     })
 
 -- The room that a record needs.
-pub room_for : (k at n : ℕ) {t : Coded} → wire_of (shape k) ≡ Allowed t → at + length_of k ≤ n
+pub room_for : (k at n : ℕ) {t : Shape} → shape k ≡ Some t → at + length_of k ≤ n
     → (at + t.length ≤ n) × (at + 4 ≤ n) × (t.operands ≡ 1 → at + 6 ≤ n) × (t.length ≤ 6)
 room_for k at n {t} e l =
     let s = shaped k e in
@@ -91,7 +86,7 @@ two_then : (s vs ws : List ℕ) (at : ℕ) {s1 s2 : List ℕ} → length vs ≡ 
 two_then s vs ws at l e f =
     f ∙ ap (λ (x : List ℕ). sets x (at + 2) ws) e ∙ ap (λ (n : ℕ). sets (sets s at vs) (at + n) ws) (sym l) ∙ sym (sets_append vs ws s at)
 
-module _ (s : List ℕ) (at k x : ℕ) {t : Coded} (e : wire_of (shape k) ≡ Allowed t) {s1 s2 : List ℕ} (first : s1 ≡ sets s at (in_bytes 2 t.length))
+module _ (s : List ℕ) (at k x : ℕ) {t : Shape} (e : shape k ≡ Some t) {s1 s2 : List ℕ} (first : s1 ≡ sets s at (in_bytes 2 t.length))
     (second : s2 ≡ sets s1 (at + 2) (in_bytes 2 k)) where
   pub stored_plain : (t.operands ≡ 1 → ⊥) → s2 ≡ sets s at (record_bytes k x)
   unfolding in_bytes
@@ -114,12 +109,9 @@ module _ (s : List ℕ) (at k x : ℕ) {t : Coded} (e : wire_of (shape k) ≡ Al
           ∙ ap (λ (l : List ℕ). sets s at l) (sym (o.its_bytes x))
 
 -- A kind that is not allowed has no record.
-pub not_stored : (s : List ℕ) (at k x : ℕ) → wire_of (shape k) ≡ Unknown → s ≡ sets s at (record_bytes k x)
+pub not_stored : (s : List ℕ) (at k x : ℕ) → shape k ≡ None → s ≡ sets s at (record_bytes k x)
 unfolding shaped_bytes
-not_stored s at k x e = ⊎_elim (λ v. ⊎_elim (λ q. absurd (never q)) (λ q. absurd (never q)) (known v)) (λ n. sym (ap (λ (o : Option Shape). sets s at (shaped_bytes k x o)) n)) (shape? k)
-  where
-    never : {t : Shape} → shape k ≡ some t → ⊥
-    never {t} q = such t (sym (ap wire_of q) ∙ e)
+not_stored s at k x e = sym (ap (λ (o : Option Shape). sets s at (shaped_bytes k x o)) e)
 
 -- ROOM, by the length of what is to be written.
 pub too_few : (bs : List ℕ) (lent : ℕ) → lent < length bs → roomed (writes bs) lent ≡ refuses 12 0
@@ -129,6 +121,25 @@ too_few bs lent l = ap (λ (z : Bool). cond z (refuses 12 0) (writes bs)) (lt-lt
 pub enough : (bs : List ℕ) (lent : ℕ) → length bs ≤ lent → roomed (writes bs) lent ≡ writes bs
 unfolding roomed
 enough bs lent l = ap (λ (z : Bool). cond z (refuses 12 0) (writes bs)) (le-ltb lent (length bs) l)
+
+-- What the answer of `in_room` says: so many bytes fit, or they do not.
+pub fits_in : (bs : List ℕ) (lent n : ℕ) → wrote_values (Ok n) ≡ wrote_owed (roomed (writes bs) lent) → (n ≡ length bs) × (length bs ≤ lent)
+unfolding wrote_values wrote_owed
+fits_in bs lent n e = go (ltb lent (length bs)) refl
+  where
+    go : (x : Bool) → ltb lent (length bs) ≡ x → (n ≡ length bs) × (length bs ≤ lent)
+    go true t =
+        let z : ◌≡◌ {A = ℕ} 0 12 = ap (λ (x : List ℕ). get_or x 0 0) (e ∙ ap wrote_owed (too_few bs lent (ltb-true lent (length bs) t))) in absurd (omega arith)
+    go false t =
+        let l = ltb-false lent (length bs) t in (ap (λ (x : List ℕ). get_or x 2 0) (e ∙ ap wrote_owed (enough bs lent l)), l)
+
+pub does_not_fit : (bs : List ℕ) (lent : ℕ) (r : Refused) → wrote_values (Err r) ≡ wrote_owed (roomed (writes bs) lent) → lent < length bs
+unfolding wrote_values wrote_owed
+does_not_fit bs lent r e = go (ltb lent (length bs)) refl
+  where
+    go : (x : Bool) → ltb lent (length bs) ≡ x → lent < length bs
+    go true t = ltb-true lent (length bs) t
+    go false t = absurd (number_above r.why (ap (λ (x : List ℕ). get_or x 0 0) (e ∙ ap wrote_owed (enough bs lent (ltb-false lent (length bs) t)))))
 
 -- For who writes a block record by record: one record more behind those of some statements; the records behind the header; and what
 -- the lent bytes then are.

@@ -1,8 +1,7 @@
 -- What a call that writes into lent bytes owes: its answer and every byte. Assumes nothing.
-use Rattle.std.specs.Prelude.{cond, List, [], ◌∷◌, ◌++◌, ℕ, ltb, length, drop}
+use Rattle.std.specs.Prelude.{cond, List, [], ◌∷◌, ◌++◌, ℕ, ltb, length, drop, Result, Ok, Err}
 use Rattle.refusals.specs.Refusals.{number}
-use Rattle.writing.specs.declared.Wrote.{Wrote}
-use Rattle.writing.specs.declared.Wrote.TheVariants.{Bytes, Refused}
+use Rattle.refusals.specs.declared.Refused.{Refused}
 
 -- What is to be written, or the number and the place of a refusal.
 pub data Writing : Type 0 where
@@ -15,9 +14,9 @@ roomed (writes bs) lent = cond (ltb lent (length bs)) (refuses 12 0) (writes bs)
 roomed (refuses n at) lent = refuses n at
 
 -- The answer: number, place and size. All fields not named are 0.
-unfoldable pub wrote_values : Wrote → List ℕ
-wrote_values (Bytes n) = 0 ∷ 0 ∷ n ∷ []
-wrote_values (Refused w at) = number w ∷ at ∷ 0 ∷ []
+unfoldable pub wrote_values : Result ℕ Refused → List ℕ
+wrote_values (Ok n) = 0 ∷ 0 ∷ n ∷ []
+wrote_values (Err e) = number e.why ∷ e.place ∷ 0 ∷ []
 
 unfoldable pub wrote_owed : Writing → List ℕ
 wrote_owed (writes bs) = 0 ∷ 0 ∷ length bs ∷ []

@@ -1,13 +1,13 @@
 -- The bytes of a block: "The block file" of document 01, from a header and a tree to bytes; and which trees can be written.
 -- Assumes nothing.
-use Rattle.std.specs.Prelude.{◌≡◌, true, List, [], ◌∷◌, ◌++◌, ℕ, zero, suc, ◌+◌, ◌≤◌, ◌<◌, length}
-use Rattle.std.proofs.Math.Option.{Option, none, some}
+use Rattle.std.specs.Prelude.{◌≡◌, true, List, [], ◌∷◌, ◌++◌, ℕ, zero, suc, ◌+◌, ◌≤◌, ◌<◌, length, Option, Some, None}
 use Rattle.sets.specs.Numbers.{empty}
 use Rattle.rules.specs.Statements.{Stmt, pauses, Numbered, Trapped}
 use Rattle.rules.specs.Loops.{loops_pass}
 use Rattle.tables.specs.Table.{kind_of, operand_of, statements}
 use Rattle.block.specs.Format.{Header, Good, preorder}
-use Rattle.tables.specs.Kinds.{Shape, shape}
+use Rattle.tables.specs.declared.kinds.Shape.{Shape}
+use Rattle.tables.specs.Kinds.{shape}
 use Rattle.block.specs.Good.{Scoped, path, nested_traps, nested_locals, locals, Next}
 use Rattle.records.specs.Numerals.{in_bytes}
 
@@ -20,8 +20,8 @@ operand_bytes (suc n) x = in_bytes 2 x
 -- not allowed has no record.
 unfoldable pub shaped_bytes : ℕ → ℕ → Option Shape → List ℕ
 unfolding in_bytes
-shaped_bytes k x none = []
-shaped_bytes k x (some s) = in_bytes 2 s.length ++ (in_bytes 2 k ++ operand_bytes s.operands x)
+shaped_bytes k x None = []
+shaped_bytes k x (Some s) = in_bytes 2 s.length ++ (in_bytes 2 k ++ operand_bytes s.operands x)
 
 abbrev pub record_bytes : ℕ → ℕ → List ℕ
 record_bytes k x = shaped_bytes k x (shape k)

@@ -10,15 +10,8 @@ ghost use Rattle.writing.specs.Answers.{writes, roomed, wrote_values, wrote_owed
 
 use block::Declared;
 use records::numerals::put_number;
-use refusals::Why;
-use tables::kinds::{Wire, shape_of};
-
-// So many bytes were written, or why not and where, with every lent byte as it was.
-#[derive(Clone, Copy)]
-pub enum Wrote {
-    Bytes(usize),
-    Refused(Why, usize),
-}
+use refusals::{Refused, Why};
+use tables::kinds::shape_of;
 
 // A header at the front of the lent bytes; those behind it stay.
 pub fn put_header(out: &mut [u8], d: Declared)
@@ -41,27 +34,27 @@ pub fn put_record(out: &mut [u8], at: usize, kind: u16, operand: u16) -> usize
     ensures value { result ≡ at + length_of kind }
     ensures out_after { out.new ≡ sets out.old at (record_bytes kind operand) }
 {
-    let shape = shape_of(kind);
-    let Wire::Allowed(s) = shape else {
+    let Some(shape) = shape_of(kind) else {
         return at;
     };
-    let end = at + s.length as usize;
-    put_number(out, at, 2, s.length as u64);
+    let end = at + usize::from(shape.length);
+    put_number(out, at, 2, shape.length as u64);
     put_number(out, at + 2, 2, kind as u64);
-    if s.operands != 1 {
+    if shape.operands != 1 {
         return end;
     }
     put_number(out, at + 4, 2, operand as u64);
     end
 }
 
-// The answer of a call that has so many bytes to write and so many bytes lent to it: ROOM where they are too few.
-pub fn in_room(size: usize, lent: usize) -> Wrote
+// The answer of a call that has so many bytes to write and so many bytes lent to it: how many it writes, or ROOM where the lent ones
+// are too few, with every lent byte as it was.
+pub fn in_room(size: usize, lent: usize) -> Result<usize, Refused>
     ensures { (bs : List ℕ) → length bs ≡ size → wrote_values result ≡ wrote_owed (roomed (writes bs) lent) }
 {
     if lent < size {
-        Wrote::Refused(Why::Room, 0)
+        Err(Why::Room.at(0))
     } else {
-        Wrote::Bytes(size)
+        Ok(size)
     }
 }

@@ -1,16 +1,13 @@
--- `within`: each limit in turn. Assumes nothing.
-use native.Mathlib.Omega.{arith}
-use Rattle.copies.proofs.DoublingLaws.{over_signals, over_statements, over_pauses, only_path}
+-- `within`: the limits one after the other.
+use Rattle.std.proofs.Common.{arith}
+use Rattle.std.proofs.lemmas.Bool.Decides.{nat_tests}
+use Rattle.copies.specs.Doubling.{size_within}
 use Rattle.copies.proofs.within.Goals as goal
 
-pub returns-then-signals-size : goal.returns-then-signals-size
-returns-then-signals-size c = over_signals _ _ (omega arith)
+pub returns-then-size-le128 : goal.returns-then-size-le128
+unfolding size_within
+returns-then-size-le128 c = grind (arith, nat_tests)
 
-pub returns-then-size-gt512 : goal.returns-then-size-gt512
-returns-then-size-gt512 c = over_statements _ _ (omega arith) (omega arith)
-
-pub returns-then-size-gt128 : goal.returns-then-size-gt128
-returns-then-size-gt128 c = over_pauses _ _ (omega arith) (omega arith) (omega arith)
-
-pub returns : goal.returns
-returns c = only_path _ _ (omega arith) (omega arith) (omega arith)
+pub returns-else-size-le128 : goal.returns-else-size-le128
+unfolding size_within
+returns-else-size-le128 c = grind (arith, nat_tests)

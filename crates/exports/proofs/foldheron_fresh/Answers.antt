@@ -1,23 +1,20 @@
 -- `foldheron_fresh`: nothing is written at another length; at the answer's, the values of the library's answer are. Assumes nothing.
-use mathlib.Core.Path.{◌∙◌, refl}
-use lib.ListN.{get_or}
-use mir.Syntax.{w64}
-use mir.Val.{Fits}
-use Rattle.exports.proofs.Laid.{answered, not_answered, at_length, at_another}
-use Rattle.values.proofs.Counts.{fits, begun_counted}
-use borrow.Author.Rules.{rules}
+use mathlib.Core.Path.{◌∙◌}
+use native.Mathlib.Omega.{arith}
+use Rattle.exports.proofs.Laid.{numbered, answered_by, not_answered, at_length, at_another}
+use Rattle.values.proofs.Counts.{begun_counted}
 use Rattle.exports.proofs.foldheron_fresh.Goals as goal
 
 pub returns-then-answer-ne16 : goal.returns-then-answer-ne16
 returns-then-answer-ne16 c = record { answers = not_answered 2 _ _ c.if-answer-ne16.true; state_after = at_another 2 _ _ _ c.if-answer-ne16.true }
 
-pub overflow_cast-result : goal.overflow_cast-result
-overflow_cast-result c = fits c.fresh-values.ensures.value (begun_counted c.args.block.now c.args.state.now)
+pub put_answer-requires-clause-number : goal.put_answer-requires-clause-number
+put_answer-requires-clause-number c = numbered (omega arith) c.fresh-values.ensures.value (begun_counted c.args.block.now c.args.state.now)
 
 pub returns : goal.returns
 returns c =
     record {
-      answers = answered 2 _ _ (begun_counted c.args.block.now c.args.state.now).counted c.if-answer-ne16.false c.fresh-values.ensures.value
-          (λ i. let f : Fits w64 (get_or c.fresh-values.result i 0) = search rules in f.fits) c.put_values.ensures refl;
+      answers = answered_by 2 (begun_counted c.args.block.now c.args.state.now).counted c.fresh-values.ensures.value
+          c.put_answer.ensures;
       state_after = c.fresh-values.ensures.state_after ∙ at_length 2 _ _ _ c.if-answer-ne16.false;
     }

@@ -1,12 +1,11 @@
 -- `past_tests` meets its contract: ROOM, then the rules, one lemma for each way.
--- Assumes nothing.
 use native.Mathlib.Omega.{arith}
 use Rattle.reaction.proofs.Fronts.{placed, few_signals}
 use Rattle.reaction.proofs.Ways.{room_way, react_way}
 use Rattle.reaction.proofs.past_tests.Goals as goal
 
 pub returns-then-roomless : goal.returns-then-roomless
-returns-then-roomless c = λ g o st b. room_way o st _ c.if-roomless.true c.no_state.ensures
+returns-then-roomless c = λ g o st b. room_way o st _ c.if-roomless.true c.at.ensures
 
 pub hearing-heard-requires : goal.hearing-heard-requires
 hearing-heard-requires c = omega (arith, few_signals c.requires.1)

@@ -1,3 +1,4 @@
+-- `phase_after` meets its contract: code 1 keeps running, any other finishes.
 use Rattle.reaction.proofs.Ways.{running_phase, finished_phase}
 use Rattle.reaction.proofs.phase_after.Goals as goal
 

@@ -1,27 +1,19 @@
 -- `install`: the tests in their order, each as the definition has it. Assumes nothing.
-use Rattle.refusals.specs.Refusals.{number}
-use Rattle.refusals.specs.declared.Why.TheVariants as Why
+use mathlib.Core.Path.{refl}
 use Rattle.shelf.specs.Calls.{install}
-use Rattle.shelf.proofs.Stored.{third_party, no_shelf_told, walked_to, turned_down_so, found_good, block_turned_down, walked_on}
+use Rattle.shelf.proofs.Stored.{passed_on, turned_down_so, found_good, block_turned_down}
 use Rattle.shelf.proofs.install.Goals as goal
 
-pub returns-then-party-gt1 : goal.returns-then-party-gt1
-unfolding number
-returns-then-party-gt1 c =
-    let k = install c.args.party c.args.name c.args.block.now in let w = turned_down_so c.args.shelf.now k Why.Party
-    (third_party c.args.shelf.now k c.if-party-gt1.true) in record { result_value = w.0; shelf_after = w.1 }
+pub returns-in_err-end : goal.returns-in_err-end
+returns-in_err-end c =
+    let w = turned_down_so (passed_on c.from_residual.result c.from_residual.ensures) (c.in_err-end.ensures.turned_down (install c.args.party c.args.name c.args.block.now) refl) in record { result_value = w.0; shelf_after = w.1 }
 
-pub returns-in_default : goal.returns-in_default
-unfolding number
-returns-in_default c =
-    let k = install c.args.party c.args.name c.args.block.now in let w = turned_down_so c.args.shelf.now k Why.Shelf
-    (no_shelf_told c.args.shelf.now k c.if-party-gt1.false c.walk_shelf-walked.ensures c.in_default.is) in record { result_value = w.0; shelf_after = w.1 }
+pub returns-in_err-checked : goal.returns-in_err-checked
+returns-in_err-checked c =
+    let e = c.in_ok-end.ensures.its_shelf in
+    let w = turned_down_so (passed_on c.from_residual-in_err-checked.result c.from_residual-in_err-checked.ensures) (block_turned_down e.1.its_entries.1 c.args.party c.args.name c.args.block.now e.0 c.checked.ensures.1 c.in_err-checked.was) in
+    record { result_value = w.0; shelf_after = w.1 }
 
 pub admitted-requires : goal.admitted-requires
 admitted-requires c =
-    record { walks = walked_on _ c.walk_shelf-walked.ensures c.in-InUse.is; party_bound = (c.if-party-gt1.false, found_good c.checked-answer.ensures.1 c.in-Good.is) }
-
-pub returns-in-Refused : goal.returns-in-Refused
-returns-in-Refused c =
-    let w = walked_to _ c.walk_shelf-walked.ensures c.in-InUse.is in let w = block_turned_down w.1 c.args.party c.args.name
-    c.args.block.now c.if-party-gt1.false c.checked-answer.ensures.1 c.in-Refused.is in record { result_value = w.0; shelf_after = w.1 }
+    let w = c.in_ok-end.ensures.its_shelf in record { walks = w.1; party_bound = (w.0, found_good c.checked.ensures.1 c.in_ok-checked.was) }

@@ -4,10 +4,10 @@ use Rattle.foldheron.specs.Answers.{check_values}
 use Rattle.values.proofs.Known.{with_number}
 use Rattle.values.proofs.check.Goals as goal
 
-pub returns-in-Good : goal.returns-in-Good
+pub returns-in-Ok : goal.returns-in-Ok
 unfolding check_values
-returns-in-Good c = ap check_values (sym c.in-Good.is) ∙ c.check-checked.ensures
+returns-in-Ok c = ap check_values (sym c.in-Ok.is) ∙ c.check.ensures
 
-pub returns-in-Refused : goal.returns-in-Refused
+pub returns-in-Err : goal.returns-in-Err
 unfolding check_values
-returns-in-Refused c = with_number _ c.number_of.ensures ∙ ap check_values (sym c.in-Refused.is) ∙ c.check-checked.ensures
+returns-in-Err c = with_number _ c.number_of.ensures ∙ ap check_values (sym c.in-Err.is) ∙ c.check.ensures

@@ -3,4 +3,4 @@ use mathlib.Core.Path.{◌∙◌}
 use Rattle.values.proofs.install.Goals as goal
 
 pub returns : goal.returns
-returns c = record { value = c.shelved.ensures ∙ c.install.ensures.result_value; shelf_after = c.install.ensures.shelf_after }
+returns c = record { value = c.done.ensures ∙ c.install.ensures.result_value; shelf_after = c.install.ensures.shelf_after }

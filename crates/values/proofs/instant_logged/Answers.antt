@@ -5,4 +5,4 @@ use Rattle.values.proofs.instant_logged.Goals as goal
 
 pub returns : goal.returns
 returns c =
-    record { value = c.told_values.ensures ∙ ap₂ logged_values c.instant_logged-logged.ensures.answer_value c.instant_logged-logged.ensures.end_value; state_after = c.instant_logged-logged.ensures.state_after; log_after = c.instant_logged-logged.ensures.log_after }
+    record { value = c.logged.ensures ∙ ap₂ logged_values c.instant_logged.ensures.answer_value c.instant_logged.ensures.end_value; state_after = c.instant_logged.ensures.state_after; log_after = c.instant_logged.ensures.log_after }

@@ -3,4 +3,4 @@ use mathlib.Core.Path.{◌∙◌}
 use Rattle.values.proofs.withdraw.Goals as goal
 
 pub returns : goal.returns
-returns c = record { value = c.shelved.ensures ∙ c.withdraw.ensures.result_value; shelf_after = c.withdraw.ensures.shelf_after }
+returns c = record { value = c.done.ensures ∙ c.withdraw.ensures.result_value; shelf_after = c.withdraw.ensures.shelf_after }

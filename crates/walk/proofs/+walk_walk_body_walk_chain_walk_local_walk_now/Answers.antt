@@ -21,7 +21,7 @@ walk-tag_of-tag-requires t c = in_table c.requires.0
 pub walk-returns-then-recalls : goal.walk-returns-then-recalls
 walk-returns-then-recalls t c =
     let h = c.recalls.ensures c.if-recalls.true in
-    (walked_again h.1 ((c.entry_at-old.ensures _ _ c.requires.1).of_task c.args.task (mark_of c.args.mark) (h.0 ∙ c.tag_of-tag.ensures)), c.requires.1)
+    (walked_again h.1 ((c.in-Some.ensures _ _ c.requires.1).of_task c.args.task (mark_of c.args.mark) (h.0 ∙ c.tag_of-tag.ensures)), c.requires.1)
 
 pub walk-walk_now-found-requires : goal.walk-walk_now-found-requires
 walk-walk_now-found-requires t c = (call_now c.requires.0 c.decreases, c.requires)
@@ -46,7 +46,7 @@ pub walk_body-returns-then-settles : goal.walk_body-returns-then-settles
 walk_body-returns-then-settles t c =
     let h = c.settles.ensures c.if-settles.true in (
       record {
-        found_is = (c.entry_at-old.ensures _ _ c.requires.1).of_task c.args.p (mark_of c.args.mark) (h.0 ∙ c.tag_of-tag.ensures);
+        found_is = (c.in-Some.ensures _ _ c.requires.1).of_task c.args.p (mark_of c.args.mark) (h.0 ∙ c.tag_of-tag.ensures);
         agrees = h.1;
         fresh = λ l e. absurd (h.2 l e);
       },
@@ -82,20 +82,20 @@ walk_chain-returns t c =
 pub walk_local-walk_body-x-requires : goal.walk_local-walk_body-x-requires
 walk_local-walk_body-x-requires t c = (call_whole c.requires.0 c.decreases, c.requires)
 
-pub walk_local-walk-b-requires : goal.walk_local-walk-b-requires
-walk_local-walk-b-requires t c = (call_known c.requires.0 c.decreases, (c.requires.0, c.walk_body-x.ensures.1))
+pub walk_local-walk-requires : goal.walk_local-walk-requires
+walk_local-walk-requires t c = (call_known c.requires.0 c.decreases, (c.requires.0, c.walk_body-x.ensures.1))
 
-pub walk_local-returns-then-is_known : goal.walk_local-returns-then-is_known
-walk_local-returns-then-is_known t c = (
-  walked_local (seen_as c.settled_for-v.result) c.heard_with-doubt.ensures c.walk_body-x.ensures.0 c.settled_for-v.ensures c.hidden_after.ensures c.heard_with-known.ensures
-      (λ e. c.is_known.ensures.0 c.if-is_known.true (still_open c.settled_for-v.result e)) c.walk-b.ensures.0,
-  c.walk-b.ensures.1,
+pub walk_local-returns-in_default : goal.walk_local-returns-in_default
+walk_local-returns-in_default t c = (
+  walked_local (seen_as c.settled_for.result) c.heard_with-doubt.ensures c.walk_body-x.ensures.0 c.settled_for.ensures c.hidden_after.ensures c.heard_with-known.ensures
+      (λ e. c.in_default.not-Unknown (still_open c.settled_for.result e)) c.walk.ensures.0,
+  c.walk.ensures.1,
 )
 
-pub walk_local-returns : goal.walk_local-returns
-walk_local-returns t c = (
-  walked_same (seen_as c.settled_for-v.result) c.heard_with-doubt.ensures c.walk_body-x.ensures.0 c.settled_for-v.ensures c.hidden.ensures
-      (ap seen_as (c.is_known.ensures.1 c.if-is_known.false)),
+pub walk_local-returns-in-Unknown : goal.walk_local-returns-in-Unknown
+walk_local-returns-in-Unknown t c = (
+  walked_same (seen_as c.settled_for.result) c.heard_with-doubt.ensures c.walk_body-x.ensures.0 c.settled_for.ensures c.hidden.ensures
+      (ap seen_as c.in-Unknown.is),
   c.walk_body-x.ensures.1,
 )
 

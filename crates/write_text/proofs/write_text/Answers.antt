@@ -1,16 +1,18 @@
 -- `write_text`: a refusal of the block is passed on, and the text of a good block is put. Assumes nothing.
+use Rattle.std.proofs.lemmas.Result.{err_from_is_err_and}
 use Rattle.write_text.proofs.TextLaws.{refusal_passed, table_ready, all_passed}
 use Rattle.write_text.proofs.write_text.Goals as goal
 
 pub put_shown-requires : goal.put_shown-requires
-put_shown-requires c = table_ready c.args.block.now _ _ _ c.read_block-answer.ensures.answered c.in-Good.is c.read_block-answer.ensures.stands
+put_shown-requires c = table_ready c.args.block.now _ c.read_block.ensures.answered c.in_ok-s.was c.read_block.ensures.stands
 
-pub returns-in-Refused : goal.returns-in-Refused
-returns-in-Refused c =
-    let d = refusal_passed c.args.block.now c.args.text.now c.read_block-answer.ensures.answered c.in-Refused.is in
-    record { result_value = d.answered; text_after = d.stored }
+pub returns-in_err-s : goal.returns-in_err-s
+returns-in_err-s c =
+    let p = err_from_is_err_and c.from_residual.result c.from_residual.ensures.1 in
+    let d = refusal_passed c.args.block.now c.args.text.now c.read_block.ensures.answered c.in_err-s.was in
+    record { result_value = rw (p.1, p.2) d.answered; text_after = d.stored }
 
-pub returns-in-Good : goal.returns-in-Good
-returns-in-Good c =
-    let d = all_passed c.args.block.now _ _ _ c.read_block-answer.ensures.answered c.in-Good.is c.read_block-answer.ensures.stands c.put_shown.ensures in
+pub returns : goal.returns
+returns c =
+    let d = all_passed c.args.block.now _ c.read_block.ensures.answered c.in_ok-s.was c.read_block.ensures.stands c.put_shown.ensures in
     record { result_value = d.answered; text_after = d.stored }

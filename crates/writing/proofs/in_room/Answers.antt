@@ -11,7 +11,7 @@ pub returns-then-lent-size : goal.returns-then-lent-size
 unfolding number wrote_values wrote_owed
 returns-then-lent-size c =
     λ bs e.
-    sym (ap wrote_owed (too_few bs _ (omega (arith, c.if-lent-size.true, e))))
+    rw c.at.ensures (sym (ap wrote_owed (too_few bs _ (omega (arith, c.if-lent-size.true, e)))))
 
 pub returns-else-lent-size : goal.returns-else-lent-size
 unfolding wrote_values wrote_owed

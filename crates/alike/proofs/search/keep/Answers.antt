@@ -1,33 +1,30 @@
 -- `search::keep` meets its contract: found, left out or stored.
 -- Assumes nothing.
-use mathlib.Core.Path.{refl}
-use native.Mathlib.Omega.{arith}
+use mathlib.Core.Path.{◌≡◌, refl, sym, ◌∙◌}
+use mathlib.Core.Bool.{true, false, true≢false}
+use Prim.Native.Nat.{ℕ, ◌<◌}
+use Rattle.std.specs.Prelude.{Option, None, Some, is_some}
+use Rattle.pairs.specs.Rows.{row_at, NotAmong, Finds}
+use Rattle.pairs.specs.declared.rows.Pair.{Pair}
+use Rattle.pairs.specs.declared.rows.Rows.{Rows}
 use Rattle.alike.specs.Ends.{again, left_out, stored}
 use Rattle.alike.proofs.search.keep.Goals as goal
 
-pub find-k-requires : goal.find-k-requires
-find-k-requires c = c.requires.0
+there : (rows : Rows) (p : Pair) (r : Option ℕ) → Finds rows p r → is_some r ≡ true → (k : ℕ) × (k < rows.count) × (row_at rows k ≡ p)
+unfolding Finds
+there rows p None f e = absurd (true≢false (sym e))
+there rows p (Some k) f e = (k, f.0, f.1)
 
-pub returns-then-k-count : goal.returns-then-k-count
-returns-then-k-count c = again c.find-k.result c.if-k-count.true (c.find-k.ensures.there c.if-k-count.true) refl refl refl
+nowhere : (rows : Rows) (p : Pair) (r : Option ℕ) → Finds rows p r → is_some r ≡ false → NotAmong rows rows.count p
+unfolding Finds
+nowhere rows p None f e = f
+nowhere rows p (Some k) f e = absurd (true≢false e)
+
+pub returns-then-is_some : goal.returns-then-is_some
+returns-then-is_some c = let f = there _ _ _ c.find.ensures (sym c.is_some.ensures ∙ c.if-is_some.true) in again f.0 f.1 f.2 refl refl refl
 
 pub returns-then-count-ge1024 : goal.returns-then-count-ge1024
-returns-then-count-ge1024 c =
-    left_out (λ k h. c.find-k.ensures.none_before k (omega (arith, h, c.if-k-count.false))) c.if-count-ge1024.true refl refl refl
-
-pub add-requires : goal.add-requires
-add-requires c = (c.if-count-ge1024.false, c.requires.2)
-
-pub overflow_cast-parents : goal.overflow_cast-parents
-overflow_cast-parents c = omega (arith, c.requires.1)
-
-pub overflow_add-result : goal.overflow_add-result
-overflow_add-result c = omega (arith, c.if-count-ge1024.false)
+returns-then-count-ge1024 c = left_out (nowhere _ _ _ c.find.ensures (sym c.is_some.ensures ∙ c.if-is_some.false)) c.if-count-ge1024.true refl refl refl
 
 pub returns : goal.returns
-returns c =
-    stored (λ k h. c.find-k.ensures.none_before k (omega (arith, h, c.if-k-count.false))) c.if-count-ge1024.false c.add.ensures (record {
-      new_parents =
-          refl;
-      new_sets = refl;
-    }) refl
+returns c = stored (nowhere _ _ _ c.find.ensures (sym c.is_some.ensures ∙ c.if-is_some.false)) c.if-count-ge1024.false c.push.ensures refl refl

@@ -1,52 +1,31 @@
--- `faults::fault_as` meets its contract: at each return the tests before it passed, each with a law below, and the last one failed.
--- Assumes nothing.
-use mathlib.Core.Path.{◌≡◌, sym, ◌∙◌}
-use mathlib.Core.Bool.{Bool, true, false, cond}
-use Rattle.block.specs.Format.{is_broken, over_limit, wrong_signal, fault_as}
-use Rattle.tables.specs.Kinds.{length_of}
-use Rattle.block.specs.Told.{header_of, sofar_of, around_of}
-use Rattle.block.proofs.Tests.{as_broken, as_kind, as_limit, as_signal, as_last}
+-- `faults::fault_as` meets its contract: at each return the tests before it passed and the last one failed. Assumes nothing.
+use native.Mathlib.Omega.{arith}
+use Rattle.refusals.specs.Refusals.{number}
+use Rattle.refusals.specs.declared.Why.TheVariants.{Broken, Kind, Limit, Signal, Exit}
+use Rattle.block.specs.Format.{fault_as}
+use Rattle.block.proofs.Tests.{at_fault, no_fault_at}
 use Rattle.block.proofs.faults.fault_as.Goals as goal
 
 pub returns-then-broken : goal.returns-then-broken
-returns-then-broken c = sym (as_broken _ _ _ _ _ _ (sym c.broken.ensures ∙ c.if-broken.true))
+unfolding fault_as number
+returns-then-broken c = at_fault Broken (grind arith) c.at.ensures
 
 pub returns-then-record_length-two_bytes : goal.returns-then-record_length-two_bytes
-returns-then-record_length-two_bytes c =
-    let whole : is_broken c.args.b.now c.args.r.at ≡ false = sym c.broken.ensures ∙ c.if-broken.false in
-    sym (as_kind _ _ _ _ _ _ (whole) _ c.two_bytes.ensures (λ e. c.if-record_length-two_bytes.true (c.record_length.ensures ∙ e)))
+unfolding fault_as number
+returns-then-record_length-two_bytes c = at_fault Kind (grind arith) c.at-then-record_length-two_bytes.ensures
 
 pub returns-then-limit_passed : goal.returns-then-limit_passed
-returns-then-limit_passed c =
-    let whole : is_broken c.args.b.now c.args.r.at ≡ false = sym c.broken.ensures ∙ c.if-broken.false in
-    let right : length_of c.args.kind ≡ c.two_bytes.result = sym c.record_length.ensures ∙ c.if-record_length-two_bytes.false in
-    sym (as_limit _ _ _ _ _ _ (whole) _ c.two_bytes.ensures (right) (sym c.limit_passed.ensures ∙ c.if-limit_passed.true))
+unfolding fault_as number
+returns-then-limit_passed c = at_fault Limit (grind arith) c.at-then-limit_passed.ensures
 
 pub returns-then-signal_wrong : goal.returns-then-signal_wrong
-returns-then-signal_wrong c =
-    let whole : is_broken c.args.b.now c.args.r.at ≡ false = sym c.broken.ensures ∙ c.if-broken.false in
-    let right : length_of c.args.kind ≡ c.two_bytes.result = sym c.record_length.ensures ∙ c.if-record_length-two_bytes.false in
-    let within : over_limit c.args.c.room (around_of c.args.c) (sofar_of c.args.r) c.args.kind ≡ false = sym c.limit_passed.ensures ∙ c.if-limit_passed.false in
-    let signal_is : (z : Bool) → c.signal_wrong.result ≡ z → wrong_signal (header_of c.args.d) (around_of c.args.c) (sofar_of c.args.r) c.args.kind c.two_bytes-operand.result ≡ z = λ z e. sym c.signal_wrong.ensures ∙ e in
-    sym (as_signal _ _ _ _ _ _ (whole) _ c.two_bytes.ensures (right) (within) _
-    c.two_bytes-operand.ensures (signal_is _ c.if-signal_wrong.true))
+unfolding fault_as number
+returns-then-signal_wrong c = at_fault Signal (grind arith) c.at-then-signal_wrong.ensures
 
 pub returns-then-exit_wrong : goal.returns-then-exit_wrong
-returns-then-exit_wrong c =
-    let whole : is_broken c.args.b.now c.args.r.at ≡ false = sym c.broken.ensures ∙ c.if-broken.false in
-    let right : length_of c.args.kind ≡ c.two_bytes.result = sym c.record_length.ensures ∙ c.if-record_length-two_bytes.false in
-    let within : over_limit c.args.c.room (around_of c.args.c) (sofar_of c.args.r) c.args.kind ≡ false = sym c.limit_passed.ensures ∙ c.if-limit_passed.false in
-    let signal_is : (z : Bool) → c.signal_wrong.result ≡ z → wrong_signal (header_of c.args.d) (around_of c.args.c) (sofar_of c.args.r) c.args.kind c.two_bytes-operand.result ≡ z = λ z e. sym c.signal_wrong.ensures ∙ e in
-    let last : (z : Bool) → c.exit_wrong.result ≡ z → fault_as c.args.c.room c.args.b.now (header_of c.args.d) (around_of c.args.c) (sofar_of c.args.r) c.args.kind ≡ cond z 6 0 = λ z e. as_last _ _ _ _ _ _ (whole) _ c.two_bytes.ensures (right) (within) _
-    c.two_bytes-operand.ensures (signal_is _ c.if-signal_wrong.false) z (sym e ∙ c.exit_wrong.ensures) in
-    sym (last true c.if-exit_wrong.true)
+unfolding fault_as number
+returns-then-exit_wrong c = at_fault Exit (grind arith) c.at-then-exit_wrong.ensures
 
 pub returns : goal.returns
-returns c =
-    let whole : is_broken c.args.b.now c.args.r.at ≡ false = sym c.broken.ensures ∙ c.if-broken.false in
-    let right : length_of c.args.kind ≡ c.two_bytes.result = sym c.record_length.ensures ∙ c.if-record_length-two_bytes.false in
-    let within : over_limit c.args.c.room (around_of c.args.c) (sofar_of c.args.r) c.args.kind ≡ false = sym c.limit_passed.ensures ∙ c.if-limit_passed.false in
-    let signal_is : (z : Bool) → c.signal_wrong.result ≡ z → wrong_signal (header_of c.args.d) (around_of c.args.c) (sofar_of c.args.r) c.args.kind c.two_bytes-operand.result ≡ z = λ z e. sym c.signal_wrong.ensures ∙ e in
-    let last : (z : Bool) → c.exit_wrong.result ≡ z → fault_as c.args.c.room c.args.b.now (header_of c.args.d) (around_of c.args.c) (sofar_of c.args.r) c.args.kind ≡ cond z 6 0 = λ z e. as_last _ _ _ _ _ _ (whole) _ c.two_bytes.ensures (right) (within) _
-    c.two_bytes-operand.ensures (signal_is _ c.if-signal_wrong.false) z (sym e ∙ c.exit_wrong.ensures) in
-    sym (last false c.if-exit_wrong.false)
+unfolding fault_as
+returns c = no_fault_at _ (grind arith)

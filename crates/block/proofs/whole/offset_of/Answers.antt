@@ -1,31 +1,21 @@
--- `whole::offset_of` meets its contract. The invariant is `Summed`: the offset of statement i so far. The measure is what is left of n.
+-- `whole::offset_of` meets its contract. The invariant is `Summed`: the offset of statement i so far.
 -- Assumes nothing.
+use mathlib.Core.Path.{ap, ◌∙◌}
 use native.Mathlib.Omega.{arith}
-use lib.ListN.{get_or}
-use Rattle.block.proofs.Offsets.{length_small, summed_start, summed_step, ends}
+use Prim.Native.Nat.{◌<◌}
+use lib.ListN.{length-take}
+use lib.Seq.{get_or-take}
+use Rattle.tables.specs.Kinds.{length_of}
+use Rattle.block.proofs.Offsets.{summed_start, summed_step, ends}
 use Rattle.block.proofs.whole.offset_of.Goals as goal
 
-pub loop-i-init : goal.loop-i-init
-loop-i-init c = summed_start _ _
+pub loop-kind-init : goal.loop-kind-init
+loop-kind-init c = summed_start _ _
 
-pub offset_bounds-kinds-i : goal.offset_bounds-kinds-i
-offset_bounds-kinds-i c = omega (arith, c.loop-i.invariant.within, c.loop-i-test.true, c.requires)
-
-pub bounds-kinds-i : goal.bounds-kinds-i
-bounds-kinds-i c = omega (arith, c.loop-i.invariant.within, c.loop-i-test.true, c.requires)
-
-pub overflow_add-at : goal.overflow_add-at
-overflow_add-at c =
-    omega (arith, c.loop-i.invariant.bound, c.loop-i-test.true, c.requires, c.record_length.ensures, length_small (get_or c.args.kinds.now c.loop-i.i 0))
-
-pub overflow_add-i : goal.overflow_add-i
-overflow_add-i c = omega (arith, c.loop-i.invariant.within, c.loop-i-test.true, c.requires)
-
-pub loop-i-smaller : goal.loop-i-smaller
-loop-i-smaller c = omega (arith, c.loop-i.invariant.within, c.loop-i-test.true, c.requires)
-
-pub loop-i-preserved : goal.loop-i-preserved
-loop-i-preserved c = summed_step c.loop-i.invariant c.loop-i-test.true c.record_length.ensures
+pub loop-kind-preserved : goal.loop-kind-preserved
+loop-kind-preserved c =
+    let l : c.loop-kind.kind-index < c.args.n = omega (arith, c.loop-kind-test.true, length-take c.args.n c.args.table.now.kinds) in
+    summed_step c.loop-kind.invariant l (c.from-at.ensures ∙ c.record_length.ensures ∙ ap length_of (get_or-take c.args.n c.args.table.now.kinds c.loop-kind.kind-index 0 l))
 
 pub returns : goal.returns
-returns c = λ t h l. ends c.loop-i.invariant c.loop-i-test.false t h l
+returns c = λ t h l. ends c.loop-kind.invariant (omega (arith, c.loop-kind-test.false, length-take c.args.n c.args.table.now.kinds)) t h l

@@ -1,36 +1,37 @@
 -- `whole::read_block` meets its contract: each return is one end of the reading, and its lemma stands in Ends.
 -- Assumes nothing.
-use mathlib.Core.Path.{sym, ◌∙◌}
+use Rattle.std.proofs.lemmas.Result.{err_from_is_err_and}
 use Rattle.block.specs.Format.{header_fault}
-use Rattle.block.proofs.Ends.{over_size, bad_header, ready_start, few_read, tree_refused, tree_ends}
+use Rattle.block.proofs.Ends.{over_size, bad_header, good_header, ready_start, few_read, tree_refused, tree_ends}
 use Rattle.block.proofs.whole.read_block.Goals as goal
 
 pub returns-then-b-gt3086 : goal.returns-then-b-gt3086
-returns-then-b-gt3086 c = over_size _ c.if-b-gt3086.true c.requires
+returns-then-b-gt3086 c = rw c.at.ensures (over_size _ c.if-b-gt3086.true c.requires)
 
-pub returns-then-fault-ne0 : goal.returns-then-fault-ne0
+pub returns-in_err-header_fault : goal.returns-in_err-header_fault
 unfolding header_fault
-returns-then-fault-ne0 c = bad_header _ c.if-b-gt3086.false _ c.header_fault-fault.ensures c.if-fault-ne0.true c.refusal.ensures c.requires
+returns-in_err-header_fault c =
+    let p = err_from_is_err_and c.from_residual.result c.from_residual.ensures.1 in
+    rw (p.1, p.2) (bad_header _ c.if-b-gt3086.false c.header_fault.ensures c.in_err-header_fault.was c.requires)
 
-pub read_at-tree-requires : goal.read_at-tree-requires
+pub read_at-requires : goal.read_at-requires
 unfolding header_fault
-read_at-tree-requires c =
-    (ready_start _ c.if-b-gt3086.false _ c.declared-d.ensures (sym c.header_fault-fault.ensures ∙ c.if-fault-ne0.false), c.requires)
+read_at-requires c = (ready_start _ c.if-b-gt3086.false _ c.declared-d.ensures (good_header _ c.header_fault.ensures c.in_ok-header_fault.was), c.requires)
+
+pub returns-in_err-end : goal.returns-in_err-end
+unfolding header_fault
+returns-in_err-end c =
+    let p = err_from_is_err_and c.from_residual-in_err-end.result c.from_residual-in_err-end.ensures.1 in
+    rw (p.1, p.2)
+    (tree_refused _ c.if-b-gt3086.false _ c.declared-d.ensures (good_header _ c.header_fault.ensures c.in_ok-header_fault.was) c.read_at.ensures c.in_err-end.was)
 
 pub finished-requires : goal.finished-requires
 unfolding header_fault
 finished-requires c =
-    few_read _ c.if-b-gt3086.false _ c.declared-d.ensures (sym c.header_fault-fault.ensures ∙ c.if-fault-ne0.false)
-    c.read_at-tree.ensures c.in-Got.is
+    few_read _ c.if-b-gt3086.false _ c.declared-d.ensures (good_header _ c.header_fault.ensures c.in_ok-header_fault.was) c.read_at.ensures c.in_ok-end.was
 
-pub returns-in-Refused : goal.returns-in-Refused
+pub returns : goal.returns
 unfolding header_fault
-returns-in-Refused c =
-    tree_refused _ c.if-b-gt3086.false _ c.declared-d.ensures (sym c.header_fault-fault.ensures ∙ c.if-fault-ne0.false)
-    c.read_at-tree.ensures c.in-Refused.is c.refusal-in-Refused.ensures
-
-pub returns-in-Got : goal.returns-in-Got
-unfolding header_fault
-returns-in-Got c =
-    tree_ends _ c.if-b-gt3086.false _ c.declared-d.ensures (sym c.header_fault-fault.ensures ∙ c.if-fault-ne0.false)
-    c.read_at-tree.ensures c.in-Got.is c.finished.ensures
+returns c =
+    tree_ends _ c.if-b-gt3086.false _ c.declared-d.ensures (good_header _ c.header_fault.ensures c.in_ok-header_fault.was) c.read_at.ensures c.in_ok-end.was
+    c.finished.ensures

@@ -1,39 +1,31 @@
 -- `scan::scan` meets its contract: each return is one end of the reading, and its lemma stands in ScanEnds. Assumes nothing.
-use mathlib.Core.Path.{◌≡◌, sym, ◌∙◌}
-use Prim.Native.Nat.{◌≤◌}
-use lib.ListN.{length}
-use Rattle.block.specs.Format.{header_fault_in}
-use Rattle.convert.proofs.ScanEnds.{over_size, bad_header, ready_start, signals_fit, small_bytes, tree_refused, tree_ends}
+use Rattle.convert.proofs.ScanWays.{passed_on}
+use Rattle.convert.proofs.ScanEnds.{over_size, no_fault, bad_header, ready_start, signals_fit, small_bytes, tree_refused, tree_ends}
 use Rattle.convert.proofs.scan.scan.Goals as goal
 
 pub returns-then-b-gt3086 : goal.returns-then-b-gt3086
-returns-then-b-gt3086 c = over_size _ c.if-b-gt3086.true
+returns-then-b-gt3086 c = rw c.at.ensures (over_size _ c.if-b-gt3086.true)
 
-pub returns-then-fault-ne0 : goal.returns-then-fault-ne0
-returns-then-fault-ne0 c = bad_header _ c.if-b-gt3086.false _ c.header_fault-fault.ensures c.if-fault-ne0.true c.refusal.ensures
+pub returns-in_err-header_fault : goal.returns-in_err-header_fault
+returns-in_err-header_fault c =
+    bad_header _ c.if-b-gt3086.false c.header_fault.ensures c.in_err-header_fault.was (passed_on c.from_residual.result c.from_residual.ensures)
 
-pub scan_at-tree-requires : goal.scan_at-tree-requires
-scan_at-tree-requires c =
-    let no_fault : header_fault_in 2 c.args.b.now ≡ 0 = sym c.header_fault-fault.ensures ∙ c.if-fault-ne0.false in
-    let fits : length c.args.b.now ≤ 3086 = c.if-b-gt3086.false in
-    ready_start _ (fits) _ c.declared-d.ensures (no_fault)
+pub scan_at-requires : goal.scan_at-requires
+scan_at-requires c =
+    let f = no_fault _ c.header_fault.ensures c.in_ok-header_fault.was in
+    ready_start _ c.if-b-gt3086.false _ c.declared-d.ensures f
+
+pub returns-in_err-tree : goal.returns-in_err-tree
+returns-in_err-tree c =
+    let f = no_fault _ c.header_fault.ensures c.in_ok-header_fault.was in
+    tree_refused _ c.if-b-gt3086.false _ c.declared-d.ensures f c.scan_at.ensures c.in_err-tree.was (passed_on c.from_residual-in_err-tree.result c.from_residual-in_err-tree.ensures)
 
 pub ended-requires : goal.ended-requires
 ended-requires c =
-    let no_fault : header_fault_in 2 c.args.b.now ≡ 0 = sym c.header_fault-fault.ensures ∙ c.if-fault-ne0.false in
-    let fits : length c.args.b.now ≤ 3086 = c.if-b-gt3086.false in (
-      small_bytes _ (fits) _ c.declared-d.ensures (no_fault) c.scan_at-tree.ensures c.in-Got.is,
-      signals_fit _ (fits) _ c.declared-d.ensures (no_fault),
-    )
+    let f = no_fault _ c.header_fault.ensures c.in_ok-header_fault.was in
+    (small_bytes _ c.if-b-gt3086.false _ c.declared-d.ensures f c.scan_at.ensures c.in_ok-tree.was, signals_fit _ c.if-b-gt3086.false _ c.declared-d.ensures f)
 
-pub returns-in-Refused : goal.returns-in-Refused
-returns-in-Refused c =
-    let no_fault : header_fault_in 2 c.args.b.now ≡ 0 = sym c.header_fault-fault.ensures ∙ c.if-fault-ne0.false in
-    let fits : length c.args.b.now ≤ 3086 = c.if-b-gt3086.false in
-    tree_refused _ (fits) _ c.declared-d.ensures (no_fault) c.scan_at-tree.ensures c.in-Refused.is c.refusal-in-Refused.ensures
-
-pub returns-in-Got : goal.returns-in-Got
-returns-in-Got c =
-    let no_fault : header_fault_in 2 c.args.b.now ≡ 0 = sym c.header_fault-fault.ensures ∙ c.if-fault-ne0.false in
-    let fits : length c.args.b.now ≤ 3086 = c.if-b-gt3086.false in
-    tree_ends _ (fits) _ c.declared-d.ensures (no_fault) c.scan_at-tree.ensures c.in-Got.is _ c.ended.ensures
+pub returns : goal.returns
+returns c =
+    let f = no_fault _ c.header_fault.ensures c.in_ok-header_fault.was in
+    tree_ends _ c.if-b-gt3086.false _ c.declared-d.ensures f c.scan_at.ensures c.in_ok-tree.was _ c.ended.ensures

@@ -7,8 +7,8 @@ use Rattle.copies.proofs.copying.new_operand.Goals as goal
 pub returns-in-26 : goal.returns-in-26
 returns-in-26 c = operand_next _ _ _ _ c.in-26.is
 
-pub returns-in-18-to-20 : goal.returns-in-18-to-20
-returns-in-18-to-20 c = c.name_of.ensures ∙ operand_named _ _ _ _ (omega arith) (omega arith)
+pub returns-in-18 : goal.returns-in-18
+returns-in-18 c = c.name_of.ensures ∙ operand_named _ _ _ _ (omega arith) (omega arith)
 
 pub returns-in_default : goal.returns-in_default
 returns-in_default c = operand_kept _ _ _ _ (λ e. omega arith) (λ e. omega arith) (λ e. omega arith) (λ e. omega arith)

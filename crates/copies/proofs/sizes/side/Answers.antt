@@ -7,6 +7,6 @@ returns c =
       statements = c.plus.ensures i;
       pauses = c.plus-2.ensures i;
       locals = c.plus-3.ensures i;
-      path = c.longer.ensures i;
+      path = c.max.ensures i;
       bytes = c.plus-4.ensures i;
     }

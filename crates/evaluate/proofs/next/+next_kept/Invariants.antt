@@ -4,4 +4,4 @@ use lib.ListN.{get_or}
 use Rattle.evaluate.proofs.next.+next_kept.Given as goal
 
 abbrev pub decreases-next_kept : goal.decreases-next_kept
-decreases-next_kept l = get_or l.sizes.now l.task.at 0
+decreases-next_kept l = get_or l.table.now.sizes l.task.at 0

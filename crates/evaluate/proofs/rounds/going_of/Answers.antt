@@ -7,14 +7,14 @@ use Rattle.forms.specs.Forms.{step_of}
 use Rattle.evaluate.specs.Reacts.{state_of}
 use Rattle.evaluate.proofs.rounds.going_of.Goals as goal
 
-pub returns-in-Fresh : goal.returns-in-Fresh
+pub returns-in-Fresh-clause-its_step : goal.returns-in-Fresh-clause-its_step
 unfolding step_of step started
-returns-in-Fresh c = λ A t. ap (λ ph. step t (state_of ph A)) (sym c.in-Fresh.is)
+returns-in-Fresh-clause-its_step c = λ A t. ap (λ ph. step t (state_of ph A)) (sym c.in-Fresh.is)
 
-pub returns-in-Running : goal.returns-in-Running
+pub returns-in-Running-clause-its_step : goal.returns-in-Running-clause-its_step
 unfolding step_of step started
-returns-in-Running c = λ A t. ap (λ ph. step t (state_of ph A)) (sym c.in-Running.is)
+returns-in-Running-clause-its_step c = λ A t. ap (λ ph. step t (state_of ph A)) (sym c.in-Running.is)
 
-pub returns-in-Finished : goal.returns-in-Finished
+pub returns-in-Finished-clause-its_step : goal.returns-in-Finished-clause-its_step
 unfolding step_of step started
-returns-in-Finished c = λ A t. ap (λ ph. step t (state_of ph A)) (sym c.in-Finished.is)
+returns-in-Finished-clause-its_step c = λ A t. ap (λ ph. step t (state_of ph A)) (sym c.in-Finished.is)

@@ -7,11 +7,11 @@ use Rattle.forms.specs.Forms.{step_of, form_for}
 use Rattle.forms.proofs.FormLaws.{in_table, formed, resumed_formed, resumed_done, done_formed}
 use Rattle.forms.proofs.form.resumed_form.Goals as goal
 
-pub bounds-kinds-at : goal.bounds-kinds-at
-bounds-kinds-at c = in_table c.requires
+pub bounds-table-at : goal.bounds-table-at
+bounds-table-at c = in_table c.requires
 
-pub bounds-operands-at : goal.bounds-operands-at
-bounds-operands-at c = in_table c.requires
+pub bounds-table-at-2 : goal.bounds-table-at-2
+bounds-table-at-2 c = in_table c.requires
 
 pub second_at-next-requires : goal.second_at-next-requires
 second_at-next-requires c = in_table c.requires

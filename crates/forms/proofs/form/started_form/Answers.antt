@@ -6,11 +6,11 @@ use Rattle.forms.specs.Forms.{step_of}
 use Rattle.forms.proofs.FormLaws.{some_kind, in_table, started_formed, done_formed}
 use Rattle.forms.proofs.form.started_form.Goals as goal
 
-pub bounds-kinds-at : goal.bounds-kinds-at
-bounds-kinds-at c = in_table c.requires
+pub bounds-table-at : goal.bounds-table-at
+bounds-table-at c = in_table c.requires
 
-pub bounds-operands-at : goal.bounds-operands-at
-bounds-operands-at c = in_table c.requires
+pub bounds-table-at-2 : goal.bounds-table-at-2
+bounds-table-at-2 c = in_table c.requires
 
 pub second_at-requires : goal.second_at-requires
 second_at-requires c = in_table c.requires

@@ -3,7 +3,6 @@
 use mathlib.Core.Path.{◌≡◌}
 use Prim.Native.Nat.{◌+◌, ◌-◌, ◌≤◌}
 use Rattle.rules.specs.Statements.{Stmt}
-use Rattle.tables.specs.Table.{table_of}
 use Rattle.tables.specs.Table.{statements}
 use Rattle.forms.specs.Forms.{At}
 use Rattle.mazes.specs.Mazes.{OfForm}
@@ -11,7 +10,7 @@ use Rattle.maze.proofs.PartLaws.{Going}
 use Rattle.maze.proofs.corridors.from_part.Given as goal
 
 abbrev pub invariant-loop-j : goal.invariant-loop-j
-invariant-loop-j l = (l.end ≤ 512) × ((t : Stmt) → At (table_of l.kinds l.operands l.sizes) l.i t → OfForm t → (l.end ≡ l.i + statements t) × Going (table_of l.kinds l.operands l.sizes) l.a l.i t l.n l.j l.left)
+invariant-loop-j l = (l.end ≤ 512) × ((t : Stmt) → At l.table l.i t → OfForm t → (l.end ≡ l.i + statements t) × Going l.table l.a l.i t l.n l.j l.left)
 
 abbrev pub decreases-loop-j : goal.decreases-loop-j
 decreases-loop-j l = l.end - l.j

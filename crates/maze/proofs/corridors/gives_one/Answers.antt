@@ -6,10 +6,10 @@ use borrow.Author.Tests.{eq-eqb, ne_eqb}
 use Rattle.maze.specs.Ways.{gives_one}
 use Rattle.maze.proofs.corridors.gives_one.Goals as goal
 
-pub returns-then-kind-eq18 : goal.returns-then-kind-eq18
+pub returns-in-18 : goal.returns-in-18
 unfolding gives_one
-returns-then-kind-eq18 c = ap (eqb _) c.wide.ensures.0 ∙ sym (simp (eq-eqb _ 18 c.if-kind-eq18.true))
+returns-in-18 c = ap (eqb _) c.wide.ensures.0 ∙ sym (simp (eq-eqb _ 18 c.in-18.is))
 
-pub returns-else-kind-eq18 : goal.returns-else-kind-eq18
+pub returns-in_default : goal.returns-in_default
 unfolding gives_one
-returns-else-kind-eq18 c = sym (simp (ne_eqb _ 18 c.if-kind-eq18.false))
+returns-in_default c = sym (simp (ne_eqb _ 18 c.in_default.in_default-own.rest.1))

@@ -1,13 +1,9 @@
 -- `maze::form::in_form` meets its contract: every row before i fits, and the root is not nothing.
 -- Assumes nothing.
-use Prim.Native.Nat.{◌-◌, ◌≤◌}
 use mathlib.Core.Path.{◌≡◌}
 use mathlib.Core.Bool.{true}
 use Rattle.maze.specs.Rows.{all_fit_to}
 use Rattle.maze.proofs.form.in_form.Given as goal
 
 abbrev pub invariant-loop-i : goal.invariant-loop-i
-invariant-loop-i l = (l.i ≤ l.count) × (all_fit_to l.kinds l.sizes l.i ≡ true)
-
-abbrev pub decreases-loop-i : goal.decreases-loop-i
-decreases-loop-i l = l.count - l.i
+invariant-loop-i l = all_fit_to l.table.kinds l.table.sizes l.i ≡ true

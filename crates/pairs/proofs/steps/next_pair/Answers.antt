@@ -1,31 +1,25 @@
--- `steps::next_pair` meets its contract: by whether the first is answered, and by its code.
+-- `steps::next_pair` meets its contract: one lemma for each way.
 -- Assumes nothing.
-use Rattle.pairs.proofs.StepLaws.{pauses_go, none_go, both_stay}
 use borrow.Author.Rules.{rules}
+use Rattle.pairs.proofs.StepLaws.{outputs_apart, codes_apart, both_go, both_stay, first_only, second_only}
 use Rattle.pairs.proofs.steps.next_pair.Goals as goal
 
-pub returns-then-r-eq1 : goal.returns-then-r-eq1
-returns-then-r-eq1 c =
-    λ b d a e x y z s h. pauses_go c.args.r c.args.q (record {
-      low_fits =
-          search rules;
-      high_fits = search rules;
-    }) (record { low_fits = search rules; high_fits = search rules }) b d c.args.p
-    x h c.if-r.true c.if-r-eq1.true a e y z s
+pub returns-in-Some-Some : goal.returns-in-Some-Some
+returns-in-Some-Some c =
+    λ b d. both_go c.args.r c.args.q (search rules) (search rules) b d c.args.p c.in-Some-Some.is-0 c.in-Some-Some.is-1 c.if-r-q.true c.if-a-c.true _ c.next_states.ensures.phase
+    c.next_states.ensures.first c.next_states.ensures.second
 
-pub returns-then-r : goal.returns-then-r
-returns-then-r c =
-    λ b d a e x y z s h. none_go c.args.r c.args.q (record {
-      low_fits =
-          search rules;
-      high_fits = search rules;
-    }) (record { low_fits = search rules; high_fits = search rules }) b d c.args.p
-    x h c.if-r.true c.if-r-eq1.false a e y z s
+pub returns-in-None-None : goal.returns-in-None-None
+returns-in-None-None c = λ b d. both_stay c.args.r c.args.q (search rules) (search rules) b d c.args.p c.in-None-None.is-0 c.in-None-None.is-1
 
-pub returns : goal.returns
-returns c =
-    λ b d a e x y z s h. both_stay c.args.r c.args.q (record { low_fits = search rules; high_fits = search rules }) (record {
-      low_fits =
-          search rules;
-      high_fits = search rules;
-    }) b d c.args.p x h c.if-r.false a e y z s
+pub returns-in_default : goal.returns-in_default
+returns-in_default c = λ b d. codes_apart c.args.r c.args.q (search rules) (search rules) b d c.args.p c.in-Some-Some.is-0 c.in-Some-Some.is-1 c.if-a-c.false
+
+pub returns-in_default-2 : goal.returns-in_default-2
+returns-in_default-2 c = λ b d. outputs_apart c.args.r c.args.q (search rules) (search rules) b d c.args.p c.in-Some-Some.is-0 c.in-Some-Some.is-1 c.if-r-q.false
+
+pub returns-in_default-3 : goal.returns-in_default-3
+returns-in_default-3 c = λ b d. first_only c.args.r c.args.q (search rules) (search rules) b d c.args.p c.in_default.is-0 c.in_default.is-1
+
+pub returns-in_default-4 : goal.returns-in_default-4
+returns-in_default-4 c = λ b d. second_only c.args.r c.args.q (search rules) (search rules) b d c.args.p c.in_default.is-0 c.in_default.is-1

@@ -1,40 +1,21 @@
--- `body::body_step`: a number is at fault, a name is looked up, a sign has its move. Assumes nothing.
+-- `body::body_step`: a sign has its move, a name is looked up, any other token is at fault. Assumes nothing.
 use mathlib.Core.Path.{sym, subst}
 use Rattle.read_steps.specs.Holding.{Safe}
-use Rattle.read_steps.proofs.TokenLaws.{sign_safe, name_safe, takes_name, takes_sign, takes_number}
+use Rattle.read_steps.proofs.TokenLaws.{sign_safe, name_safe, takes_name, takes_sign, takes_stray}
 use Rattle.read_steps.proofs.body.body_step.Goals as goal
 
-pub returns-then-kind-eq18 : goal.returns-then-kind-eq18
-returns-then-kind-eq18 c = record { takes = λ at g h e. takes_number c.args.text.now c.args.t g c.if-kind-eq18.true }
+pub make-requires-clause-safe : goal.make-requires-clause-safe
+make-requires-clause-safe c = subst Safe (sym c.sign_move-m.ensures) (sign_safe _ _ _)
 
-pub make-requires : goal.make-requires
-make-requires c =
-    record {
-      roomy = c.requires.roomy;
-      out_len = c.requires.out_len;
-      safe = subst Safe (sym c.name_move-m.ensures)
-          (name_safe _ _ _);
-      next_bound = c.requires.next_bound;
-      brackets_bound = c.requires.brackets_bound;
-      depth_bound = c.requires.depth_bound;
-    }
+pub make-requires-in-Name-clause-safe : goal.make-requires-in-Name-clause-safe
+make-requires-in-Name-clause-safe c = subst Safe (sym c.name_move-m.ensures) (name_safe _ _ _)
 
-pub returns-then-kind-eq17 : goal.returns-then-kind-eq17
-returns-then-kind-eq17 c =
-    record {
-      takes = λ at g h e. takes_name c.args.text.now c.args.t h c.make.ensures c.args.end e
-          c.if-kind-eq17.true c.find-f.ensures
-          c.name_move-m.ensures;
-    }
+pub returns-in-Sign : goal.returns-in-Sign
+returns-in-Sign c = record { takes = λ at g h e. takes_sign c.args.text.now c.args.t h c.make.ensures c.in-Sign.is c.closer.ensures c.sign_move-m.ensures }
 
-pub make-requires-2 : goal.make-requires-2
-make-requires-2 c =
-    record { roomy = c.requires.roomy; out_len = c.requires.out_len; safe = subst Safe (sym c.sign_move-m.ensures) (sign_safe _ _ _); next_bound = c.requires.next_bound; brackets_bound = c.requires.brackets_bound; depth_bound = c.requires.depth_bound }
+pub returns-in-Name : goal.returns-in-Name
+returns-in-Name c =
+    record { takes = λ at g h e. takes_name c.args.text.now c.args.t h c.make-in-Name.ensures c.args.end e c.in-Name.is c.find-f.ensures c.name_move-m.ensures }
 
-pub returns : goal.returns
-returns c =
-    record {
-      takes = λ at g h e. takes_sign c.args.text.now c.args.t h c.make-2.ensures c.if-kind-eq17.false
-          c.if-kind-eq18.false c.closer.ensures
-          c.sign_move-m.ensures;
-    }
+pub returns-in-Number : goal.returns-in-Number
+returns-in-Number c = record { takes = λ at g h e. takes_stray c.args.text.now c.args.t g c.in-Number.is }

@@ -13,7 +13,6 @@ pub open_step-requires : goal.open_step-requires
 unfolding Safe
 open_step-requires c =
     record {
-      roomy = c.requires.roomy;
       out_len = c.requires.out_len;
       sized = subst Safe
           c.in-Open.is c.requires.safe;
@@ -30,7 +29,7 @@ unfolding made
 returns-in-To c = same_move c.in-To.is (record { does = λ text at g h ok. to_held text h _ ok })
 
 pub returns-in-Put : goal.returns-in-Put
-returns-in-Put c = same_move c.in-Put.is (c.put_step.ensures _ _ _)
+returns-in-Put c = same_move c.in-Put.is (c.put_step.ensures _ _)
 
 pub returns-in-Open : goal.returns-in-Open
 returns-in-Open c = same_move c.in-Open.is c.open_step.ensures
@@ -42,13 +41,13 @@ pub returns-in-Close : goal.returns-in-Close
 returns-in-Close c = same_move c.in-Close.is (c.close_step.ensures _ _)
 
 pub returns-in-Sequence : goal.returns-in-Sequence
-returns-in-Sequence c = same_move c.in-Sequence.is (c.sequence_step.ensures _ _ _)
+returns-in-Sequence c = same_move c.in-Sequence.is (c.sequence_step.ensures _ _)
 
 pub returns-in-Parallel : goal.returns-in-Parallel
-returns-in-Parallel c = same_move c.in-Parallel.is (c.parallel_step.ensures _ _ _)
+returns-in-Parallel c = same_move c.in-Parallel.is (c.parallel_step.ensures _ _)
 
 pub returns-in-Turn : goal.returns-in-Turn
-returns-in-Turn c = same_move c.in-Turn.is (c.turn_step.ensures _ _ _ _)
+returns-in-Turn c = same_move c.in-Turn.is (c.turn_step.ensures _ _ _)
 
 pub returns-in-When : goal.returns-in-When
-returns-in-When c = same_move c.in-When.is (c.when_step.ensures _ _ _)
+returns-in-When c = same_move c.in-When.is (c.when_step.ensures _ _)

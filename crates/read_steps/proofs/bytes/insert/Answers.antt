@@ -4,7 +4,7 @@ use Prim.Native.Nat.{ℕ, ◌+◌, ◌≤◌}
 use native.Mathlib.Omega.{arith}
 use lib.Seq.{sets}
 use Rattle.writing.specs.Written.{record_bytes}
-use Rattle.read_steps.proofs.ByteLaws.{still_over, inserted_last, inserted_between, inserted_longer}
+use Rattle.read_steps.proofs.ByteLaws.{still_over, inserted_last, inserted_between, inserted_longer, shifted}
 use Rattle.read_steps.proofs.bytes.insert.Goals as goal
 
 pub returns-then-size-gt3072 : goal.returns-then-size-gt3072
@@ -25,17 +25,9 @@ returns-then-size-at c =
     inserted_last w fits p c.requires.short (omega (arith, e fits, c.if-size-at.true))
     (c.put_record.ensures.out_after ∙ ap (λ (n : ℕ). sets c.args.out.now (14 + n) (record_bytes c.args.kind 0)) c.wide-end.ensures.0) refl
 
-pub shift-requires : goal.shift-requires
-shift-requires c =
-    record {
-      from_le_to = omega (arith, c.wide-end.ensures.0, c.wide-from.ensures.0, c.if-size-at.false);
-      to_in_bounds = omega
-          (arith, c.wide-end.ensures.0, c.if-size-gt3072.false, c.requires.out_len);
-    }
-
 pub put_record-requires-2 : goal.put_record-requires-2
 put_record-requires-2 c =
-    omega (arith, c.requires.out_len, c.requires.short.four_bytes, c.wide-from.ensures.0, c.wide-end.ensures.0, c.if-size-gt3072.false, c.if-size-at.false, c.shift.ensures.same_size)
+    omega (arith, c.requires.out_len, c.requires.short.four_bytes, c.wide-from.ensures.0, c.wide-end.ensures.0, c.if-size-gt3072.false, c.if-size-at.false, c.copy_within.ensures.len)
 
 pub overflow_add-result-2 : goal.overflow_add-result-2
 overflow_add-result-2 c = omega (arith, c.if-size-gt3072.false)
@@ -48,5 +40,7 @@ returns c =
     (arith, c.if-size-at.false)) (e fits)
     c.wide-from.result c.wide-end.result
     c.wide-from.ensures.0
-    c.wide-end.ensures.0 c.shift.ensures
+    c.wide-end.ensures.0
+    (shifted (omega (arith, c.wide-end.ensures.0, c.wide-from.ensures.0, c.if-size-at.false)) c.copy_within.ensures.len c.copy_within.ensures.by_index.0
+    c.copy_within.ensures.by_index.1)
     c.put_record-2.ensures.out_after

@@ -2,32 +2,32 @@
 use mathlib.Core.Path.{◌≡◌, ap, ◌∙◌}
 use Prim.Native.Nat.{ℕ}
 use native.Mathlib.Omega.{arith}
-use Rattle.read_steps.specs.Levels.{levels_in}
+use lib.Seq.{length-take-le, get_or-take}
+use Rattle.read_steps.specs.Levels.{outermost, levels_in}
 use Rattle.read_steps.specs.Found.{word_at, header_found, through, through_all}
 use Rattle.read_steps.proofs.FoundLaws.{few_traps, one_more_level}
 use Rattle.read_steps.proofs.found.find.Goals as goal
 
-pub loop-i-init : goal.loop-i-init
+pub loop-level-init : goal.loop-level-init
 unfolding through_all levels_in
-loop-i-init c = (omega arith, c.in_header-f.ensures)
-
-pub level_at-requires : goal.level_at-requires
-level_at-requires c = omega (arith, c.loop-i.invariant.0, c.loop-i-test.true, c.requires)
+loop-level-init c = c.in_header-f.ensures
 
 pub inside-f-requires : goal.inside-f-requires
-inside-f-requires c = few_traps _ _ _ _ _ _ c.loop-i.invariant.1 (omega (arith, c.loop-i-test.true, c.requires))
+inside-f-requires c = few_traps _ _ _ _ _ c.loop-level.invariant (omega (arith, c.loop-level-test.true, c.requires, length-take-le c.args.s.depth c.args.levels.now))
 
-pub loop-i-preserved : goal.loop-i-preserved
-loop-i-preserved c =
-    (omega (arith, c.loop-i-test.true), one_more_level _ _ _ _ _ _ c.loop-i.invariant.1 c.level_at.ensures c.inside-f.ensures)
+pub loop-level-preserved : goal.loop-level-preserved
+loop-level-preserved c =
+    one_more_level _ _ _ _ _ c.loop-level.invariant
+    (get_or-take c.args.s.depth c.args.levels.now c.loop-level.level-index outermost (omega (arith, c.loop-level-test.true, c.requires, length-take-le c.args.s.depth c.args.levels.now)))
+    c.inside-f.ensures
 
 pub inside-requires : goal.inside-requires
-inside-requires c = few_traps _ _ _ _ _ _ c.loop-i.invariant.1 (omega (arith, c.loop-i.invariant.0, c.requires))
+inside-requires c = few_traps _ _ _ _ _ c.loop-level.invariant (omega (arith, c.loop-level.auto.level-index-end, c.requires, length-take-le c.args.s.depth c.args.levels.now))
 
 pub returns : goal.returns
 unfolding through_all
 returns c =
-    let e : c.loop-i.i ≡ c.args.depth = omega (arith, c.loop-i.invariant.0, c.loop-i-test.false) in
-    c.inside.ensures ∙ ap (through c.args.text.now c.args.top _)
-    (c.loop-i.invariant.1 ∙ ap (λ (n : ℕ). through_all c.args.text.now (levels_in c.args.names.now c.args.marks.now n) (word_at c.args.text.now c.args.name) (header_found c.args.text.now c.args.end (word_at c.args.text.now
+    let e : c.loop-level.level-index ≡ c.args.s.depth = omega (arith, c.loop-level-test.false, c.loop-level.auto.level-index-end, c.requires, length-take-le c.args.s.depth c.args.levels.now) in
+    c.inside.ensures ∙ ap (through c.args.text.now c.args.s.top _)
+    (c.loop-level.invariant ∙ ap (λ (n : ℕ). through_all c.args.text.now (levels_in c.args.levels.now n) (word_at c.args.text.now c.args.name) (header_found c.args.text.now c.args.end (word_at c.args.text.now
     c.args.name))) e)

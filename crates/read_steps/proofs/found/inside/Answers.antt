@@ -1,38 +1,20 @@
--- `found::inside`: the level declares nothing, this name, or another. Assumes nothing.
-use mathlib.Core.Path.{sym, ap, ◌∙◌}
-use mathlib.Core.Bool.{Bool, cond, false}
-use borrow.Author.Tests.{ne_eqb, eq-eqb}
-use Rattle.read_steps.specs.Found.{beyond_trap}
-use Rattle.read_steps.specs.declared.found.Found.TheVariants.{Signal, Trap}
-use Rattle.read_steps.proofs.FoundLaws.{through_none, through_its, through_other}
+-- `found::inside`: the level declares this name, another, or nothing. Assumes nothing.
+use mathlib.Core.Path.{sym, ◌∙◌}
+use Rattle.read_steps.proofs.FoundLaws.{through_trap, through_signal, through_none}
 use Rattle.read_steps.proofs.found.inside.Goals as goal
 
-pub returns-then-l-lt5 : goal.returns-then-l-lt5
-returns-then-l-lt5 c = sym (through_none c.args.text.now c.args.l _ _ c.if-l-lt5.true)
-
-pub returns-then-l-eq5 : goal.returns-then-l-eq5
-returns-then-l-eq5 c =
-    sym (through_its c.args.text.now c.args.l _ _
-    c.if-l-lt5.false (sym c.same_word.ensures ∙ c.if-same_word.true) ∙ ap (λ (z : Bool). cond z (Trap 0) (Signal
-    c.args.l.number)) (eq-eqb c.args.l.kind 5 c.if-l-eq5.true))
-
 pub returns-then-same_word : goal.returns-then-same_word
-returns-then-same_word c =
-    sym (through_its c.args.text.now c.args.l _ _
-    c.if-l-lt5.false (sym c.same_word.ensures ∙ c.if-same_word.true) ∙ ap (λ (z : Bool). cond z (Trap 0) (Signal
-    c.args.l.number)) (ne_eqb c.args.l.kind 5 c.if-l-eq5.false))
+returns-then-same_word c = through_trap c.args.text.now c.args.l _ c.args.f c.in-TrapBody.is (sym c.same_word.ensures ∙ c.if-same_word.true)
 
-pub returns-then-l-eq5-2 : goal.returns-then-l-eq5-2
-returns-then-l-eq5-2 c =
-    c.deeper.ensures ∙ sym (through_other c.args.text.now
-    c.args.l _ _ c.if-l-lt5.false (sym
-    c.same_word.ensures ∙ c.if-same_word.false) ∙ ap (λ (z : Bool). cond z (beyond_trap
-    c.args.f) c.args.f) (eq-eqb
-    c.args.l.kind 5 c.if-l-eq5-2.true))
+pub returns-else-same_word : goal.returns-else-same_word
+returns-else-same_word c =
+    c.deeper.ensures ∙ through_trap c.args.text.now c.args.l _ c.args.f c.in-TrapBody.is (sym c.same_word.ensures ∙ c.if-same_word.false)
 
-pub returns : goal.returns
-returns c =
-    sym (through_other c.args.text.now c.args.l _ _
-    c.if-l-lt5.false (sym c.same_word.ensures ∙ c.if-same_word.false) ∙ ap (λ (z : Bool). cond z (beyond_trap
-    c.args.f) c.args.f) (ne_eqb
-    c.args.l.kind 5 c.if-l-eq5-2.false))
+pub returns-then-same_word-2 : goal.returns-then-same_word-2
+returns-then-same_word-2 c = through_signal c.args.text.now c.args.l _ c.args.f c.in-SignalBody.is (sym c.same_word-in-SignalBody.ensures ∙ c.if-same_word-2.true)
+
+pub returns-else-same_word-2 : goal.returns-else-same_word-2
+returns-else-same_word-2 c = through_signal c.args.text.now c.args.l _ c.args.f c.in-SignalBody.is (sym c.same_word-in-SignalBody.ensures ∙ c.if-same_word-2.false)
+
+pub returns-in_default : goal.returns-in_default
+returns-in_default c = through_none c.args.text.now c.args.l _ c.args.f c.in_default.not-TrapBody c.in_default.not-SignalBody

@@ -1,21 +1,17 @@
--- `moves::new_move`: only `trap` and `signal` want a new name. Assumes nothing.
+-- `moves::new_move`: a row for each arm. Assumes nothing.
 use mathlib.Core.Path.{sym, ap}
-use mathlib.Core.Bool.{cond}
-use Prim.Native.Nat.{ℕ}
-use borrow.Author.Tests.{ne_eqb}
 use Rattle.read_steps.specs.Moves.{new_move}
-use Rattle.read_steps.specs.declared.moves.Move.TheVariants.{Fault, Open}
+use Rattle.read_steps.specs.declared.modes.Mode.{Mode}
+use Rattle.read_steps.proofs.MoveLaws.{new_other}
 use Rattle.read_steps.proofs.moves.new_move.Goals as goal
 
-pub returns-then-mode-eq5 : goal.returns-then-mode-eq5
+pub returns-in-TrapName : goal.returns-in-TrapName
 unfolding new_move
-returns-then-mode-eq5 c = ap (λ (m : ℕ). new_move m c.args.next) (sym c.if-mode-eq5.true)
+returns-in-TrapName c = sym (ap (λ (m : Mode). new_move m c.args.next) c.in-TrapName.is)
 
-pub returns-then-mode-eq6 : goal.returns-then-mode-eq6
+pub returns-in-SignalName : goal.returns-in-SignalName
 unfolding new_move
-returns-then-mode-eq6 c = ap (λ (m : ℕ). new_move m c.args.next) (sym c.if-mode-eq6.true)
+returns-in-SignalName c = sym (ap (λ (m : Mode). new_move m c.args.next) c.in-SignalName.is)
 
-pub returns : goal.returns
-unfolding new_move
-returns c =
-    sym (λ i. cond (ne_eqb c.args.mode 5 c.if-mode-eq5.false i) (Open 24 0 5 9) (cond (ne_eqb c.args.mode 6 c.if-mode-eq6.false i) (Open 26 c.args.next 6 9) Fault))
+pub returns-in_default : goal.returns-in_default
+returns-in_default c = new_other c.args.mode c.args.next c.in_default.not-TrapName c.in_default.not-SignalName

@@ -1,16 +1,13 @@
--- `moves::trap_move`: only `exit` wants a trap's name. Assumes nothing.
+-- `moves::trap_move`: a row for each arm. Assumes nothing.
 use mathlib.Core.Path.{sym, ap}
-use mathlib.Core.Bool.{Bool, cond}
-use Prim.Native.Nat.{ℕ}
-use borrow.Author.Tests.{ne_eqb}
 use Rattle.read_steps.specs.Moves.{trap_move}
-use Rattle.read_steps.specs.declared.moves.Move.TheVariants.{Fault, Put}
+use Rattle.read_steps.specs.declared.modes.Mode.{Mode}
+use Rattle.read_steps.proofs.MoveLaws.{trap_other}
 use Rattle.read_steps.proofs.moves.trap_move.Goals as goal
 
-pub returns-then-mode-eq3 : goal.returns-then-mode-eq3
+pub returns-in-ExitName : goal.returns-in-ExitName
 unfolding trap_move
-returns-then-mode-eq3 c = ap (λ (m : ℕ). trap_move m c.args.d) (sym c.if-mode-eq3.true)
+returns-in-ExitName c = sym (ap (λ (m : Mode). trap_move m c.args.d) c.in-ExitName.is)
 
-pub returns : goal.returns
-unfolding trap_move
-returns c = sym (ap (λ (z : Bool). cond z (Put 25 c.args.d) Fault) (ne_eqb c.args.mode 3 c.if-mode-eq3.false))
+pub returns-in_default : goal.returns-in_default
+returns-in_default c = trap_other c.args.mode c.args.d c.in_default.not-ExitName

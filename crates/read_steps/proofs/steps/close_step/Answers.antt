@@ -17,4 +17,4 @@ returns-then-depth-eq0 c =
 pub returns : goal.returns
 unfolding made
 returns c =
-    λ out name. record { does = λ text at g h ok. close_place text h c.args.mode ok (omega (arith, c.if-top-gt0.false)) c.if-depth-eq0.false c.level_at-outer.ensures }
+    λ out name. record { does = λ text at g h ok. close_place text h c.args.mode ok (omega (arith, c.if-top-gt0.false)) c.if-depth-eq0.false refl }

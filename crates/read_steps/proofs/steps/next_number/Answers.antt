@@ -1,18 +1,17 @@
 -- `steps::next_number`: one more where a signal is declared. Assumes nothing.
 use mathlib.Core.Path.{◌≡◌, sym, ap, ◌∙◌}
-use mathlib.Core.Bool.{Bool, cond}
-use Prim.Native.Nat.{ℕ, suc, ◌+◌}
+use Prim.Native.Nat.{suc, ◌+◌}
 use native.Mathlib.Omega.{arith}
-use borrow.Author.Tests.{ne_eqb}
 use Rattle.read_steps.specs.Moves.{next_after}
+use Rattle.read_steps.specs.declared.levels.Scope.{Scope}
+use Rattle.read_steps.proofs.MoveLaws.{next_same}
 use Rattle.read_steps.proofs.steps.next_number.Goals as goal
 
-pub returns-then-kind-eq6 : goal.returns-then-kind-eq6
+pub returns-in-SignalBody : goal.returns-in-SignalBody
 unfolding next_after
-returns-then-kind-eq6 c =
+returns-in-SignalBody c =
     let e : c.args.next + 1 ≡ suc c.args.next = omega arith in
-    e ∙ sym (ap (λ (k : ℕ). next_after k c.args.next) c.if-kind-eq6.true)
+    e ∙ sym (ap (λ (k : Scope). next_after k c.args.next) c.in-SignalBody.is)
 
-pub returns : goal.returns
-unfolding next_after
-returns c = sym (ap (λ (z : Bool). cond z (suc c.args.next) c.args.next) (ne_eqb c.args.kind 6 c.if-kind-eq6.false))
+pub returns-in_default : goal.returns-in_default
+returns-in_default c = next_same c.args.kind c.args.next c.in_default.not-SignalBody

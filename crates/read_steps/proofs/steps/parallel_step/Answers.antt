@@ -9,4 +9,4 @@ insert-size-requires c = record { out_len = c.requires; short = short_23 }
 pub returns : goal.returns
 unfolding made
 returns c =
-    λ names marks name. record { does = λ text at g h ok. parallel_held text h short_23 (c.insert-size.ensures g.block g.here.arm (arm_right text h) h.written) }
+    λ levels name. record { does = λ text at g h ok. parallel_held text h short_23 (c.insert-size.ensures g.block g.here.arm (arm_right text h) h.written) }

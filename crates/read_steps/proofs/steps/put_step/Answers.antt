@@ -6,4 +6,4 @@ use Rattle.read_steps.proofs.steps.put_step.Goals as goal
 pub returns : goal.returns
 unfolding made
 returns c =
-    λ names marks name. record { does = λ text at g h ok. put_held text h c.args.kind c.args.operand (c.append-size.ensures g.block h.written) }
+    λ levels name. record { does = λ text at g h ok. put_held text h c.args.kind c.args.operand (c.append-size.ensures g.block h.written) }

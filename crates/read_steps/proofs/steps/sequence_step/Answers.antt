@@ -9,4 +9,4 @@ insert-size-requires c = record { out_len = c.requires; short = short_21 }
 pub returns : goal.returns
 unfolding made
 returns c =
-    λ names marks name. record { does = λ text at g h ok. sequence_held text h short_21 (c.insert-size.ensures g.block g.here.link (link_right text h) h.written) }
+    λ levels name. record { does = λ text at g h ok. sequence_held text h short_21 (c.insert-size.ensures g.block g.here.link (link_right text h) h.written) }

@@ -5,4 +5,4 @@ use Rattle.read_steps.proofs.steps.turn_step.Goals as goal
 
 pub returns : goal.returns
 unfolding made
-returns c = λ names marks out name. record { does = λ text at g h ok. turn_held text h ok }
+returns c = λ levels out name. record { does = λ text at g h ok. turn_held text h ok }

@@ -6,4 +6,4 @@ use Rattle.read_steps.proofs.steps.when_step.Goals as goal
 pub returns : goal.returns
 unfolding made
 returns c =
-    λ names marks name. record { does = λ text at g h ok. when_held text h c.args.signal (c.put_operand.ensures g.block g.here.link (link_right text h) h.written) }
+    λ levels name. record { does = λ text at g h ok. when_held text h c.args.signal (c.put_operand.ensures g.block g.here.link (link_right text h) h.written) }

@@ -9,11 +9,11 @@ use Rattle.read_text.proofs.ending.finish_block.Goals as goal
 
 pub returns-then-next-gt64 : goal.returns-then-next-gt64
 returns-then-next-gt64 c =
-    λ b w. over_signals c.args.version c.requires.inputs_le_signals c.requires.signals_le_next w c.args.block.now c.if-next-gt64.true
+    λ b w. over_signals c.args.version c.requires.inputs_le_signals c.requires.signals_le_next w c.args.block.now c.at.ensures c.if-next-gt64.true
 
 pub returns-then-size-gt3072 : goal.returns-then-size-gt3072
 returns-then-size-gt3072 c =
-    λ b w. over_bytes c.args.version c.requires.inputs_le_signals c.requires.signals_le_next w c.args.block.now (omega (arith, c.if-next-gt64.false)) c.if-size-gt3072.true
+    λ b w. over_bytes c.args.version c.requires.inputs_le_signals c.requires.signals_le_next w c.args.block.now (omega (arith, c.if-next-gt64.false)) c.at-then-size-gt3072.ensures c.if-size-gt3072.true
 
 pub slice_bounds-checked_copy-end-2 : goal.slice_bounds-checked_copy-end-2
 slice_bounds-checked_copy-end-2 c =

@@ -1,43 +1,43 @@
 -- `heading::head_sign`: a row for each thing that the header awaits. Assumes nothing.
 use mathlib.Core.Path.{sym, ap, ◌∙◌}
 use mathlib.Core.Bool.{cond}
-use Prim.Native.Nat.{ℕ}
 use lib.Dec.{eqb}
 use Rattle.read_text.specs.Heads.{head_sign}
+use Rattle.read_text.specs.declared.heading.Awaits.{Awaits}
+use Rattle.read_text.specs.declared.heading.Awaits.TheVariants.{InputName, OutputName}
+use Rattle.read_text.specs.declared.heading.Lead.TheVariants.{Next}
 use Rattle.read_text.proofs.HeadLaws.{head_other}
 use Rattle.read_text.proofs.heading.head_sign.Goals as goal
 
-pub returns-in-1 : goal.returns-in-1
+pub returns-in-VersionDue : goal.returns-in-VersionDue
 unfolding head_sign
-returns-in-1 c = c.on_one.ensures ∙ sym (ap (λ (n : ℕ). head_sign n c.args.kind) c.in-1.is)
+returns-in-VersionDue c = c.on_one.ensures ∙ sym (ap (λ (a : Awaits). head_sign a c.args.sign) c.in-VersionDue.is)
 
-pub returns-in-3 : goal.returns-in-3
+pub returns-in-VersionClosed : goal.returns-in-VersionClosed
 unfolding head_sign
-returns-in-3 c = c.on_one-in-3.ensures ∙ sym (ap (λ (n : ℕ). head_sign n c.args.kind) c.in-3.is)
+returns-in-VersionClosed c = c.on_one-in-VersionClosed.ensures ∙ sym (ap (λ (a : Awaits). head_sign a c.args.sign) c.in-VersionClosed.is)
 
-pub returns-in-4 : goal.returns-in-4
+pub returns-in-InputsDue : goal.returns-in-InputsDue
 unfolding head_sign
-returns-in-4 c =
-    c.on_one-in-4-2.ensures ∙ ap (cond (eqb c.args.kind 15) 6) c.on_one-in-4.ensures ∙ sym (ap (λ (n : ℕ). head_sign n c.args.kind) c.in-4.is)
+returns-in-InputsDue c = c.on_one-in-InputsDue.ensures ∙ ap (cond (eqb c.args.sign 15) (Next InputName)) c.on_one-outputs.ensures ∙ sym (ap (λ (a : Awaits). head_sign a c.args.sign) c.in-InputsDue.is)
 
-pub returns-in-5 : goal.returns-in-5
+pub returns-in-OutputsDue : goal.returns-in-OutputsDue
 unfolding head_sign
-returns-in-5 c = c.on_one-in-5.ensures ∙ sym (ap (λ (n : ℕ). head_sign n c.args.kind) c.in-5.is)
+returns-in-OutputsDue c = c.on_one-in-OutputsDue.ensures ∙ sym (ap (λ (a : Awaits). head_sign a c.args.sign) c.in-OutputsDue.is)
 
-pub returns-in-7 : goal.returns-in-7
+pub returns-in-InputNamed : goal.returns-in-InputNamed
 unfolding head_sign
-returns-in-7 c =
-    c.on_one-in-7-2.ensures ∙ ap (cond (eqb c.args.kind 44) 6) c.on_one-in-7.ensures ∙ sym (ap (λ (n : ℕ). head_sign n c.args.kind) c.in-7.is)
+returns-in-InputNamed c = c.on_one-in-InputNamed.ensures ∙ ap (cond (eqb c.args.sign 44) (Next InputName)) c.on_one-end.ensures ∙ sym (ap (λ (a : Awaits). head_sign a c.args.sign) c.in-InputNamed.is)
 
-pub returns-in-9 : goal.returns-in-9
+pub returns-in-OutputNamed : goal.returns-in-OutputNamed
 unfolding head_sign
-returns-in-9 c =
-    c.on_one-in-9-2.ensures ∙ ap (cond (eqb c.args.kind 44) 8) c.on_one-in-9.ensures ∙ sym (ap (λ (n : ℕ). head_sign n c.args.kind) c.in-9.is)
+returns-in-OutputNamed c = c.on_one-in-OutputNamed.ensures ∙ ap (cond (eqb c.args.sign 44) (Next OutputName)) c.on_one-end-in-OutputNamed.ensures ∙ sym (ap (λ (a : Awaits). head_sign a c.args.sign) c.in-OutputNamed.is)
 
-pub returns-in-10 : goal.returns-in-10
+pub returns-in-BodyDue : goal.returns-in-BodyDue
 unfolding head_sign
-returns-in-10 c = sym (ap (λ (n : ℕ). head_sign n c.args.kind) c.in-10.is)
+returns-in-BodyDue c = sym (ap (λ (a : Awaits). head_sign a c.args.sign) c.in-BodyDue.is)
 
 pub returns-in_default : goal.returns-in_default
 returns-in_default c =
-    head_other _ _ c.in_default.in_default-own.rest.0.0.0.0.0.0.1 c.in_default.in_default-own.rest.0.0.0.0.0.1 c.in_default.in_default-own.rest.0.0.0.0.1 c.in_default.in_default-own.rest.0.0.0.1 c.in_default.in_default-own.rest.0.0.1 c.in_default.in_default-own.rest.0.1 c.in_default.in_default-own.rest.1
+    head_other c.args.awaits c.args.sign c.in_default.not-VersionDue c.in_default.not-VersionClosed c.in_default.not-InputsDue c.in_default.not-OutputsDue c.in_default.not-InputNamed
+    c.in_default.not-OutputNamed c.in_default.not-BodyDue

@@ -1,25 +1,13 @@
 -- `reading::may_end`: three tests, one after the other. Assumes nothing.
-use mathlib.Core.Path.{sym, ap, ap₂, ◌∙◌}
-use mathlib.Core.Bool.{Bool, false, cond}
-use Prim.Native.Nat.{ℕ}
-use borrow.Author.Tests.{ne_eqb, eq-eqb}
-use lib.Dec.{eqb}
-use Rattle.read_steps.specs.Holding.{closer_in}
-use Rattle.read_text.specs.Reading.{may_end}
+use mathlib.Core.Path.{◌∙◌}
+use Rattle.read_text.proofs.ScanLaws.{not_there, behind_none, by_level}
 use Rattle.read_text.proofs.reading.may_end.Goals as goal
 
-pub returns-then-r-ne0 : goal.returns-then-r-ne0
-unfolding may_end
-returns-then-r-ne0 c =
-    sym (ap (λ (z : Bool). cond z (cond (eqb c.args.r.stage.mode 1) (eqb (closer_in c.args.r.stage.top) 0) false) false) (ne_eqb c.args.r.awaits 0 c.if-r-ne0.true))
+pub returns-then-ne : goal.returns-then-ne
+returns-then-ne c = not_there c.args.r c.ne.ensures c.if-ne.true
 
-pub returns-then-r-ne1 : goal.returns-then-r-ne1
-unfolding may_end
-returns-then-r-ne1 c =
-    sym (ap₂ (λ (y z : Bool). cond y (cond z (eqb (closer_in c.args.r.stage.top) 0) false) false) (eq-eqb c.args.r.awaits 0 c.if-r-ne0.false) (ne_eqb c.args.r.stage.mode 1 c.if-r-ne1.true))
+pub returns-then-ne-2 : goal.returns-then-ne-2
+returns-then-ne-2 c = behind_none c.args.r c.ne.ensures c.if-ne.false c.ne-2.ensures c.if-ne-2.true
 
 pub returns : goal.returns
-unfolding may_end
-returns c =
-    ap (λ (k : ℕ). eqb k 0) c.closer.ensures
-    ∙ sym (ap₂ (λ (y z : Bool). cond y (cond z (eqb (closer_in c.args.r.stage.top) 0) false) false) (eq-eqb c.args.r.awaits 0 c.if-r-ne0.false) (eq-eqb c.args.r.stage.mode 1 c.if-r-ne1.false))
+returns c = c.eq.ensures ∙ by_level c.args.r c.ne.ensures c.if-ne.false c.ne-2.ensures c.if-ne-2.false c.closer.ensures

@@ -5,7 +5,7 @@ use Rattle.read_text.proofs.ScanLaws.{Going}
 use Rattle.read_text.proofs.reading.scan.Given as goal
 
 abbrev pub invariant-loop-t : goal.invariant-loop-t
-invariant-loop-t l = Going l.text l.names l.marks l.out l.at l.r
+invariant-loop-t l = Going l.text l.levels l.out l.at l.r
 
 abbrev pub decreases-loop-t : goal.decreases-loop-t
 decreases-loop-t l = length l.text - l.at

@@ -7,5 +7,5 @@ use Rattle.reasons.proofs.asked.final_event.Goals as goal
 
 pub returns : goal.returns
 returns c =
-    λ b outs e p q. final_is b outs c.below-first.result c.args.shown c.args.gone c.args.given (λ k. c.below-first.ensures k ∙ ap (ltb k) (sym e)) p
+    λ b outs e p q. final_is b outs c.below-first.result c.args.marks.present c.args.marks.absent c.args.given (λ k. c.below-first.ensures k ∙ ap (ltb k) (sym e)) p
     q

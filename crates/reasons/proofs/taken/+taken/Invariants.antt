@@ -4,4 +4,4 @@ use lib.ListN.{get_or}
 use Rattle.reasons.proofs.taken.+taken.Given as goal
 
 abbrev pub decreases-taken : goal.decreases-taken
-decreases-taken l = get_or l.sizes.now l.task.at 0
+decreases-taken l = get_or l.table.now.sizes l.task.at 0

@@ -10,7 +10,7 @@ use Rattle.records.proofs.bits.bit_beyond.Goals as goal
 pub returns-then-bit_from : goal.returns-then-bit_from
 returns-then-bit_from c =
     let low : Fits w64 (get_or c.args.active 0 0) = search rules in let high : Fits w64 (get_or c.args.active 1 0) = search rules in
-    sym (beyond_low (get_or c.args.active 0 0) (get_or c.args.active 1 0) low.fits high.fits c.args.pauses (shift_set (get_or c.args.active 0 0) c.args.pauses c.bit_from.ensures c.if-bit_from.true))
+    c.if-bit_from.true ∙ sym (beyond_low (get_or c.args.active 0 0) (get_or c.args.active 1 0) low.fits high.fits c.args.pauses (shift_set (get_or c.args.active 0 0) c.args.pauses c.bit_from.ensures c.if-bit_from.true))
 
 pub returns-else-bit_from : goal.returns-else-bit_from
 returns-else-bit_from c =

@@ -8,15 +8,18 @@ use Rattle.records.proofs.Reading.{read_sized, read_headed, read_kind, read_whol
 use Rattle.records.proofs.state.read_state.Goals as goal
 
 pub returns-then-state-ne-SIZE : goal.returns-then-state-ne-SIZE
-returns-then-state-ne-SIZE c = c.no_state.ensures ∙ ap held_of (read_sized c.args.pauses c.args.state.now c.if-state-ne-SIZE.true)
+unfolding held_of
+returns-then-state-ne-SIZE c = ap held_of (read_sized c.args.pauses c.args.state.now c.if-state-ne-SIZE.true)
 
 pub returns-then-field_at : goal.returns-then-field_at
+unfolding held_of
 returns-then-field_at c =
-    c.no_state-then-field_at.ensures ∙ ap held_of (read_headed c.args.pauses c.args.state.now c.field_at.ensures c.if-field_at.true)
+    ap held_of (read_headed c.args.pauses c.args.state.now c.field_at.ensures c.if-field_at.true)
 
 pub returns-then-field_at-ne-KIND : goal.returns-then-field_at-ne-KIND
+unfolding held_of
 returns-then-field_at-ne-KIND c =
-    c.no_state-then-field_at-ne-KIND.ensures ∙ ap held_of (read_kind c.args.pauses c.args.state.now c.field_at-2.ensures c.if-field_at-ne-KIND.true)
+    ap held_of (read_kind c.args.pauses c.args.state.now c.field_at-2.ensures c.if-field_at-ne-KIND.true)
 
 pub returns : goal.returns
 returns c =

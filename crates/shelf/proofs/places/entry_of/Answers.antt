@@ -28,8 +28,8 @@ loop-at-smaller c =
 pub loop-at-preserved : goal.loop-at-preserved
 loop-at-preserved c = sought_more c.loop-at.invariant c.loop-at-test.true (sym c.if-is_named.false ∙ c.is_named.ensures) c.number_at.ensures
 
-pub returns-after-loop-at : goal.returns-after-loop-at
-returns-after-loop-at c = sought_end c.loop-at.invariant c.loop-at-test.false
+pub returns : goal.returns
+returns c = sought_end c.loop-at.invariant c.loop-at-test.false
 
 pub returns-then-is_named : goal.returns-then-is_named
 returns-then-is_named c = sought_found c.loop-at.invariant c.loop-at-test.true (sym c.if-is_named.true ∙ c.is_named.ensures)

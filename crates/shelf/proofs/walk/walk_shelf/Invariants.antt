@@ -5,8 +5,8 @@ use lib.ListN.{length}
 use Rattle.shelf.proofs.Walking.{Walking}
 use Rattle.shelf.proofs.walk.walk_shelf.Given as goal
 
-abbrev pub invariant-loop-end : goal.invariant-loop-end
-invariant-loop-end l = Walking l.shelf l.at × (length l.shelf ≡ 65536)
+abbrev pub invariant-loop-at : goal.invariant-loop-at
+invariant-loop-at l = Walking l.shelf l.at × (length l.shelf ≡ 65536)
 
-abbrev pub decreases-loop-end : goal.decreases-loop-end
-decreases-loop-end l = length l.shelf - l.at
+abbrev pub decreases-loop-at : goal.decreases-loop-at
+decreases-loop-at l = length l.shelf - l.at

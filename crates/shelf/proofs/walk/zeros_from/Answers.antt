@@ -1,16 +1,19 @@
--- `walk::zeros_from`: the bytes passed so far are zeros, so those that are left decide. Assumes nothing.
-use mathlib.Core.Path.{refl, sym, ◌∙◌}
-use Rattle.shelf.proofs.Walking.{zeros_more, no_zero, none_left}
+-- `walk::zeros_from`: what `all` says of the bytes from there on. Assumes nothing.
+use mathlib.Core.Path.{◌≡◌, ◌∙◌}
+use Prim.Native.Nat.{◌-◌}
+use native.Mathlib.Nat.{le_of_eq}
+use borrow.Author.Rules.{rules}
+use borrow.Author.Tests.{tests}
+use lib.Dec.{eqb}
+use lib.ListN.{length, drop, length-drop}
+use lib.Seq.{take_all}
+use Rattle.std.proofs.lemmas.Iterator.{YieldsList-from_slice}
+use Rattle.std.proofs.lemmas.Iterator.Search.{all_from_yields_List}
+use Rattle.shelf.proofs.Walking.{all_zeros}
 use Rattle.shelf.proofs.walk.zeros_from.Goals as goal
 
-pub loop-i-init : goal.loop-i-init
-loop-i-init c = refl
-
-pub returns-then-shelf-i-ne0 : goal.returns-then-shelf-i-ne0
-returns-then-shelf-i-ne0 c = no_zero _ _ c.loop-i-test.true c.if-shelf-i-ne0.true ∙ c.loop-i.invariant
-
-pub loop-i-preserved : goal.loop-i-preserved
-loop-i-preserved c = sym (zeros_more _ _ c.loop-i-test.true c.if-shelf-i-ne0.false) ∙ c.loop-i.invariant
-
 pub returns : goal.returns
-returns c = none_left _ _ c.loop-i-test.false ∙ c.loop-i.invariant
+returns c =
+    let s = c.args.shelf.now in
+    let rest : c.iter.result.rest.now ≡ drop c.args.at s = c.iter.ensures.rest ∙ take_all (length s - c.args.at) (drop c.args.at s) (le_of_eq (length-drop c.args.at s)) in
+    all_from_yields_List (λ b. eqb b 0) _ _ c.all.result c.all.ensures.ran (YieldsList-from_slice (drop c.args.at s) rest) (λ x b q k. search (rules, tests)) ∙ all_zeros (drop c.args.at s)

@@ -4,10 +4,10 @@ use Rattle.values.specs.Whole.{maze_values}
 use Rattle.values.proofs.Known.{with_number}
 use Rattle.values.proofs.whole.viewed.Goals as goal
 
-pub returns-in-Rooms : goal.returns-in-Rooms
+pub returns-in-Ok : goal.returns-in-Ok
 unfolding maze_values
-returns-in-Rooms c = ap maze_values (sym c.in-Rooms.is)
+returns-in-Ok c = ap maze_values (sym c.in-Ok.is)
 
-pub returns-in-Refused : goal.returns-in-Refused
+pub returns-in-Err : goal.returns-in-Err
 unfolding maze_values
-returns-in-Refused c = with_number _ c.number_of.ensures ∙ ap maze_values (sym c.in-Refused.is)
+returns-in-Err c = with_number _ c.number_of.ensures ∙ ap maze_values (sym c.in-Err.is)

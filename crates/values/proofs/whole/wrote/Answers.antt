@@ -4,10 +4,10 @@ use Rattle.writing.specs.Answers.{wrote_values}
 use Rattle.values.proofs.Known.{with_number}
 use Rattle.values.proofs.whole.wrote.Goals as goal
 
-pub returns-in-Bytes : goal.returns-in-Bytes
+pub returns-in-Ok : goal.returns-in-Ok
 unfolding wrote_values
-returns-in-Bytes c = ap wrote_values (sym c.in-Bytes.is)
+returns-in-Ok c = ap wrote_values (sym c.in-Ok.is)
 
-pub returns-in-Refused : goal.returns-in-Refused
+pub returns-in-Err : goal.returns-in-Err
 unfolding wrote_values
-returns-in-Refused c = with_number _ c.number_of.ensures ∙ ap wrote_values (sym c.in-Refused.is)
+returns-in-Err c = with_number _ c.number_of.ensures ∙ ap wrote_values (sym c.in-Err.is)

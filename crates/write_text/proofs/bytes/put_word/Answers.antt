@@ -1,21 +1,19 @@
--- `bytes::put_word`: what is left of the number is what is left to put. Assumes nothing.
+-- `bytes::put_word`: the word's bytes from the next one on are left to put.
 use native.Mathlib.Omega.{arith}
-use Rattle.write_text.proofs.Putting.{word_begun, word_more, word_ended, same_size}
-use borrow.Author.Rules.{rules}
+use Rattle.write_text.proofs.Putting.{none_put, word_more, word_ended, same_size}
 use Rattle.write_text.proofs.bytes.put_word.Goals as goal
 
-pub loop-left-init : goal.loop-left-init
-loop-left-init c = word_begun _ _ _ (search rules)
+pub loop-byte-init : goal.loop-byte-init
+loop-byte-init c = (omega arith, none_put)
 
 pub put_byte-at-requires : goal.put_byte-at-requires
-put_byte-at-requires c = omega (arith, c.loop-left.invariant.room, c.requires)
+put_byte-at-requires c = omega (arith, c.loop-byte.invariant.0, c.requires.to_bound, c.requires.word_bound)
 
-pub loop-left-preserved : goal.loop-left-preserved
-loop-left-preserved c = word_more c.loop-left.invariant c.loop-left-test.true c.put_byte-at.ensures.out_after c.put_byte-at.ensures.value
-
-pub shape_of-out : goal.shape_of-out
-shape_of-out c = same_size (word_ended c.loop-left.invariant c.loop-left-test.false)
+pub loop-byte-preserved : goal.loop-byte-preserved
+loop-byte-preserved c = word_more _ c.loop-byte.invariant c.loop-byte-test.true c.put_byte-at.ensures.out_after c.put_byte-at.ensures.value
 
 pub returns : goal.returns
-returns c =
-    record { puts = word_ended c.loop-left.invariant c.loop-left-test.false; upper_bound = omega (arith, c.loop-left.invariant.room) }
+returns c = record { puts = word_ended _ c.loop-byte.invariant (omega arith); upper_bound = omega (arith, c.loop-byte.invariant.0, c.requires.word_bound) }
+
+pub shape_of-out : goal.shape_of-out
+shape_of-out c = same_size {a = c.args.out.now} (returns c).puts

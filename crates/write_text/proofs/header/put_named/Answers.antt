@@ -9,5 +9,5 @@ use Rattle.write_text.proofs.header.put_named.Goals as goal
 
 pub returns : goal.returns
 returns c =
-    let named = told_as (λ r. ap (λ (l : List ℕ). l ++ r) c.signal_name.ensures) c.put_word.ensures.puts in
-    record { puts = and_then (before (λ x. signal_word c.args.inputs c.args.outputs c.args.s ++ x) c.put_word-worded.ensures.puts) named; upper_bound = omega (arith, c.put_word-worded.ensures.upper_bound, c.put_word.ensures.upper_bound) }
+    let named = told_as (λ r. ap (λ (l : List ℕ). l ++ r) c.signal_name.ensures) c.put_name.ensures.puts in
+    record { puts = and_then (before (λ x. signal_word c.args.inputs c.args.outputs c.args.s ++ x) c.put_word-worded.ensures.puts) named; upper_bound = omega (arith, c.put_word-worded.ensures.upper_bound, c.put_name.ensures.upper_bound) }

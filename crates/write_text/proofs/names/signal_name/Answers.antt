@@ -9,7 +9,7 @@ use Rattle.write_text.proofs.names.signal_name.Goals as goal
 
 pub lettered-requires : goal.lettered-requires
 lettered-requires c =
-    let r = letter_range c.args.inputs c.args.outputs c.args.s in record { letter_nonzero = omega (arith, c.letter_of.ensures, r.0); letter_bound = omega (arith, c.letter_of.ensures, r.1) }
+    let r = letter_range c.args.inputs c.args.outputs c.args.s in omega (arith, c.letter_of.ensures, r.0)
 
 pub returns : goal.returns
 returns c = c.lettered.ensures ∙ ap (λ (x : ℕ). x ∷ decimal c.args.s) c.letter_of.ensures
