@@ -16,7 +16,7 @@
  *   - no other thread touches these, or writes what the call reads (block, text), during the call.
  *
  * The library keeps nothing between calls and allocates nothing. Calls on different states and answers may run at the same time. Of the
- * C library it needs memcpy, memmove and memset, and nothing else. A call takes less stack than FOLDHERON_STACK_MOST below, and foldheron_alike less than
+ * C library it needs memcpy and memset, and nothing else. A call takes less stack than FOLDHERON_STACK_MOST below, and foldheron_alike less than
  * FOLDHERON_ALIKE_STACK_MOST: that is measured, by examples/embed/stack.c on blocks as deep as they may be, and not proved.
  *
  * Each call gives back the number of its refusal, 0 where it was not turned down, and writes its whole answer into lent bytes whose

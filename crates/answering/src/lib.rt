@@ -3,7 +3,6 @@
 #![tactic(auto)]
 
 use block_lines::{blocks, shelves};
-pub use state_lines::Asked;
 use state_lines::{check, excerpt, fresh, heard, heard_logged, instant, logged, reason};
 use std::io;
 
@@ -20,11 +19,12 @@ pub enum Call {
     // The inputs present, and the inputs absent.
     Heard(u64, u64),
     HeardLogged(u64, u64, u64),
-    Reason(u64, u64, Asked),
+    // The inputs present and absent, which question, and what it is about.
+    Reason(u64, u64, u64, u64),
     // The party, and the name.
-    Install(u16, u16),
-    Fetch(u16, u16),
-    Withdraw(u16, u16),
+    Install(u64, u64),
+    Fetch(u64, u64),
+    Withdraw(u64, u64),
     Maze(u64),
     // How many bytes are lent for the output.
     Alike(usize),
@@ -70,7 +70,9 @@ fn line(out: &impl Print, call: Option<Call>, lent: Lent<'_>) -> io::Result<()> 
         Call::HeardLogged(present, absent, end) => {
             heard_logged(out, block, state, present, absent, log, end)
         }
-        Call::Reason(present, absent, asked) => reason(out, block, state, present, absent, asked),
+        Call::Reason(present, absent, question, about) => {
+            reason(out, block, state, present, absent, question, about)
+        }
         Call::Install(party, name) => shelves::install(out, beside, party, name, block),
         Call::Fetch(party, name) => shelves::fetch(out, beside, party, name),
         Call::Withdraw(party, name) => shelves::withdraw(out, beside, party, name),

@@ -6,8 +6,7 @@ ghost use Rattle.std.specs.Prelude.{◌≤◌};
 
 pub mod blocks;
 
-pub use foldheron::Asked;
-use foldheron::{Logged, Reaction, Refused, Stopped, Unanswered, number_of};
+use foldheron::{Asked, Logged, Reaction, Refused, Stopped, Unanswered, number_of};
 
 // Number and place of a refusal, in front of what its call would answer.
 pub(crate) fn refused<const N: usize>(r: Refused) -> [u64; N]
@@ -136,10 +135,26 @@ pub fn excerpt(block: &[u8], n: u64) -> ([u64; 2], &[u8]) {
 }
 
 // Number, place, the pair of a clash, the statement.
-pub fn reason(block: &[u8], state: &[u8], present: u64, absent: u64, asked: Asked) -> [u64; 5] {
-    match foldheron::reason(block, state, present, absent, asked) {
+pub fn reason(
+    block: &[u8],
+    state: &[u8],
+    present: u64,
+    absent: u64,
+    question: u64,
+    about: u64,
+) -> [u64; 5] {
+    match foldheron::reason(block, state, present, absent, asked(question, about)) {
         Ok(n) => [0, 0, 0, 0, n as u64],
         Err(Stopped::Clash(first, second)) => [10, 0, first.into(), second.into(), 0],
         Err(Stopped::Refused(r)) => refused(r),
+    }
+}
+
+// The questions by their numbers, and what they are about.
+fn asked(question: u64, about: u64) -> Asked {
+    match question {
+        0 => Asked::Refused,
+        1 => Asked::Present(about as usize),
+        _ => Asked::NotExecuted(about as usize),
     }
 }

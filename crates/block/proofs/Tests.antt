@@ -63,7 +63,15 @@ module _ (room : ℕ) (b : List ℕ) (h : Header) (a : Around) (r : Sofar) (k : 
   abbrev fault : ℕ
   fault = fault_as room b h a r k
 
+  pub as_broken : is_broken b r.place ≡ true → fault ≡ 1
+  unfolding fault_as
+  as_broken e = simp e
+
   module _ (whole : is_broken b r.place ≡ false) (l : ℕ) (el : l ≡ length_at b r.place) where
+    pub as_kind : (length_of k ≡ l → ⊥) → fault ≡ 2
+    unfolding fault_as
+    as_kind n = simp (whole, ← el, ne_eqb (length_of k) l n)
+
     module _ (right : length_of k ≡ l) where
       pub as_limit : over_limit room a r k ≡ true → fault ≡ 4
       unfolding fault_as

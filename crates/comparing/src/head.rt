@@ -1,6 +1,6 @@
 // The head of a case.
 use crate::{Failure, Stop, fill};
-use answering::{Asked, Call};
+use answering::Call;
 use records::numerals::number_at;
 use std::io::Read;
 
@@ -53,7 +53,6 @@ pub(crate) fn read(cases: &mut impl Read) -> Result<Option<Head>, Stop> {
 fn call(kind: u8, numbers: [u64; 4]) -> Option<Call> {
     let [first, second, third, fourth] = numbers;
     let room = second as usize;
-    let (party, name) = (two_bytes(first), two_bytes(second));
     let call = match kind {
         1 => Call::Check,
         2 => Call::Fresh,
@@ -62,10 +61,10 @@ fn call(kind: u8, numbers: [u64; 4]) -> Option<Call> {
         5 => Call::Excerpt(second),
         6 => Call::Heard(first, third),
         7 => Call::HeardLogged(first, third, second),
-        8 => Call::Reason(first, third, asked(fourth, second)),
-        9 => Call::Install(party, name),
-        10 => Call::Fetch(party, name),
-        11 => Call::Withdraw(party, name),
+        8 => Call::Reason(first, third, fourth, second),
+        9 => Call::Install(first, second),
+        10 => Call::Fetch(first, second),
+        11 => Call::Withdraw(first, second),
         12 => Call::Maze(first),
         13 => Call::Alike(room),
         14 => Call::DoubleLoops(room),
@@ -75,17 +74,4 @@ fn call(kind: u8, numbers: [u64; 4]) -> Option<Call> {
         _ => return None,
     };
     Some(call)
-}
-
-// The questions by their numbers, and what they are about.
-fn asked(question: u64, about: u64) -> Asked {
-    match question {
-        0 => Asked::Refused,
-        1 => Asked::Present(about as usize),
-        _ => Asked::NotExecuted(about as usize),
-    }
-}
-
-fn two_bytes(n: u64) -> u16 {
-    (n & 0xffff) as u16
 }

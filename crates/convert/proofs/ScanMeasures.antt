@@ -16,7 +16,7 @@ use Rattle.block.proofs.Views.{is?}
 use Rattle.tables.specs.Codes.{codes_for}
 use Rattle.everyday.specs.Statements.{Alone, nothing, pause, halt, emit, sustain, await, exit, Around, suspend_on, loop, trap, local, abort_when}
 use Rattle.everyday.specs.Statements.{Between, present_then_else, in_sequence, in_parallel, Everyday, alone, around, between, is_stop}
-use Rattle.everyday.specs.Check.{codes_alone, codes_around, codes_between, codes₂}
+use Rattle.everyday.specs.Check.{codes_alone, codes_around, codes_between, may_stand, codes₂}
 use Rattle.everyday.specs.Conversion.{watches, pauses_made}
 use Rattle.converting.specs.Format.{Sort, of_none, of_one, of_two, record_length, or_else, bytes₂, lowest_endless₂}
 use Rattle.converting.specs.Sizes.{size₂}
@@ -164,7 +164,25 @@ between_coded P Q is_present = refl
 between_coded P Q is_sequence = refl
 between_coded P Q is_parallel = refl
 
--- The lowest endless loop.
+-- The lowest endless loop. Where the statement's record is not at 0, neither is it.
+pub endless_later : (at : ℕ) (p : Everyday) (n : ℕ) → lowest_endless₂ at p ≡ some n → at ≤ n
+unfolding lowest_endless₂
+endless_later at (alone a) n e = let z : ◌≡◌ {A = ℕ} 0 1 = cc in absurd (omega arith)
+endless_later at (around f p) n e = go (may_stand f (codes₂ p)) e (endless_later (at + record_length (of_one f)) p n)
+  where
+    go : (z : Bool) → cond z (lowest_endless₂ (at + record_length (of_one f)) p) (some at) ≡ some n
+        → (lowest_endless₂ (at + record_length (of_one f)) p ≡ some n → at + record_length (of_one f) ≤ n) → at ≤ n
+    go true e k = let l = k e in omega arith
+    go false e k = let q : at ≡ n = cc in omega arith
+endless_later at (between o p q) n e =
+    go (lowest_endless₂ (at + record_length (of_two o)) p) refl e (endless_later (at + record_length (of_two o)) p n) (endless_later (at + record_length (of_two o) + bytes₂ p) q n)
+  where
+    go : (y : Option ℕ) → lowest_endless₂ (at + record_length (of_two o)) p ≡ y → or_else y (lowest_endless₂ (at + record_length (of_two o) + bytes₂ p) q) ≡ some n
+        → (lowest_endless₂ (at + record_length (of_two o)) p ≡ some n → at + record_length (of_two o) ≤ n)
+        → (lowest_endless₂ (at + record_length (of_two o) + bytes₂ p) q ≡ some n → at + record_length (of_two o) + bytes₂ p ≤ n) → at ≤ n
+    go none d e f g = let l = g e in omega arith
+    go (some m) d e f g = let l = f (d ∙ e) in omega arith
+
 chosen : (z : Bool) (at : ℕ) (o : Option ℕ) → cond z (Some at) (answer_of o) ≡ answer_of (cond (not z) o (some at))
 chosen true at o = refl
 chosen false at o = refl

@@ -73,7 +73,8 @@ pub fn fresh(block: &[u8], state: &mut [u8]) -> Result<(), Refused>
     if state.len() != 26 {
         return Err(Why::State.at(0));
     }
-    write_state(state, s.version, s.statements, Phase::Fresh, [0, 0]);
+    let phase = u16::from(Phase::Fresh);
+    write_state(state, s.version, s.statements, phase, [0, 0]);
     Ok(())
 }
 
@@ -121,7 +122,7 @@ fn run(block: &[u8], state: &mut [u8], given: Given) -> Result<Reaction, Unanswe
     ensures state_after { state.new ≡ state_after state.old (verdict block.now state.old given false) }
 {
     let came = comes_to(block, state, given, false)?;
-    write_next(state, came.phase, came.kept);
+    write_next(state, u16::from(came.phase), came.kept);
     Ok(came.reaction)
 }
 
@@ -140,7 +141,7 @@ fn run_logged(
 {
     let roomless = no_room(log.len(), end);
     let came = comes_to(block, state, given, roomless)?;
-    write_next(state, came.phase, came.kept);
+    write_next(state, u16::from(came.phase), came.kept);
     let heard = came.heard;
     let reaction = came.reaction;
     let next = write_at_end(

@@ -1,19 +1,27 @@
 // The text of a line, written to an output as it comes. A write that fails ends it, and its error is answered.
 #![tactic(auto)]
 
-use std::{fmt, io};
+ghost use Rattle.std.specs.Prelude.{◌<◌};
 
-// Bytes, two digits each.
-#[derive(Clone, Copy)]
-struct Hex<'a>(&'a [u8]);
+use std::io;
 
-impl fmt::Display for Hex<'_> {
-    fn fmt<W: fmt::Write>(&self, f: &mut fmt::Formatter<W>) -> fmt::Result {
-        for byte in self.0 {
-            write!(f, "{byte:02x}")?;
+// A digit below 16.
+fn digit(d: u8) -> u8
+    requires { d < 16 }
+{
+    if d < 10 { b'0' + d } else { b'a' + (d - 10) }
+}
+
+// Bytes, two digits each, 4,096 digits at a time.
+fn put_digits(out: &impl Print, bytes: &[u8]) -> io::Result<()> {
+    let mut pairs = [[0u8; 2]; 2048];
+    for part in bytes.chunks(2048) {
+        for (pair, byte) in pairs.iter_mut().zip(part) {
+            *pair = [digit(byte / 16), digit(byte % 16)];
         }
-        Ok(())
+        out.write_all(pairs[..part.len().min(2048)].as_flattened())?;
     }
+    Ok(())
 }
 
 // The name of a call and the numbers of its answer.
@@ -35,8 +43,8 @@ pub fn put_bytes(out: &impl Print, bytes: &[u8]) -> io::Result<()> {
     if bytes.is_empty() {
         return print!(out; " -");
     }
-    let digits = Hex(bytes);
-    print!(out; " {digits}")
+    print!(out; " ")?;
+    put_digits(out, bytes)
 }
 
 // Bytes up to the last that is not the rest's, and how many of the rest come after it.

@@ -1,5 +1,5 @@
 -- One lemma for each way on from the tests: the answer stands for what the instant comes to. Assumes nothing.
-use mathlib.Core.Path.{◌≡◌, refl, sym, ◌∙◌, ap, subst}
+use mathlib.Core.Path.{◌≡◌, refl, sym, ◌∙◌, ap, ap₂, subst}
 use mathlib.Core.Bool.{Bool, true, false}
 use mathlib.Core.List.{List}
 use Prim.Native.Nat.{ℕ, ◌^◌, ◌<◌}
@@ -204,6 +204,24 @@ module _ (tab : Table) where
       let e : w ≡ halt.Clash pair.first pair.second = cc m in
       subst (λ (y : Stopped). Comes given (clash pair) (Err (stopped_as y))) (sym e) (clash_comes given pair.first pair.second)
   stopped_comes given roomless (ready g st) w m = let z : ⊥ = cc (m.is_ready) in absurd z
+
+  -- the same of what the tests came to, for each call that goes by them
+  pub stopped_in : (x : Front) (e : Refused) → Means x tab (Err (halt.Refused e)) → x ≡ stopped (number e.why) e.place
+  unfolding Means
+  stopped_in (stopped n at) e m =
+      let q : e ≡ record { why = m.why; place = at } = cc (m.is_refused) in
+      ap₂ stopped (sym m.its_number ∙ ap (λ (r : Refused). number r.why) (sym q)) (ap (λ (r : Refused). r.place) (sym q))
+  stopped_in (clashing pair) e m = let z : ⊥ = cc m in absurd z
+  stopped_in (ready g st) e m = let z : ⊥ = cc (m.is_ready) in absurd z
+
+  pub clash_in : (x : Front) (k n : ℕ) → Means x tab (Err (halt.Clash k n)) → x ≡ clashing (record { first = k; second = n })
+  unfolding Means
+  clash_in (stopped i at) k n m = let z : ⊥ = cc (m.is_refused) in absurd z
+  clash_in (clashing pair) k n m =
+      let p : pair.first ≡ k = cc m in
+      let q : pair.second ≡ n = cc m in
+      λ i. clashing (record { first = p i; second = q i })
+  clash_in (ready g st) k n m = let z : ⊥ = cc (m.is_ready) in absurd z
 
   -- all tests passed: the block, the state, and that they stand in the table and in the words
   pub record Going (x : Front) (r : Grounds) : Type 0 where

@@ -27,6 +27,10 @@ unfolding state_bytes
 state_stored s version statements phase ws l e =
     e ∙ laid_whole state_widths (state_values version statements phase (get_or ws 0 0) (get_or ws 1 0)) s l
 
+-- A phase and its number make the same record.
+pub same_phase : (version statements : ℕ) (ws : List ℕ) {p q : ℕ} → p ≡ q → state_bytes version statements p ws ≡ state_bytes version statements q ws
+same_phase version statements ws e = ap (λ (phase : ℕ). state_bytes version statements phase ws) e
+
 -- The bytes of a state's own phase and words are the state's record, whatever block it names.
 module _ (version statements : ℕ) where
   pub state_written : (st : State) → state_bytes version statements (phase_of st) (words_of (active_of st)) ≡ state_record version statements st

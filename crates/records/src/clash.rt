@@ -158,7 +158,7 @@ fn some_clash(
     false
 }
 
-// The lowest first pause, then the lowest second, of a pair that clashes: pair by pair.
+// The lowest first pause, then the lowest second, of a pair that clashes: pair by pair, in the form that document 01 names for this place.
 fn named_clash(
     table: &Table,
     firsts: &[u16; 512],
@@ -169,16 +169,18 @@ fn named_clash(
     requires { ((t : Stmt) × Searchable table.now.kinds table.now.sizes count active t) × Bounded pauses active × Filled table.now.kinds count firsts.now }
     ensures { (t : Stmt) → Searchable table.now.kinds table.now.sizes count active t → pair_of result ≡ first_clash t (set_of active) }
 {
-    for m in 0u16..pauses {
+    let mut found = None;
+    'pairs: for m in 0u16..pauses {
         if has(active, m) {
             for n in m + 1..pauses {
                 if clashing(table, firsts, active, m, n) {
-                    return Some((m, n));
+                    found = Some((m, n));
+                    break 'pairs;
                 }
             }
         }
     }
-    None
+    found
 }
 
 // At most one pause is active: nothing is active behind the first that is.

@@ -16,5 +16,8 @@ pub fn copy_at(to: &mut [u8], at: usize, from: &[u8])
     requires { at + length from.now ≤ length to.old }
     ensures { to.new ≡ sets to.old at from.now }
 {
-    to[at..at + from.len()].copy_from_slice(from);
+    // The library's `copy_from_slice` is memmove, which the static library is to do without.
+    for i in 0..from.len() {
+        to[at + i] = from[i];
+    }
 }

@@ -89,41 +89,34 @@ pub fn names_block(state: &[u8], version: u16, statements: usize) -> bool
 }
 
 // A state's record over the lent bytes.
-fn put_state(state: &mut [u8], version: u64, statements: u64, phase: Phase, active: [u64; 2])
+fn put_state(state: &mut [u8], version: u64, statements: u64, phase: u16, active: [u64; 2])
     requires { length state.old ≡ state_size }
-    ensures { state.new ≡ state_bytes version statements (phase_number phase) active }
+    ensures { state.new ≡ state_bytes version statements phase active }
 {
-    let number = u16::from(phase);
     let values = [
         SIZE as u64,
         KIND,
         version,
         statements,
-        number as u64,
+        phase as u64,
         active[0],
         active[1],
     ];
     put_fields(state, 0, &WIDTHS, &values);
 }
 
-// The record of a state of the block with this version and so many statements.
-pub fn write_state(
-    state: &mut [u8],
-    version: u16,
-    statements: usize,
-    phase: Phase,
-    active: [u64; 2],
-)
+// The record of a state of the block with this version and so many statements, its phase by number.
+pub fn write_state(state: &mut [u8], version: u16, statements: usize, phase: u16, active: [u64; 2])
     requires { length state.old ≡ state_size }
-    ensures { state.new ≡ state_bytes version statements (phase_number phase) active }
+    ensures { state.new ≡ state_bytes version statements phase active }
 {
     put_state(state, version as u64, statements as u64, phase, active);
 }
 
 // The next state's record over that of the state before it: it names the same block.
-pub fn write_next(state: &mut [u8], phase: Phase, active: [u64; 2])
+pub fn write_next(state: &mut [u8], phase: u16, active: [u64; 2])
     requires { length state.old ≡ state_size }
-    ensures { state.new ≡ state_bytes (version_in state.old) (statements_in state.old) (phase_number phase) active }
+    ensures { state.new ≡ state_bytes (version_in state.old) (statements_in state.old) phase active }
 {
     let version = field_at(state, &WIDTHS, 2);
     let statements = field_at(state, &WIDTHS, 3);

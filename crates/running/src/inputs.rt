@@ -1,5 +1,5 @@
 // Input sets, a buffer of them at a time.
-ghost use Rattle.std.specs.Prelude.{◌≤◌, length};
+ghost use Rattle.std.specs.Prelude.{◌≡◌, ◌≤◌, length};
 
 use crate::Failure;
 use crate::line::Run;
@@ -31,22 +31,22 @@ fn run_some(
 {
     let mut space = [0u8; 4096];
     let n = reading::read_full(inputs, &mut space).map_err(Failure::Inputs)?;
-    let text = lines_of(run, &space[..n], ran);
+    let mut text = Text::new();
+    put_lines(&mut text, run, &space[..n], ran);
     out.write_all(text.as_bytes()).map_err(Failure::Output)?;
     Ok(n == 4096)
 }
 
-// Runs the sets, at most 512, and gives their lines, and `short` where 1 to 7 bytes are left.
-fn lines_of(run: &mut Run<'_>, sets: &[u8], ran: u64) -> Text<65536>
+// Runs the sets, at most 512, and puts their lines, and `short` where 1 to 7 bytes are left, into an empty text, where it lies: as an answer it would be copied.
+fn put_lines(text: &mut Text<65536>, run: &mut Run<'_>, sets: &[u8], ran: u64)
+    requires empty { text.old ≡ 0 }
     requires sets_len_bound { length sets.now ≤ 4096 }
     requires ran_bound { ran ≤ 9223372036854775808 }
 {
-    let mut text = Text::new();
     for (i, set) in sets.chunks(8).enumerate() {
         match set.first_chunk() {
             Some(set) => text.put_line(&run.react(ran + i as u64 + 1, u64::from_le_bytes(*set))),
             None => text.put_short(),
         }
     }
-    text
 }

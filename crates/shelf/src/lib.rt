@@ -90,8 +90,8 @@ pub fn withdraw(shelf: &mut [u8], party: u16, name: u16) -> Result<(), Refused>
     ensures result_value { shelved_values result ≡ shelved_owed (told shelf.old (withdraw party name)) }
     ensures shelf_after { shelf.new ≡ left shelf.old (withdraw party name) }
 {
-    let own = own_entry(shelf, party, name)?;
-    close_gap(shelf, own.at, own.size, own.end);
+    let gone = own_entry(shelf, party, name)?;
+    close_gap(shelf, gone.at, gone.size, gone.end);
     Ok(())
 }
 

@@ -1,7 +1,6 @@
 // The lines of the calls on one block, with or without a state and a log.
 #![tactic(auto)]
 
-pub use answers::Asked;
 use printing::{put_answer, put_bytes, put_numbers};
 use std::io;
 
@@ -79,8 +78,9 @@ pub fn reason(
     state: &[u8],
     present: u64,
     absent: u64,
-    asked: Asked,
+    question: u64,
+    about: u64,
 ) -> io::Result<()> {
-    let numbers = answers::reason(block, state, present, absent, asked);
+    let numbers = answers::reason(block, state, present, absent, question, about);
     put_answer(out, "reason", &numbers)
 }

@@ -1,5 +1,6 @@
 // The kinds of a statement's record, the two numbers that an exit has, and a number of the table as an index.
-ghost use Rattle.std.specs.Prelude.{◌≡◌, ◌<◌, Some};
+ghost use Rattle.std.specs.Prelude.{◌≡◌, cond, [], ◌∷◌, ◌<◌, eqb, Some};
+ghost use Rattle.sets.specs.Numbers.{listed};
 ghost use Rattle.rules.specs.Statements.{depth, code};
 ghost use Rattle.tables.specs.Kinds.{shape, wide_shape, short, long, length_of};
 
@@ -88,18 +89,41 @@ fn long(children: u16) -> Shape
     }
 }
 
-// Length, operands and children of a record of either edition, by its kind; no other kind is allowed.
+// Emit has no child, present two, suspend one.
+fn under_signal(kind: u16) -> u16
+    ensures { result ≡ cond (eqb kind 18) 0 (cond (eqb kind 19) 2 1) }
+{
+    match kind {
+        EMIT => 0,
+        PRESENT => 2,
+        _ => 1,
+    }
+}
+
+// Sequence and parallel have two children, loop and trap one.
+#[tactic(auto, unfolding(sets::specs::Numbers::listed))]
+fn in_turn(kind: u16) -> u16
+    ensures { result ≡ cond (listed (21 ∷ 23 ∷ []) kind) 2 1 }
+{
+    match kind {
+        SEQUENCE | PARALLEL => 2,
+        _ => 1,
+    }
+}
+
+// Length, operands and children of a record of either edition, by its kind, in the form that document 01 names for this place; no other kind is allowed.
 #[tactic(auto, unfolding(crate::specs::Kinds::wide_shape, crate::specs::Kinds::shape, sets::specs::Numbers::listed))]
 pub fn wide_shape_of(kind: u16) -> Option<Shape>
     ensures { result ≡ wide_shape kind }
 {
     match kind {
-        NOTHING | PAUSE | HALT => Some(short(0)),
-        LOOP | TRAP => Some(short(1)),
-        SEQUENCE | PARALLEL => Some(short(2)),
-        EMIT | EXIT | SUSTAIN | AWAIT => Some(long(0)),
-        SUSPEND | LOCAL | ABORT => Some(long(1)),
-        PRESENT => Some(long(2)),
+        NOTHING..=PAUSE => Some(short(0)),
+        EMIT..=SUSPEND => Some(long(under_signal(kind))),
+        SEQUENCE..=TRAP => Some(short(in_turn(kind))),
+        EXIT..=LOCAL => Some(long(kind - EXIT)),
+        HALT => Some(short(0)),
+        SUSTAIN..=AWAIT => Some(long(0)),
+        ABORT => Some(long(1)),
         _ => None,
     }
 }

@@ -1,5 +1,5 @@
 // The tokens of a text: keywords, names, numbers and marks.
-ghost use Rattle.std.specs.Prelude.{◌≡◌, true, false, ◌<◌, length, drop, get_or};
+ghost use Rattle.std.specs.Prelude.{◌≡◌, true, false, ◌+◌, ◌<◌, length, drop, get_or};
 ghost use Rattle.text.specs.Tokens.{keywords, word_of, is_name, word_token, in_word, is_mark, same};
 ghost use Rattle.text.specs.Coded.{keyed, keyword_number, number_value, kind_of, FrontAt, past_spaces};
 
@@ -110,10 +110,10 @@ fn word_kind(word: &[u8]) -> Kind
     }
 }
 
-// The token that the word here is.
-fn word_at(text: &[u8], at: usize) -> Token
-    requires { at < length text.now }
-    ensures { in_word (get_or text.now at 0) ≡ true → FrontAt text.now at result }
+// The token that the word here is; where none begins here the word is empty.
+pub fn word_at(text: &[u8], at: usize) -> Token
+    ensures word { (result.kind ≡ kind_of (word_token (word_of (drop at text.now)))) × (result.start ≡ at) × (result.end ≡ at + length (word_of (drop at text.now))) }
+    ensures front { at < length text.now → in_word (get_or text.now at 0) ≡ true → FrontAt text.now at result }
 {
     let word = word(text, at);
     Token {

@@ -5,6 +5,7 @@ use Rattle.refusals.specs.declared.Refused.{Refused}
 use Rattle.std.specs.Prelude.{Err}
 use Rattle.foldheron.specs.Answers.{begun_values}
 use Rattle.foldheron.proofs.Owed.{other_size, other_stays, fresh_written, state_written, fresh_refused, state_stays}
+use Rattle.records.proofs.Writing.{same_phase}
 use Rattle.foldheron.proofs.Calls.{passed_on}
 use Rattle.foldheron.proofs.fresh.Goals as goal
 
@@ -29,5 +30,5 @@ pub returns : goal.returns
 returns c =
     record {
       result_value = fresh_written _ c.read_block.ensures c.in_ok-s.was _ c.if-state-ne26.false;
-      state_after = c.write_state.ensures ∙ state_written _ c.read_block.ensures c.in_ok-s.was _ c.if-state-ne26.false;
+      state_after = c.write_state.ensures ∙ same_phase _ _ _ c.from-phase.ensures ∙ state_written _ c.read_block.ensures c.in_ok-s.was _ c.if-state-ne26.false;
     }

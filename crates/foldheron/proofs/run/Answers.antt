@@ -2,6 +2,7 @@
 -- Assumes nothing.
 use mathlib.Core.Path.{sym, ◌∙◌, ap}
 use Rattle.reaction.specs.Answers.{instant_told}
+use Rattle.records.proofs.Writing.{same_phase}
 use Rattle.foldheron.proofs.Calls.{was_answered, was_not, passed_on}
 use Rattle.foldheron.proofs.run.Goals as goal
 
@@ -17,4 +18,4 @@ write_next-requires c = (was_answered _ _ _ _ c.in_ok-came.ensures).sized
 
 pub returns : goal.returns
 returns c =
-    record { result_value = c.in_ok-came.ensures.told_is; state_after = c.write_next.ensures ∙ sym (was_answered _ _ _ _ c.in_ok-came.ensures).state_is }
+    record { result_value = c.in_ok-came.ensures.told_is; state_after = c.write_next.ensures ∙ same_phase _ _ _ c.from.ensures ∙ sym (was_answered _ _ _ _ c.in_ok-came.ensures).state_is }

@@ -3,6 +3,7 @@
 use mathlib.Core.Path.{refl, sym, ◌∙◌, ap}
 use Rattle.reaction.specs.Answers.{instant_told}
 use Rattle.records.proofs.Logs.{has_room}
+use Rattle.records.proofs.Writing.{same_phase}
 use Rattle.foldheron.specs.Answers.{Logging, answer_in, end_in}
 use Rattle.foldheron.proofs.Calls.{was_answered, was_not, with_log, passed_on}
 use Rattle.foldheron.proofs.run_logged.Goals as goal
@@ -35,6 +36,6 @@ returns c =
     record {
       answer_value = k.told_is;
       end_value = c.write_at_end-next.ensures.0 ∙ sym (a.end_is _);
-      state_after = c.write_next.ensures ∙ sym a.state_is;
+      state_after = c.write_next.ensures ∙ same_phase _ _ _ c.from.ensures ∙ sym a.state_is;
       log_after = c.write_at_end-next.ensures.1 ∙ sym (a.log_is _ _);
     }

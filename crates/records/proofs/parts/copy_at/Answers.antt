@@ -1,17 +1,16 @@
--- `parts::copy_at`: the part copied over stands between what lies before and behind it. Assumes nothing.
-use mathlib.Core.Path.{ap, sym, ◌∙◌}
-use mathlib.Core.List.{List, ◌++◌}
-use Prim.Native.Nat.{ℕ, ◌+◌, ◌-◌}
+-- `parts::copy_at`: the bytes copied so far stand in place of those that were there. Assumes nothing.
+use mathlib.Core.Path.{refl, ◌∙◌}
+use borrow.Author.Rules.{rules}
 use native.Mathlib.Omega.{arith}
-use lib.ListN.{length, take, drop}
-use borrow.Rule.Slice.PartMut.{put_mid, Post-is}
-use Rattle.std.proofs.Common.{append_assoc}
-use Rattle.std.proofs.lemmas.List.Edits.{sets-eq}
+use lib.Seq.{paste-zero}
+use Rattle.records.proofs.Bytes.{copied, copy_more}
 use Rattle.records.proofs.parts.copy_at.Goals as goal
 
+pub loop-i-init : goal.loop-i-init
+loop-i-init c = (refl, paste-zero c.args.to.now c.args.at c.args.from.now)
+
+pub loop-i-preserved : goal.loop-i-preserved
+loop-i-preserved c = (search rules, copy_more _ _ _ _ c.loop-i.invariant.1 c.requires c.loop-i-test.true)
+
 pub returns : goal.returns
-returns c =
-    let end = c.args.at + length c.args.from.now in
-    ap (put_mid c.args.at (end - c.args.at) c.args.to.now) c.copy_from_slice.ensures.after
-    ∙ ap (λ (l : List ℕ). take c.args.at c.args.to.now ++ (c.args.from.now ++ l)) (Post-is c.args.at end c.args.to.now (omega arith))
-    ∙ sym (append_assoc (take c.args.at c.args.to.now) c.args.from.now (drop end c.args.to.now)) ∙ sym (sets-eq c.args.from.now c.args.to.now c.args.at c.requires)
+returns c = c.loop-i.invariant.1 ∙ copied _ _ _ _ (omega arith) c.loop-i-test.false c.requires

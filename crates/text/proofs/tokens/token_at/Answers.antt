@@ -10,7 +10,7 @@ use Rattle.text.proofs.tokens.token_at.Goals as goal
 pub returns-then-word_byte : goal.returns-then-word_byte
 returns-then-word_byte c =
     subst (λ (k : ℕ). FrontAt c.args.text.now k c.word_at.result) c.past_spaces-start.ensures
-    (c.word_at.ensures (sym c.word_byte.ensures ∙ c.if-word_byte.true))
+    (c.word_at.ensures.front c.if-start-text.true (sym c.word_byte.ensures ∙ c.if-word_byte.true))
 
 pub returns-then-start-text : goal.returns-then-start-text
 returns-then-start-text c =
