@@ -1,7 +1,7 @@
 // The reading of a statement with its children, into the table.
 ghost use Rattle.std.specs.Prelude.{◌≡◌, ◌+◌, ◌≤◌, ◌<◌, length};
 ghost use Rattle.block.specs.Format.{read};
-ghost use Rattle.block.specs.Told.{header_of, sofar_of, around_of, Reads, Ready, Full};
+ghost use Rattle.block.specs.Told.{header_of, sofar_of, around_of, with_cursor, Reads, Ready, Full};
 
 use crate::faults::statement_fault;
 use crate::records::two_bytes;
@@ -11,20 +11,21 @@ use refusals::Refused;
 use tables::Table;
 use tables::kinds::shape_of;
 
-// A statement with its children, and what has been read after it, or why the first record at fault is turned down and where.
+// A statement with its children, or why the first record at fault is turned down and where. The cursor is moved past them in place: an answer that held it
+// would be copied once for each statement.
 pub(crate) fn read_at(
     b: &[u8],
     d: Declared,
     c: Context,
-    r: Cursor,
+    r: &mut Cursor,
     table: &mut Table,
-) -> Result<Cursor, Refused>
-    requires { Ready (length b.now) d c r × Full table.old }
-    ensures { Reads (read c.room b.now (header_of d) (around_of c) (sofar_of r)) r.statements
+) -> Result<(), Refused>
+    requires { Ready (length b.now) d c r.old × Full table.old }
+    ensures { Reads (read c.room b.now (header_of d) (around_of c) (sofar_of r.old)) r.old.statements
         table.old
-        table.new result }
+        table.new (with_cursor result r.new) }
 {
-    statement_fault(b, d, c, r)?;
+    statement_fault(b, d, c, *r)?;
     let n = r.statements;
     let kind = two_bytes(b, r.at + 2);
     let operand = two_bytes(b, r.at + 4);
@@ -33,10 +34,10 @@ pub(crate) fn read_at(
     table.kinds[n] = kind;
     table.operands[n] = kept(kind, shape.operands, operand, r.pauses);
     let around = inner(c, kind, operand);
-    let mut so_far = passed(r, kind, shape.length);
+    *r = passed(*r, kind, shape.length);
     for _ in 0..shape.children {
-        so_far = read_at(b, d, around, so_far, table)?;
+        read_at(b, d, around, r, table)?;
     }
-    table.sizes[n] = (so_far.statements - n) as u16;
-    Ok(so_far)
+    table.sizes[n] = (r.statements - n) as u16;
+    Ok(())
 }

@@ -77,12 +77,12 @@ pub fn read_block(b: &[u8], table: &mut Table) -> Result<Summary, Refused>
         scope: 0,
         room: 64,
     };
-    let r = Cursor {
+    let mut r = Cursor {
         at: 14,
         statements: 0,
         pauses: 0,
         locals: 0,
     };
-    let end = read_at(b, d, c, r, table)?;
-    finished(b, d, end, table)
+    read_at(b, d, c, &mut r, table)?;
+    finished(b, d, r, table)
 }

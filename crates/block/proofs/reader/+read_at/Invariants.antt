@@ -8,4 +8,4 @@ abbrev pub decreases-read_at : goal.decreases-read_at
 decreases-read_at l = l.c.room
 
 abbrev pub invariant-loop : goal.invariant-loop
-invariant-loop l = Children l.fn.b l.fn.d l.around l.initial.so_far l.initial.table l.counter l.so_far l.table
+invariant-loop l = Children l.fn.b l.fn.d l.around l.initial.r l.initial.table l.counter l.r l.table
