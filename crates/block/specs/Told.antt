@@ -49,7 +49,7 @@ unfoldable pub told : Got → Result Cursor Refused
 told (got p r) = Ok (cursor_of r)
 told (refused n at) = Err (refusal_of n at)
 
--- The code's answer where the cursor is moved in place: it is what has been read unless the reading is turned down.
+-- The code's answer with the cursor that it moved in place: the cursor is what has been read, unless the reading is turned down.
 unfoldable pub with_cursor : Result ⊤ Refused → Cursor → Result Cursor Refused
 with_cursor (Ok _) r = Ok r
 with_cursor (Err e) r = Err e

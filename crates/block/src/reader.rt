@@ -11,8 +11,8 @@ use refusals::Refused;
 use tables::Table;
 use tables::kinds::shape_of;
 
-// A statement with its children, or why the first record at fault is turned down and where. The cursor is moved past them in place: an answer that held it
-// would be copied once for each statement.
+// A statement with its children, or why the first record at fault is turned down and where. The cursor is moved past them in place, for an answer that held it
+// would be copied once for each statement; after a refusal nothing is said of it.
 pub(crate) fn read_at(
     b: &[u8],
     d: Declared,
