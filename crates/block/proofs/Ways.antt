@@ -11,12 +11,13 @@ use Rattle.tables.specs.Table.{Has, statements}
 use Rattle.tables.specs.declared.Table.{Table}
 use Rattle.block.specs.Format.{Header, Sofar, Got, got, refused, and_then, kind_at, operand_at, statement_fault, past, inside, leaf, above, joined, read}
 use Rattle.tables.specs.Kinds.{children_of}
-use Rattle.block.specs.Told.{header_of, sofar_of, around_of, cursor_of, refusal_of, tested, told, with_cursor, Built, Same, Full, Reads, Ready}
+use Rattle.block.specs.Told.{header_of, sofar_of, around_of, cursor_of, refusal_of, tested, told, Built, Same, Full, Reads, Ready}
 use Rattle.tables.specs.Table.{table_of, kept_operand}
 use Rattle.block.specs.declared.Declared.{Declared}
 use Rattle.block.specs.declared.Cursor.{Cursor}
 use Rattle.block.specs.declared.Context.{Context}
 use Rattle.std.specs.Prelude.{Result, Ok, Err, ⊤}
+use Rattle.std.specs.Result.{result_and}
 use Rattle.refusals.specs.declared.Refused.{Refused}
 use Rattle.block.proofs.Views.{Joined, Kind, leafs, aboves, joins, leaf_children, above_children, is?, leaf?, above?, joined?, joined_children}
 use Rattle.block.proofs.Passes.{Passes, passes}
@@ -51,14 +52,9 @@ unfolding told
 stops (got p r) f q = let z : ⊥ = cc in absurd z
 stops (refused n at) f q = q
 
--- An answer beside the cursor that was moved in place.
-pub refused_with : {t : Result ⊤ Refused} {e : Refused} (r : Cursor) → t ≡ Err e → with_cursor t r ≡ Err e
-unfolding with_cursor
-refused_with r q = ap (λ t. with_cursor t r) q
-
-pub read_with : {t : Result ⊤ Refused} {u : ⊤} (r : Cursor) → t ≡ Ok u → with_cursor t r ≡ Ok r
-unfolding with_cursor
-read_with r q = ap (λ t. with_cursor t r) q
+-- An answer with the cursor that was moved in place.
+pub with_moved : {t u : Result ⊤ Refused} (r : Cursor) → t ≡ u → result_and t (Ok r) ≡ result_and u (Ok r)
+with_moved r q = ap (λ t. result_and t (Ok r)) q
 
 -- The tests of a record: turned down, or passed.
 pub tests_refused : (n at : ℕ) {e : Refused} → tested n at ≡ Err e → (n ≡ 0 → ⊥) × (told (refused n at) ≡ Err e)

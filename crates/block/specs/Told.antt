@@ -49,11 +49,6 @@ unfoldable pub told : Got → Result Cursor Refused
 told (got p r) = Ok (cursor_of r)
 told (refused n at) = Err (refusal_of n at)
 
--- The code's answer with the cursor that it moved in place: the cursor is what has been read, unless the reading is turned down.
-unfoldable pub with_cursor : Result ⊤ Refused → Cursor → Result Cursor Refused
-with_cursor (Ok _) r = Ok r
-with_cursor (Err e) r = Err e
-
 -- A statement that was read stands in the table.
 unfoldable pub Built : Got → ℕ → Table → Type 0
 Built (got p r) i tab = Has tab i p

@@ -1,7 +1,8 @@
 // The reading of a statement with its children, into the table.
-ghost use Rattle.std.specs.Prelude.{◌≡◌, ◌+◌, ◌≤◌, ◌<◌, length};
+ghost use Rattle.std.specs.Prelude.{◌≡◌, ◌+◌, ◌≤◌, ◌<◌, length, Ok};
+ghost use Rattle.std.specs.Result.{result_and};
 ghost use Rattle.block.specs.Format.{read};
-ghost use Rattle.block.specs.Told.{header_of, sofar_of, around_of, with_cursor, Reads, Ready, Full};
+ghost use Rattle.block.specs.Told.{header_of, sofar_of, around_of, Reads, Ready, Full};
 
 use crate::faults::statement_fault;
 use crate::records::two_bytes;
@@ -23,7 +24,7 @@ pub(crate) fn read_at(
     requires { Ready (length b.now) d c r.old × Full table.old }
     ensures { Reads (read c.room b.now (header_of d) (around_of c) (sofar_of r.old)) r.old.statements
         table.old
-        table.new (with_cursor result r.new) }
+        table.new (result_and result (Ok r.new)) }
 {
     statement_fault(b, d, c, *r)?;
     let n = r.statements;

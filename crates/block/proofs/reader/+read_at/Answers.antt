@@ -7,12 +7,10 @@ use mathlib.Core.Path.{refl, sym, ◌∙◌}
 use Rattle.std.proofs.lemmas.Result.{err_from_is_err_and}
 use Rattle.tables.proofs.Shapes.{shaped}
 use Rattle.block.proofs.Views.{has_shape}
-use Rattle.block.specs.Told.{with_cursor}
-use Rattle.block.proofs.Ways.{refused_with, read_with, good, passed, passes_at, in_hand, end_fault, no_child, ready_child, next_child, child_refused, children_sized, all_children}
+use Rattle.block.proofs.Ways.{with_moved, good, passed, passes_at, in_hand, end_fault, no_child, ready_child, next_child, child_refused, children_sized, all_children}
 use Rattle.block.proofs.reader.+read_at.Goals as goal
 
 pub returns-in_err-statement_fault : goal.returns-in_err-statement_fault
-unfolding with_cursor
 returns-in_err-statement_fault t c =
     let p = err_from_is_err_and c.from_residual.result c.from_residual.ensures.1 in
     rw (p.1, p.2) (end_fault c.args.b.now c.args.d c.args.c c.args.r.now c.statement_fault.ensures c.in_err-statement_fault.was c.requires.1)
@@ -78,18 +76,17 @@ read_at-requires t c =
     (omega (arith, w.room, c.decreases), ready_child w c.requires.1 c.kept.ensures c.loop.invariant (omega (arith, c.loop-test.true)))
 
 pub returns-in_err-read_at : goal.returns-in_err-read_at
-unfolding with_cursor
 returns-in_err-read_at t c =
     let w = in_hand c.args.b.now c.args.d c.args.c c.args.r.now c.requires.0 c.statement_fault.ensures c.in_ok-statement_fault.was c.two_bytes-kind.ensures c.two_bytes-operand.ensures c.inner-around.ensures c.passed.ensures in
     let children = (shaped _ (sym c.shape_of.ensures ∙ c.unwrap-shape.ensures)).its_children in
     let p = err_from_is_err_and c.from_residual-in_err-read_at.result c.from_residual-in_err-read_at.ensures.1 in
-    rw (p.1, p.2) (child_refused w c.requires.1 c.kept.ensures c.loop.invariant c.read_at.ensures (omega (arith, c.loop-test.true)) (refused_with _ c.in_err-read_at.was))
+    rw (p.1, p.2) (child_refused w c.requires.1 c.kept.ensures c.loop.invariant c.read_at.ensures (omega (arith, c.loop-test.true)) (with_moved _ c.in_err-read_at.was))
 
 pub loop-preserved : goal.loop-preserved
 loop-preserved t c =
     let w = in_hand c.args.b.now c.args.d c.args.c c.args.r.now c.requires.0 c.statement_fault.ensures c.in_ok-statement_fault.was c.two_bytes-kind.ensures c.two_bytes-operand.ensures c.inner-around.ensures c.passed.ensures in
     let children = (shaped _ (sym c.shape_of.ensures ∙ c.unwrap-shape.ensures)).its_children in
-    next_child w c.requires.1 c.kept.ensures c.loop.invariant c.read_at.ensures (omega (arith, c.loop-test.true)) (read_with _ c.in_ok-read_at.was)
+    next_child w c.requires.1 c.kept.ensures c.loop.invariant c.read_at.ensures (omega (arith, c.loop-test.true)) (with_moved _ c.in_ok-read_at.was)
 
 pub overflow_sub-table : goal.overflow_sub-table
 overflow_sub-table t c =
@@ -110,7 +107,6 @@ pub bounds-table-n-3 : goal.bounds-table-n-3
 bounds-table-n-3 t c = omega (arith, (passed c.args.b.now c.args.d c.args.c c.args.r.now c.statement_fault.ensures c.in_ok-statement_fault.was).counted)
 
 pub returns : goal.returns
-unfolding with_cursor
 returns t c =
     let w = in_hand c.args.b.now c.args.d c.args.c c.args.r.now c.requires.0 c.statement_fault.ensures c.in_ok-statement_fault.was c.two_bytes-kind.ensures c.two_bytes-operand.ensures c.inner-around.ensures c.passed.ensures in
     let children = (shaped _ (sym c.shape_of.ensures ∙ c.unwrap-shape.ensures)).its_children in

@@ -3,7 +3,7 @@
 use Rattle.std.proofs.lemmas.Result.{err_from_is_err_and}
 use Rattle.block.specs.Format.{header_fault}
 use Rattle.block.proofs.Ends.{over_size, bad_header, good_header, ready_start, few_read, tree_refused, tree_ends}
-use Rattle.block.proofs.Ways.{refused_with, read_with}
+use Rattle.block.proofs.Ways.{with_moved}
 use Rattle.block.proofs.whole.read_block.Goals as goal
 
 pub returns-then-b-gt3086 : goal.returns-then-b-gt3086
@@ -24,15 +24,15 @@ unfolding header_fault
 returns-in_err-read_at c =
     let p = err_from_is_err_and c.from_residual-in_err-read_at.result c.from_residual-in_err-read_at.ensures.1 in
     rw (p.1, p.2)
-    (tree_refused _ c.if-b-gt3086.false _ c.declared-d.ensures (good_header _ c.header_fault.ensures c.in_ok-header_fault.was) c.read_at.ensures (refused_with _ c.in_err-read_at.was))
+    (tree_refused _ c.if-b-gt3086.false _ c.declared-d.ensures (good_header _ c.header_fault.ensures c.in_ok-header_fault.was) c.read_at.ensures (with_moved _ c.in_err-read_at.was))
 
 pub finished-requires : goal.finished-requires
 unfolding header_fault
 finished-requires c =
-    few_read _ c.if-b-gt3086.false _ c.declared-d.ensures (good_header _ c.header_fault.ensures c.in_ok-header_fault.was) c.read_at.ensures (read_with _ c.in_ok-read_at.was)
+    few_read _ c.if-b-gt3086.false _ c.declared-d.ensures (good_header _ c.header_fault.ensures c.in_ok-header_fault.was) c.read_at.ensures (with_moved _ c.in_ok-read_at.was)
 
 pub returns : goal.returns
 unfolding header_fault
 returns c =
-    tree_ends _ c.if-b-gt3086.false _ c.declared-d.ensures (good_header _ c.header_fault.ensures c.in_ok-header_fault.was) c.read_at.ensures (read_with _ c.in_ok-read_at.was)
+    tree_ends _ c.if-b-gt3086.false _ c.declared-d.ensures (good_header _ c.header_fault.ensures c.in_ok-header_fault.was) c.read_at.ensures (with_moved _ c.in_ok-read_at.was)
     c.finished.ensures
